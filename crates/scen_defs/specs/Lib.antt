@@ -1,0 +1,6 @@
+pub mod Lists
+pub mod Ends
+pub mod Values
+pub mod Program
+pub mod Flat
+pub mod Valid

@@ -1,0 +1,73 @@
+// A program in stages on a tree of nodes.
+use crate::words::{Name, RowKind};
+use frac128::{Form, Frac};
+
+/// A column, which stands at each node of its stage. An absent bound is none.
+#[derive(Drop)]
+pub struct Column {
+    pub name: Name,
+    /// Counted from 0.
+    pub stage: u32,
+    pub lower: Option<Frac>,
+    pub upper: Option<Frac>,
+}
+
+/// A row, which stands at each node of its stage.
+#[derive(Drop)]
+pub struct Row {
+    pub name: Name,
+    /// Counted from 0.
+    pub stage: u32,
+    pub kind: RowKind,
+    /// How far the interval reaches from the right-hand side, where the core states it.
+    pub range: Option<Frac>,
+}
+
+/// A row at a node: its entries by column and its interval. An absent end is none.
+#[derive(Drop)]
+pub struct NodeRow {
+    /// The place of the row in `Program::rows`.
+    pub row: u32,
+    pub entries: Form,
+    pub low: Option<Frac>,
+    pub high: Option<Frac>,
+}
+
+/// A node: a state of the world at a stage.
+#[derive(Drop)]
+pub struct Node {
+    /// Counted from 0.
+    pub stage: u32,
+    /// The node of the stage before, by its number. The root alone has none.
+    pub parent: Option<u32>,
+    /// The costs by column.
+    pub cost: Form,
+    /// The rows of the stage, in rising order.
+    pub rows: Vec<NodeRow>,
+}
+
+/// A scenario: one way from the root to a node of the last stage.
+#[derive(Drop)]
+pub struct Scenario {
+    pub name: Name,
+    /// Above 0. All scenarios together have 1.
+    pub probability: Frac,
+    /// The nodes by stage.
+    pub path: Vec<u32>,
+}
+
+/// A linear program in stages. Columns, rows and nodes are numbered from 0 by their places.
+#[derive(Drop)]
+pub struct Program {
+    /// The name of the objective.
+    pub objective: Name,
+    /// The name of the set of right-hand sides.
+    pub rhs: Name,
+    /// The names of the periods, 1 to 16; a period is a stage.
+    pub periods: Vec<Name>,
+    pub columns: Vec<Column>,
+    pub rows: Vec<Row>,
+    /// `None` is a node that was dropped.
+    pub nodes: Vec<Option<Node>>,
+    pub scenarios: Vec<Scenario>,
+}
