@@ -1,0 +1,2 @@
+//! Core files.
+#![tactic(auto)]

@@ -1,0 +1,15 @@
+//! The words of SMPS files: their lines and fields, and names.
+#![tactic(auto)]
+
+mod bytes;
+mod line;
+mod lines;
+mod name;
+mod names;
+mod row_kind;
+
+pub use line::Line;
+pub use lines::Lines;
+pub use name::Name;
+pub use names::Names;
+pub use row_kind::RowKind;
