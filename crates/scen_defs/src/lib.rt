@@ -4,9 +4,8 @@
 mod program;
 mod report;
 mod values;
-mod words;
 
 pub use program::{Column, Node, NodeRow, Program, Row, Scenario};
 pub use report::{Finding, Halt, Kind, Place, Report};
 pub use values::{Value, Values};
-pub use words::{Name, RowKind};
+

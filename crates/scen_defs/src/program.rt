@@ -1,6 +1,7 @@
 // A program in stages on a tree of nodes.
-use crate::words::{Name, RowKind};
+
 use frac128::{Form, Frac};
+use smps_words::{Name, RowKind};
 
 /// A column, which stands at each node of its stage. An absent bound is none.
 #[derive(Drop)]
