@@ -8,3 +8,6 @@ pub mod Basis
 pub mod TwoPhases
 pub mod Trace
 pub mod Phases
+pub mod Program
+pub mod Certificates
+pub mod Solution
