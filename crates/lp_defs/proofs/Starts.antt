@@ -99,8 +99,3 @@ right_is j [] [] h = refl
 right_is j [] (b ∷ right) h = absurd (omega arith)
 right_is j (f ∷ rows) [] h = absurd (omega arith)
 right_is j (f ∷ rows) (b ∷ right) h = ap (λ (l : List ℚ). b ∷ l) (right_is (suc j) rows right (omega arith))
-
-pub rows_long : (j : ℕ) (rows : List (List Entry)) (right : List ℚ) → length right ≡ length rows → length (unit_rows j rows right) ≡ length rows
-rows_long j [] right h = refl
-rows_long j (f ∷ rows) [] h = absurd (omega arith)
-rows_long j (f ∷ rows) (b ∷ right) h = let k : length (unit_rows (suc j) rows right) ≡ length rows = rows_long (suc j) rows right (omega arith) in omega arith

@@ -28,12 +28,6 @@ IsBelow n t = AllRows (λ r. r.basic < n) t.rows
 abbrev pub point : List Row → ℕ → ℚ
 point rows c = sum_ℚ (λ (r : Row). r.line.right *ℚ unit r.basic c) rows
 
--- ---- the duals
--- the multiplier of a row is the negative reduced cost of the column that was basic in it at the start
-abbrev pub duals : List Row → Line → List ℚ
-duals [] objective = []
-duals (r ∷ rows) objective = neg_ℚ (value_at objective.entries r.basic) ∷ duals rows objective
-
 -- ---- the ray
 -- column j grows by 1, and each basic column by what its row's entry takes away
 abbrev pub ray : ℕ → List Row → ℕ → ℚ
