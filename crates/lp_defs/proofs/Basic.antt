@@ -17,7 +17,7 @@ use Rattle.lp_defs.specs.Lines.{Line, value_at, cleared, divided}
 use Rattle.lp_defs.specs.Path.{Row, Tableau, Best, Open, entering, path, pivoted, row_at, cleared_row, cleared_rows}
 use Rattle.lp_defs.specs.Linear.{Holds, AllLines, AllRows, Solves, Less, Times, IsTied}
 use Rattle.lp_defs.specs.Ends.{IsChosen, EndsWell, unit, IsPoint, begin}
-use Rattle.lp_defs.specs.Basis.{IsUnits, IsBasic, IsBelow, point, PointAtBest}
+use Rattle.lp_defs.specs.Basis.{IsUnits, IsBasic, IsBelow, point}
 use Rattle.lp_defs.proofs.Linear.{cleared_is, divided_is}
 use Rattle.lp_defs.proofs.Rows.{Each, Pivots, pivots, all_insert, all_uninsert, put_back, tied_pivot}
 use Rattle.lp_defs.proofs.Rising.{cleared_rises, divided_rises}
@@ -321,11 +321,16 @@ Three all cost rows t = IsTied cost rows t × IsBasic t × IsBelow all t
 pub three_keep : (n all : ℕ) (cost : List Entry) (rows : List Row) → n ≤ all → Keeps (Three all cost rows) n
 three_keep n all cost rows le t u j c h e m q = (tied_keeps n cost rows t u j c h.0 e m q, basic_keeps n t u j c h.1 e m q, below_keeps n all le t u j c h.2 e m q)
 
-pub point_at_best : PointAtBest
-point_at_best n all pivots k cost rows t le b below e =
-    let w : EndsWell (Three all cost rows) n (Best k t) = subst (EndsWell (Three all cost rows) n) e (path_keeps (Three all cost rows) n (three_keep n all cost rows le) pivots 0 (begin cost rows) (start_tied cost rows, b, below)) in
-    let s : Solves rows (point t.rows) = w.0.0.back (point t.rows) (point_solves t.rows w.0.1.units) in (
-      point_is all t.rows w.0.2 w.0.1.feasible,
-      s,
-      cost_is cost rows t (point t.rows) w.0.0 s ∙ by_eqs (product t.objective.entries (point t.rows) ∷ t.objective.right ∷ []) (by_eq one_ℚ (zero_at_point t.objective.entries t.rows w.0.1.priced) done) (search terms depth 40) tt,
-    )
+-- the point of a tableau is a solution, and its cost is what the objective row says
+pub record PointOf (all : ℕ) (cost : List Entry) (rows : List Row) (t : Tableau) : Type 0 where
+  pub range : IsPoint all (point t.rows)
+  pub solves : Solves rows (point t.rows)
+  pub costs : product cost (point t.rows) ≡ neg_ℚ t.objective.right
+
+pub point_of : (all : ℕ) (cost : List Entry) (rows : List Row) (t : Tableau) → Three all cost rows t → PointOf all cost rows t
+point_of all cost rows t h =
+    let s : Solves rows (point t.rows) = h.0.back (point t.rows) (point_solves t.rows h.1.units) in record {
+      range = point_is all t.rows h.2 h.1.feasible;
+      solves = s;
+      costs = cost_is cost rows t (point t.rows) h.0 s ∙ by_eqs (product t.objective.entries (point t.rows) ∷ t.objective.right ∷ []) (by_eq one_ℚ (zero_at_point t.objective.entries t.rows h.1.priced) done) (search terms depth 40) tt;
+    }

@@ -12,7 +12,7 @@ use Rattle.lp_defs.specs.Path.{Candidate}
 use Rattle.lp_defs.specs.Lines.{Line, value_at}
 use Rattle.lp_defs.specs.Path.{Row, Tableau, Ending, Best, Open, entering, path, pivoted, row_at}
 use Rattle.lp_defs.specs.Linear.{Holds, AllLines, Solves, values, rights, Combines, Prices, IsTied}
-use Rattle.lp_defs.specs.Ends.{IsChosen, EndsWell, unit, IsDual, IsPoint, begin, DualAtBest, BoundAtBest}
+use Rattle.lp_defs.specs.Ends.{IsChosen, EndsWell, unit, IsPoint, begin}
 use Rattle.lp_defs.proofs.Rows.{pivots, tied_pivot}
 use Rattle.lp_defs.proofs.Choice.{all_weaker, Keeps, path_keeps}
 
@@ -62,27 +62,6 @@ none_enters n (t ∷ f) x h e = go (is_below_zero t.value) refl (ltb t.column n)
         by_linear (t.value ∷ x t.column ∷ product f x ∷ []) (fact i (equal (ap (λ (v : ℚ). t.value *ℚ v) z) nothing)) (search terms depth 40) tt
     go false p c q e ih = both (t.value *ℚ x t.column) (product f x) (mul_nonneg_ℚ t.value (x t.column) (is_below_zero_false t.value p) (h t.column).0) (ih e)
 
-unit_is_point : (n j : ℕ) → j < n → IsPoint n (unit j)
-unit_is_point n j h c = go (eqb c j) refl
-  where
-    go : (b : Bool) → eqb c j ≡ b → (zero_ℚ ≤ℚ value_if b one_ℚ) × ((c < n → ⊥) → value_if b one_ℚ ≡ zero_ℚ)
-    go true e = (one_nonneg_ℚ, λ k. let m : c ≡ j = eqb-true c j e in absurd (k (omega arith)))
-    go false e = (le_refl_ℚ zero_ℚ, λ k. refl)
-
-pub dual_at_best : DualAtBest
-dual_at_best n pivots k cost rows t e =
-    let w : EndsWell (IsTied cost rows) n (Best k t) = subst (EndsWell (IsTied cost rows) n) e (path_keeps (IsTied cost rows) n (tied_keeps n cost rows) pivots 0 (begin cost rows) (start_tied cost rows)) in
-    let y : List ℚ = w.0.prices.0 in (
-      y,
-      record {
-        good = λ j h.
-            let k : zero_ℚ ≤ℚ product t.objective.entries (unit j) = none_enters n t.objective.entries (unit j) (unit_is_point n j h) w.1 in
-            let l : product t.objective.entries (unit j) ≡ product cost (unit j) -ℚ dot y (values rows (unit j)) = w.0.prices.1.entries (unit j) in
-            by_linear (product t.objective.entries (unit j) ∷ product cost (unit j) ∷ dot y (values rows (unit j)) ∷ []) (fact k (equal l nothing)) (search terms depth 40) tt;
-        worth = by_eqs (t.objective.right ∷ dot y (rights rows) ∷ []) (by_eq (neg_ℚ one_ℚ) w.0.prices.1.right done) (search terms depth 40) tt;
-      },
-    )
-
 pub values_are : (rows : List Row) (x : ℕ → ℚ) → Solves rows x → values rows x ≡ rights rows
 values_are [] x h = refl
 values_are (r ∷ rows) x h = ap₂ (λ (v : ℚ) (l : List ℚ). v ∷ l) h.0 (values_are rows x h.1)
@@ -95,9 +74,3 @@ cost_is cost rows t x h s =
     let m : dot y (values rows x) ≡ dot y (rights rows) = ap (dot y) (values_are rows x s) in
     by_eqs (product t.objective.entries x ∷ product cost x ∷ dot y (values rows x) ∷ dot y (rights rows) ∷ t.objective.right ∷ [])
     (by_eq (neg_ℚ one_ℚ) l (by_eq one_ℚ m (by_eq one_ℚ h.prices.1.right done))) (search terms depth 40) tt
-
-pub bound_at_best : BoundAtBest
-bound_at_best n pivots k cost rows t x e h s =
-    let w : EndsWell (IsTied cost rows) n (Best k t) = subst (EndsWell (IsTied cost rows) n) e (path_keeps (IsTied cost rows) n (tied_keeps n cost rows) pivots 0 (begin cost rows) (start_tied cost rows)) in
-    let k : zero_ℚ ≤ℚ product t.objective.entries x = none_enters n t.objective.entries x h w.1 in
-    by_linear (product cost x ∷ product t.objective.entries x ∷ t.objective.right ∷ []) (fact k (equal (cost_is cost rows t x w.0 s) nothing)) (search terms depth 40) tt

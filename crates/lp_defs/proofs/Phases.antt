@@ -1,5 +1,5 @@
 -- The start of a phase, and the duals at its end.
-use Rattle.std.proofs.Common.{◌≡◌, ℕ, ◌<◌, List, [], ◌∷◌, ◌++◌, Ok, refl, sym, ap, ap₂, ◌∙◌, subst}
+use Rattle.std.proofs.Common.{◌≡◌, ℕ, ◌<◌, List, [], ◌∷◌, ◌++◌, Option, None, Ok, refl, sym, ap, ap₂, ◌∙◌, subst}
 use Rattle.std.proofs.lemmas.List.{append-nil, append_assoc}
 use Rattle.rationals.specs.Passes.{then_walk}
 use Rattle.rationals.specs.Rational.{ℚ, zero_ℚ, one_ℚ, ◌+ℚ◌, ◌-ℚ◌, ◌*ℚ◌, neg_ℚ, ◌≤ℚ◌, by_ring, by_eqs, by_linear, terms}
@@ -9,12 +9,12 @@ use Rattle.rationals.specs.Sums.{dot, add_rows, scale_row}
 use Rattle.lp_defs.specs.Walks.{Walk, after_ok}
 use Rattle.rationals.specs.Sparse.{Entry, product, Ascending}
 use Rattle.lp_defs.specs.Lines.{Line, value_at, cleared_by}
-use Rattle.lp_defs.specs.Path.{Row, Tableau, Best, path}
+use Rattle.lp_defs.specs.Path.{Row, Tableau, entering}
 use Rattle.lp_defs.specs.Linear.{AllLines, AllRows, Less, Combines, Prices, IsTied, values, rights}
-use Rattle.lp_defs.specs.Ends.{EndsWell, IsDual, unit}
+use Rattle.lp_defs.specs.Ends.{EndsWell, IsDualOf, unit}
 use Rattle.lp_defs.specs.Basis.{IsUnits, IsBasic}
 use Rattle.lp_defs.specs.TwoPhases.{priced, cost_line}
-use Rattle.lp_defs.specs.Phases.{PricedStart, start_duals, DualsFromStart, DrivenKeeps}
+use Rattle.lp_defs.specs.Phases.{PricedStart, start_duals, DrivenKeeps}
 use Rattle.lp_defs.proofs.Linear.{cleared_is}
 use Rattle.lp_defs.proofs.Rows.{less_prices, pivots, tied_pivot}
 use Rattle.lp_defs.proofs.Rising.{cleared_rises}
@@ -102,19 +102,19 @@ duals_are cost all (s ∷ rows) y o c r p =
     (by_eq one_ℚ (value_is 0 s.basic o.entries r) (by_eq (neg_ℚ one_ℚ) (p (unit s.basic)) (by_eq (neg_ℚ one_ℚ) (value_is 0 s.basic cost c) done))) (search terms depth 40) tt)
     (duals_are cost all rows y o c r p)
 
-pub duals_from_start : DualsFromStart
-duals_from_start n pivots made k cost rows start t hc hu kt bt e =
-    let w : EndsWell (Both cost rows) n (Best k t) = subst (EndsWell (Both cost rows) n) e (path_keeps (Both cost rows) n (both_keep n cost rows) pivots made start (kt, bt)) in
-    let y : List ℚ = w.0.0.prices.0 in
-    let d : start_duals cost rows t.objective ≡ reads y rows rows = duals_are cost rows rows y t.objective hc w.0.1.objective_rises w.0.0.prices.1.entries in
+-- where no column enters, the multipliers of either phase have good column sums, and their value is its optimum
+pub duals_of : (n : ℕ) (cost : List Entry) (rows : List Row) (t : Tableau) → Ascending 0 cost → IsUnits rows → Both cost rows t → entering n t.objective.entries ≡ None → IsDualOf n cost rows (start_duals cost rows t.objective) (neg_ℚ t.objective.right)
+duals_of n cost rows t hc hu b e =
+    let y : List ℚ = b.0.prices.0 in
+    let d : start_duals cost rows t.objective ≡ reads y rows rows = duals_are cost rows rows y t.objective hc b.1.objective_rises b.0.prices.1.entries in
     let same : (v : List ℚ) → AsLong v rows → dot (start_duals cost rows t.objective) v ≡ dot y v = λ v h. ap (λ (l : List ℚ). dot l v) d ∙ reads_same y rows v hu h in
     record {
       good = λ j h.
-          let g : zero_ℚ ≤ℚ product t.objective.entries (unit j) = none_enters n t.objective.entries (unit j) (λ c. unit_range n j c h) w.1 in
-          let l : product t.objective.entries (unit j) ≡ product cost (unit j) -ℚ dot y (values rows (unit j)) = w.0.0.prices.1.entries (unit j) in
+          let g : zero_ℚ ≤ℚ product t.objective.entries (unit j) = none_enters n t.objective.entries (unit j) (λ c. unit_range n j c h) e in
+          let l : product t.objective.entries (unit j) ≡ product cost (unit j) -ℚ dot y (values rows (unit j)) = b.0.prices.1.entries (unit j) in
           let m : dot (start_duals cost rows t.objective) (values rows (unit j)) ≡ dot y (values rows (unit j)) = same (values rows (unit j)) (values_long rows (unit j)) in
           by_linear (product t.objective.entries (unit j) ∷ product cost (unit j) ∷ dot y (values rows (unit j)) ∷ dot (start_duals cost rows t.objective) (values rows (unit j)) ∷ []) (fact g (equal l (equal m nothing))) (search terms depth 40) tt;
-      worth = by_eqs (t.objective.right ∷ dot y (rights rows) ∷ []) (by_eq (neg_ℚ one_ℚ) w.0.0.prices.1.right done) (search terms depth 40) tt ∙ sym (same (rights rows) (rights_long rows));
+      worth = by_eqs (t.objective.right ∷ dot y (rights rows) ∷ []) (by_eq (neg_ℚ one_ℚ) b.0.prices.1.right done) (search terms depth 40) tt ∙ sym (same (rights rows) (rights_long rows));
     }
 
 pub driven_keeps : DrivenKeeps

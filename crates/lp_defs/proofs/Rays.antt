@@ -9,12 +9,12 @@ use Rattle.rationals.specs.Sums.{dot, dot-nil}
 use Rattle.lp_defs.specs.Tests.{is_below_zero, is_below_zero_true}
 use Rattle.rationals.specs.Sparse.{Entry, value_if, product, Ascending}
 use Rattle.lp_defs.specs.Lines.{Line, value_at}
-use Rattle.lp_defs.specs.Path.{Row, Tableau, Best, Open, entering, path}
+use Rattle.lp_defs.specs.Path.{Row, Tableau, entering}
 use Rattle.lp_defs.specs.Linear.{Holds, AllLines, AllRows, Solves, values, rights, IsTied}
-use Rattle.lp_defs.specs.Ends.{EndsWell, NoneAbove, unit, IsPoint, IsDual, begin}
-use Rattle.lp_defs.specs.Basis.{IsUnits, IsBasic, point, ray, IsRay, RayAtOpen, duals, DualsAtBest}
+use Rattle.lp_defs.specs.Ends.{NoneAbove, unit, IsPoint}
+use Rattle.lp_defs.specs.Basis.{IsUnits, IsBasic, point, ray, IsRayOf}
 use Rattle.lp_defs.proofs.Choice.{path_keeps}
-use Rattle.lp_defs.proofs.Best.{start_tied, cost_is, dual_at_best, none_enters, tied_keeps}
+use Rattle.lp_defs.proofs.Best.{start_tied, cost_is, none_enters, tied_keeps}
 use Rattle.lp_defs.proofs.Basic.{value_is, point_is, point_solves, entering_below, Both, both_keep, Three, three_keep}
 
 -- ---- the entering column's reduced cost
@@ -105,31 +105,28 @@ ray_range n j (r ∷ rows) l b h c =
       λ k. by_eqs (value_at r.line.entries j ∷ unit r.basic c ∷ ray j rows c ∷ []) (by_eq (neg_ℚ (value_at r.line.entries j)) (g.1 k) (by_eq one_ℚ (ih.1 k) done)) (search terms depth 40) tt,
     )
 
-pub ray_at_open : RayAtOpen
-ray_at_open n all pivots cost rows j t le b below e =
-    let w : EndsWell (Three all cost rows) n (Open j t) = subst (EndsWell (Three all cost rows) n) e (path_keeps (Three all cost rows) n (three_keep n all cost rows le) pivots 0 (begin cost rows) (start_tied cost rows, b, below)) in
+-- where no row bounds the entering column, the ray is one of the program
+pub ray_of : (n all : ℕ) (cost : List Entry) (rows : List Row) (j : ℕ) (t : Tableau) → n ≤ all → Three all cost rows t → entering n t.objective.entries ≡ Some j → NoneAbove j t.rows → IsRayOf all cost rows (ray j t.rows)
+ray_of n all cost rows j t le h e flat_at =
     let x : ℕ → ℚ = point t.rows in
     let d : ℕ → ℚ = ray j t.rows in
-    let sx : Solves t.rows x = point_solves t.rows w.0.1.units in
-    let sy : Solves t.rows (λ c. one_ℚ *ℚ d c +ℚ x c) = further t.rows x d sx (ray_flat j t.rows w.0.1.rows_rise w.0.1.units) in
-    let s : Solves rows x = w.0.0.back x sx in
-    let s2 : Solves rows (λ c. one_ℚ *ℚ d c +ℚ x c) = w.0.0.back (λ c. one_ℚ *ℚ d c +ℚ x c) sy in
-    let k1 : product cost x ≡ product t.objective.entries x -ℚ t.objective.right = cost_is cost rows t x w.0.0 s in
-    let k2 : product cost (λ c. one_ℚ *ℚ d c +ℚ x c) ≡ product t.objective.entries (λ c. one_ℚ *ℚ d c +ℚ x c) -ℚ t.objective.right = cost_is cost rows t (λ c. one_ℚ *ℚ d c +ℚ x c) w.0.0 s2 in
+    let sx : Solves t.rows x = point_solves t.rows h.1.units in
+    let sy : Solves t.rows (λ c. one_ℚ *ℚ d c +ℚ x c) = further t.rows x d sx (ray_flat j t.rows h.1.rows_rise h.1.units) in
+    let s : Solves rows x = h.0.back x sx in
+    let s2 : Solves rows (λ c. one_ℚ *ℚ d c +ℚ x c) = h.0.back (λ c. one_ℚ *ℚ d c +ℚ x c) sy in
+    let k1 : product cost x ≡ product t.objective.entries x -ℚ t.objective.right = cost_is cost rows t x h.0 s in
+    let k2 : product cost (λ c. one_ℚ *ℚ d c +ℚ x c) ≡ product t.objective.entries (λ c. one_ℚ *ℚ d c +ℚ x c) -ℚ t.objective.right = cost_is cost rows t (λ c. one_ℚ *ℚ d c +ℚ x c) h.0 s2 in
     let k3 : product cost (λ c. one_ℚ *ℚ d c +ℚ x c) ≡ one_ℚ *ℚ product cost d +ℚ product cost x = product_two cost one_ℚ d x in
     let k4 : product t.objective.entries (λ c. one_ℚ *ℚ d c +ℚ x c) ≡ one_ℚ *ℚ product t.objective.entries d +ℚ product t.objective.entries x = product_two t.objective.entries one_ℚ d x in
     let same : product cost d ≡ product t.objective.entries d =
     by_eqs (product cost x ∷ product cost d ∷ product t.objective.entries x ∷ product t.objective.entries d ∷ t.objective.right ∷ product cost (λ c. one_ℚ *ℚ d c +ℚ x c) ∷ product t.objective.entries (λ c. one_ℚ *ℚ d c +ℚ x c) ∷ [])
     (by_eq (neg_ℚ one_ℚ) k3 (by_eq one_ℚ k2 (by_eq (neg_ℚ one_ℚ) k1 (by_eq one_ℚ k4 done)))) (search terms depth 40) tt in
-    let at_j : product t.objective.entries d ≡ value_at t.objective.entries j = zero_on_ray t.objective.entries j t.rows w.0.1.priced ∙ value_is 0 j t.objective.entries w.0.1.objective_rises in (
-      point_is all t.rows w.0.2 w.0.1.feasible,
-      s,
-      record {
-        direction = ray_range all j t.rows (let l : j < n = entering_below n t.objective.entries j w.1 in omega arith) w.0.2 w.2;
-        flat = flat_again rows x d s s2;
-        falls = subst (λ (v : ℚ). v <ℚ zero_ℚ) (sym (same ∙ at_j)) (entering_falls n 0 j t.objective.entries w.0.1.objective_rises w.1);
-      },
-    )
+    let at_j : product t.objective.entries d ≡ value_at t.objective.entries j = zero_on_ray t.objective.entries j t.rows h.1.priced ∙ value_is 0 j t.objective.entries h.1.objective_rises in
+    record {
+      direction = ray_range all j t.rows (let l : j < n = entering_below n t.objective.entries j e in omega arith) h.2 flat_at;
+      flat = flat_again rows x d s s2;
+      falls = subst (λ (v : ℚ). v <ℚ zero_ℚ) (sym (same ∙ at_j)) (entering_falls n 0 j t.objective.entries h.1.objective_rises e);
+    }
 
 -- ---- multipliers are read at the unit columns
 abbrev pub reads : List ℚ → List Row → List Row → List ℚ
@@ -175,26 +172,3 @@ reads_same (a ∷ y) (r ∷ rows) [] u h = absurd h
 reads_same (a ∷ y) (r ∷ rows) (w ∷ v) u h =
     by_eqs (a ∷ w ∷ product r.line.entries (unit r.basic) ∷ dot y (values rows (unit r.basic)) ∷ dot (reads (a ∷ y) (r ∷ rows) rows) v ∷ dot (reads y rows rows) v ∷ dot y v ∷ [])
     (by_eq (a *ℚ w) u.0 (by_eq w (dot_zeros y rows r.basic u.2) (by_eq one_ℚ (reads_more a y r rows rows v u.1) (by_eq one_ℚ (reads_same y rows v u.3 h) done)))) (search terms depth 40) tt
-
-duals_are : (cost : List Entry) (all rows : List Row) (y : List ℚ) (o : Line) → Ascending 0 o.entries → ((x : ℕ → ℚ) → product o.entries x ≡ product cost x -ℚ dot y (values all x)) → AllRows (λ r. product cost (unit r.basic) ≡ zero_ℚ) rows → duals rows o ≡ reads y all rows
-duals_are cost all [] y o r p f = refl
-duals_are cost all (s ∷ rows) y o r p f =
-    ap₂ (λ (v : ℚ) (l : List ℚ). v ∷ l)
-    (by_eqs (value_at o.entries s.basic ∷ product o.entries (unit s.basic) ∷ product cost (unit s.basic) ∷ dot y (values all (unit s.basic)) ∷ [])
-    (by_eq one_ℚ (value_is 0 s.basic o.entries r) (by_eq (neg_ℚ one_ℚ) (p (unit s.basic)) (by_eq (neg_ℚ one_ℚ) f.0 done))) (search terms depth 40) tt)
-    (duals_are cost all rows y o r p f.1)
-
-pub duals_at_best : DualsAtBest
-duals_at_best n pivots k cost rows t b e =
-    let w : EndsWell (Both cost rows) n (Best k t) = subst (EndsWell (Both cost rows) n) e (path_keeps (Both cost rows) n (both_keep n cost rows) pivots 0 (begin cost rows) (start_tied cost rows, b)) in
-    let y : List ℚ = w.0.0.prices.0 in
-    let d : duals rows t.objective ≡ reads y rows rows = duals_are cost rows rows y t.objective w.0.1.objective_rises w.0.0.prices.1.entries b.priced in
-    let same : (v : List ℚ) → AsLong v rows → dot (duals rows t.objective) v ≡ dot y v = λ v h. ap (λ (l : List ℚ). dot l v) d ∙ reads_same y rows v b.units h in
-    record {
-      good = λ j h.
-          let k : zero_ℚ ≤ℚ product t.objective.entries (unit j) = none_enters n t.objective.entries (unit j) (λ c. unit_range n j c h) w.1 in
-          let l : product t.objective.entries (unit j) ≡ product cost (unit j) -ℚ dot y (values rows (unit j)) = w.0.0.prices.1.entries (unit j) in
-          let m : dot (duals rows t.objective) (values rows (unit j)) ≡ dot y (values rows (unit j)) = same (values rows (unit j)) (values_long rows (unit j)) in
-          by_linear (product t.objective.entries (unit j) ∷ product cost (unit j) ∷ dot y (values rows (unit j)) ∷ dot (duals rows t.objective) (values rows (unit j)) ∷ []) (fact k (equal l (equal m nothing))) (search terms depth 40) tt;
-      worth = by_eqs (t.objective.right ∷ dot y (rights rows) ∷ []) (by_eq (neg_ℚ one_ℚ) w.0.0.prices.1.right done) (search terms depth 40) tt ∙ sym (same (rights rows) (rights_long rows));
-    }

@@ -4,9 +4,9 @@ use Rattle.rationals.specs.Rational.{ℚ, zero_ℚ, one_ℚ, ◌+ℚ◌, ◌*ℚ
 use Rattle.rationals.specs.Sums.{sum_ℚ}
 use Rattle.rationals.specs.Sparse.{Entry, Ascending, product}
 use Rattle.lp_defs.specs.Lines.{Line, value_at}
-use Rattle.lp_defs.specs.Path.{Row, Tableau, Best, Open, path}
-use Rattle.lp_defs.specs.Linear.{AllLines, AllRows, Solves}
-use Rattle.lp_defs.specs.Ends.{unit, IsPoint, IsDual, begin}
+use Rattle.lp_defs.specs.Path.{Row, Tableau}
+use Rattle.lp_defs.specs.Linear.{AllLines, AllRows}
+use Rattle.lp_defs.specs.Ends.{unit, IsPoint}
 
 -- each basic column is 1 in its row and 0 in the others
 abbrev pub IsUnits : List Row → Type 0
@@ -28,36 +28,13 @@ IsBelow n t = AllRows (λ r. r.basic < n) t.rows
 abbrev pub point : List Row → ℕ → ℚ
 point rows c = sum_ℚ (λ (r : Row). r.line.right *ℚ unit r.basic c) rows
 
--- where a path ends well, the point is a solution, and its cost is what the objective row says
-abbrev pub PointAtBest : Type 0
-PointAtBest = (n all pivots k : ℕ) (cost : List Entry) (rows : List Row) (t : Tableau) → n ≤ all → IsBasic (begin cost rows) → IsBelow all (begin cost rows) → path n pivots 0 (begin cost rows) ≡ Best k t
-    → IsPoint all (point t.rows) × Solves rows (point t.rows) × (product cost (point t.rows) ≡ neg_ℚ t.objective.right)
-
--- ---- the duals
--- the multiplier of a row is the negative reduced cost of the column that was basic in it at the start
-abbrev pub duals : List Row → Line → List ℚ
-duals [] objective = []
-duals (r ∷ rows) objective = neg_ℚ (value_at objective.entries r.basic) ∷ duals rows objective
-
--- each basic column of the start costs nothing
-abbrev pub IsFree : List Entry → List Row → Type 0
-IsFree cost rows = AllRows (λ r. product cost (unit r.basic) ≡ zero_ℚ) rows
-
-abbrev pub DualsAtBest : Type 0
-DualsAtBest = (n pivots k : ℕ) (cost : List Entry) (rows : List Row) (t : Tableau) → IsBasic (begin cost rows) → path n pivots 0 (begin cost rows) ≡ Best k t
-    → IsDual n cost rows (duals rows t.objective) (neg_ℚ t.objective.right)
-
 -- ---- the ray
 -- column j grows by 1, and each basic column by what its row's entry takes away
 abbrev pub ray : ℕ → List Row → ℕ → ℚ
 ray j [] c = unit j c
 ray j (r ∷ rows) c = neg_ℚ (value_at r.line.entries j) *ℚ unit r.basic c +ℚ ray j rows c
 
-pub record IsRay (n : ℕ) (cost : List Entry) (rows : List Row) (d : ℕ → ℚ) : Type 0 where
+pub record IsRayOf (n : ℕ) (cost : List Entry) (rows : List Row) (d : ℕ → ℚ) : Type 0 where
   pub direction : IsPoint n d
   pub flat : AllLines (λ line. product line.entries d ≡ zero_ℚ) rows
   pub falls : product cost d <ℚ zero_ℚ
-
-abbrev pub RayAtOpen : Type 0
-RayAtOpen = (n all pivots : ℕ) (cost : List Entry) (rows : List Row) (j : ℕ) (t : Tableau) → n ≤ all → IsBasic (begin cost rows) → IsBelow all (begin cost rows) → path n pivots 0 (begin cost rows) ≡ Open j t
-    → IsPoint all (point t.rows) × Solves rows (point t.rows) × IsRay all cost rows (ray j t.rows)

@@ -37,7 +37,7 @@ abbrev pub unit : ℕ → ℕ → ℚ
 unit j c = value_if (eqb c j) one_ℚ
 
 -- multipliers whose column sums are at most the cost in each column below n, and whose value is `value`
-pub record IsDual (n : ℕ) (cost : List Entry) (rows : List Row) (y : List ℚ) (value : ℚ) : Type 0 where
+pub record IsDualOf (n : ℕ) (cost : List Entry) (rows : List Row) (y : List ℚ) (value : ℚ) : Type 0 where
   pub good : (j : ℕ) → j < n → dot y (values rows (unit j)) ≤ℚ product cost (unit j)
   pub worth : value ≡ dot y (rights rows)
 
@@ -47,10 +47,3 @@ IsPoint n x = (j : ℕ) → (zero_ℚ ≤ℚ x j) × ((j < n → ⊥) → x j �
 
 abbrev pub begin : List Entry → List Row → Tableau
 begin cost rows = record { rows = rows; objective = record { entries = cost; right = zero_ℚ } }
-
-abbrev pub DualAtBest : Type 0
-DualAtBest = (n pivots k : ℕ) (cost : List Entry) (rows : List Row) (t : Tableau) → path n pivots 0 (begin cost rows) ≡ Best k t → (y : List ℚ) × IsDual n cost rows y (neg_ℚ t.objective.right)
-
--- no solution costs less than the last tableau says
-abbrev pub BoundAtBest : Type 0
-BoundAtBest = (n pivots k : ℕ) (cost : List Entry) (rows : List Row) (t : Tableau) (x : ℕ → ℚ) → path n pivots 0 (begin cost rows) ≡ Best k t → IsPoint n x → Solves rows x → neg_ℚ t.objective.right ≤ℚ product cost x

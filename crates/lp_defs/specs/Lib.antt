@@ -8,3 +8,7 @@ pub mod Basis
 pub mod TwoPhases
 pub mod Trace
 pub mod Phases
+pub mod Program
+pub mod Certificates
+pub mod Solution
+pub mod Placed

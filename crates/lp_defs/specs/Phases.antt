@@ -3,9 +3,8 @@ use Rattle.std.specs.Prelude.{◌≡◌, ℕ, ◌<◌, length, List, [], ◌∷�
 use Rattle.rationals.specs.Rational.{ℚ, zero_ℚ, ◌-ℚ◌, neg_ℚ, ◌≤ℚ◌}
 use Rattle.rationals.specs.Sparse.{Entry, product, Ascending}
 use Rattle.lp_defs.specs.Lines.{Line, value_at}
-use Rattle.lp_defs.specs.Path.{Row, Tableau, Best, path, pivoted, row_at}
+use Rattle.lp_defs.specs.Path.{Row, Tableau, pivoted, row_at}
 use Rattle.lp_defs.specs.Linear.{AllLines, IsTied}
-use Rattle.lp_defs.specs.Ends.{IsDual}
 use Rattle.lp_defs.specs.Basis.{IsUnits, IsBasic}
 use Rattle.lp_defs.specs.TwoPhases.{priced, cost_line}
 
@@ -18,11 +17,6 @@ PricedStart = (cost : List Entry) (rows : List Row) (o : Line) → Ascending 0 c
 abbrev pub start_duals : List Entry → List Row → Line → List ℚ
 start_duals cost [] objective = []
 start_duals cost (r ∷ rows) objective = (value_at cost r.basic -ℚ value_at objective.entries r.basic) ∷ start_duals cost rows objective
-
--- from any tableau in order of a program whose rows have unit columns
-abbrev pub DualsFromStart : Type 0
-DualsFromStart = (n pivots made k : ℕ) (cost : List Entry) (rows : List Row) (start t : Tableau) → Ascending 0 cost → IsUnits rows → IsTied cost rows start → IsBasic start → path n pivots made start ≡ Best k t
-    → IsDual n cost rows (start_duals cost rows t.objective) (neg_ℚ t.objective.right)
 
 -- a pivot on any entry that isn't 0 of a row with right side 0 keeps the program and the order
 abbrev pub DrivenKeeps : Type 0

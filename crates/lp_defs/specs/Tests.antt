@@ -9,7 +9,7 @@ use Rattle.std.specs.declared.cmp.Ordering.{Ordering}
 use Rattle.std.specs.declared.cmp.Ordering.TheVariants.{Less, Equal, Greater}
 use Rattle.rationals.specs.Rational.{ℚ, zero_ℚ, sign_ℚ, sign_of, same_ℚ, frac_self, frac_le, frac_le_to, ◌≤ℚ◌, ◌<ℚ◌, ◌÷◌, lt_of_not_le_ℚ, ne_of_gt_ℚ}
 use Rattle.rationals.specs.Order.{cross, compare}
-use Rattle.rationals.proofs.Lowest.{zero_from_num}
+use Rattle.rationals.proofs.Lowest.{zero_from_num, num_zero}
 
 unfoldable pub is_above_zero : ℚ → Bool
 is_above_zero q = int_lt (pos 0) (sign_ℚ q)
@@ -29,6 +29,10 @@ neither (negsuc n) e = absurd (false≢true e)
 pub is_zero_true : (a : ℚ) → is_zero a ≡ true → a ≡ zero_ℚ
 unfolding is_zero
 is_zero_true a e = zero_from_num a (neither a.num e)
+
+pub is_zero_false : (a : ℚ) → is_zero a ≡ false → a ≡ zero_ℚ → ⊥
+unfolding is_zero
+is_zero_false a e h = false≢true (sym e ∙ ap (λ (z : ℤ). int_eq (sign_of z) (pos 0)) (num_zero a h))
 
 not_above : (z : ℤ) (d : ℕ) → int_lt (pos 0) (sign_of z) ≡ false → (z *ℤ pos 1) ≤ℤ (pos 0 *ℤ pos d)
 not_above (pos zero) d e = omega (arith, ints)
