@@ -15,7 +15,7 @@ use Rattle.frac128.specs.Significand.{IsTrimmed, IsTooLong, AllDigits}
 use Rattle.frac128.proofs.ParseLemmas.{wide_where}
 use Rattle.frac128.proofs.SignificandLemmas.{long_on, one_zero, ten_times}
 
-number_from-append : (n : ℕ) (ds ps : List ℕ) → number_from n (ds ++ ps) ≡ number_from (number_from n ds) ps
+pub number_from-append : (n : ℕ) (ds ps : List ℕ) → number_from n (ds ++ ps) ≡ number_from (number_from n ds) ps
 number_from-append n [] ps = refl
 number_from-append n (d ∷ ds) ps = number_from-append (n * 10 + (d - 48)) ds ps
 
