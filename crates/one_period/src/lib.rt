@@ -1,0 +1,7 @@
+//! Solves programs of one period, and reports what was found.
+#![tactic(auto)]
+
+mod forms;
+mod standard;
+
+pub use standard::{StandardFault, standard_form};
