@@ -19,4 +19,4 @@ pub use fraction::Frac;
 pub use memory::Memory;
 pub use passed::Passed;
 pub use term::Term;
-pub use text::{NumFault, parse, print};
+pub use text::{NumFault, literals_are_exact, parse, print};
