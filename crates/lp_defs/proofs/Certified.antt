@@ -1,6 +1,6 @@
 -- The answers of the simplex method show that they are right.
 use Rattle.std.proofs.Common.{◌≡◌, ℕ, zero, suc, ◌<◌, ◌≤◌, ◌+◌, ◌-◌, Option, Some, None, List, [], ◌∷◌, length, refl, sym, ap, ap₂, ◌∙◌, subst, arith, le_refl}
-use Rattle.rationals.specs.Rational.{ℚ, zero_ℚ, one_ℚ, ◌+ℚ◌, ◌-ℚ◌, ◌*ℚ◌, neg_ℚ, ◌≤ℚ◌, by_ring, by_eqs, by_linear, terms}
+use Rattle.rationals.specs.Rational.{ℚ, zero_ℚ, one_ℚ, ◌+ℚ◌, ◌-ℚ◌, ◌*ℚ◌, neg_ℚ, ◌≤ℚ◌, ◌<ℚ◌, not_le_of_lt_ℚ, le_of_same_ℚ, by_ring, by_eqs, by_linear, terms}
 use Rattle.rationals.specs.Ring.Eqs.{done, by_eq}
 use Rattle.rationals.specs.Ring.Given.{fact, equal, nothing}
 use Rattle.rationals.specs.Sums.{dot}
@@ -13,11 +13,14 @@ use Rattle.lp_defs.specs.Basis.{IsUnits, IsBasic, IsRayOf, point, ray}
 use Rattle.lp_defs.specs.Phases.{start_duals}
 use Rattle.lp_defs.specs.Program.{Program, IsProgram, EndsInUnits}
 use Rattle.lp_defs.specs.Solution.{unit_rows, unit_duals, ended, solution}
-use Rattle.lp_defs.specs.Certificates.{IsNonnegative, IsFeasible, IsDual, IsOptimal, IsRay, IsUnbounded, IsCertified, SolutionsAreCertified, column_of, reduced_cost}
+use Rattle.lp_defs.specs.Certificates.{IsNonnegative, IsFeasible, IsDual, IsOptimal, IsRay, IsUnbounded, IsCertified, SolutionsAreCertified, MeetsAll, AllZeroAt, column_of, reduced_cost}
 use Rattle.lp_defs.proofs.Choice.{path_keeps}
 use Rattle.lp_defs.proofs.Best.{start_tied}
 use Rattle.lp_defs.proofs.Basic.{value_is, Three, three_keep, PointOf, point_of}
-use Rattle.lp_defs.proofs.Rays.{ray_of}
+use Rattle.lp_defs.specs.Trace.{NotIn}
+use Rattle.lp_defs.specs.Placed.{BasicsDiffer}
+use Rattle.lp_defs.proofs.Placed.{basics_differ}
+use Rattle.lp_defs.proofs.Rays.{ray_of, entering_falls}
 use Rattle.lp_defs.proofs.Phases.{duals_of}
 use Rattle.lp_defs.proofs.Starts.{units_of, basics_below, free_at_units, rows_rise, rights_above, meets_of, stays_of, column_is, right_is}
 
@@ -99,11 +102,72 @@ module _ (p : Program) (is : IsProgram p) (u : EndsInUnits p) where
   at_end TooLong w = tt
   at_end (Stopped k o) w = tt
 
+  well : (pivots : ℕ) → EndsWell (Three p.columns p.cost (unit_rows u.first p.rows p.right)) p.columns (path p.columns pivots 0 (begin p.cost (unit_rows u.first p.rows p.right)))
+  well pivots = path_keeps (Three p.columns p.cost (unit_rows u.first p.rows p.right)) p.columns (three_keep p.columns p.columns p.cost (unit_rows u.first p.rows p.right) (le_refl p.columns)) pivots 0 (begin p.cost (unit_rows u.first p.rows p.right)) three
+
   certified : (pivots : ℕ) → IsCertified p (ended u.first (length p.rows) (path p.columns pivots 0 (begin p.cost (unit_rows u.first p.rows p.right))))
-  certified pivots = at_end (path p.columns pivots 0 (begin p.cost (unit_rows u.first p.rows p.right)))
-      (path_keeps (Three p.columns p.cost (unit_rows u.first p.rows p.right)) p.columns (three_keep p.columns p.columns p.cost (unit_rows u.first p.rows p.right) (le_refl p.columns)) pivots 0 (begin p.cost (unit_rows u.first p.rows p.right)) three)
+  certified pivots = at_end (path p.columns pivots 0 (begin p.cost (unit_rows u.first p.rows p.right))) (well pivots)
+
+-- ---- the basic columns at the end of a path
+apart_entering : (f : List Entry) (j : ℕ) (rows : List Row) → Ascending 0 f → value_at f j <ℚ zero_ℚ → AllRows (λ r. product f (unit r.basic) ≡ zero_ℚ) rows → NotIn j rows
+apart_entering f j [] a h z = tt
+apart_entering f j (r ∷ rows) a h z = (
+  (λ e. not_le_of_lt_ℚ h (le_of_same_ℚ (sym z.0 ∙ ap (λ (c : ℕ). product f (unit c)) e ∙ value_is 0 j f a))),
+  apart_entering f j rows a h z.1,
+)
+
+-- the basic columns of a path's last tableau, and the column that no row bounds
+pub record BasicsAt (p : Program) (pivots : ℕ) : Type 0 where
+  pub best : (k : ℕ) (t : Tableau) → path p.columns pivots 0 (begin p.cost (unit_rows (p.columns - length p.rows) p.rows p.right)) ≡ Best k t → BasicsDiffer t.rows
+  pub open_differ : (j : ℕ) (t : Tableau) → path p.columns pivots 0 (begin p.cost (unit_rows (p.columns - length p.rows) p.rows p.right)) ≡ Open j t → BasicsDiffer t.rows
+  pub open_apart : (j : ℕ) (t : Tableau) → path p.columns pivots 0 (begin p.cost (unit_rows (p.columns - length p.rows) p.rows p.right)) ≡ Open j t → NotIn j t.rows
+
+pub basics_at : (p : Program) (pivots : ℕ) → IsProgram p → EndsInUnits p → BasicsAt p pivots
+basics_at p pivots is u =
+    let q : p.columns - length p.rows ≡ u.first = (let k : p.columns ≡ u.first + length p.rows = u.columns in omega arith) in
+    let w = subst (λ (n : ℕ). EndsWell (Three p.columns p.cost (unit_rows u.first p.rows p.right)) p.columns (path p.columns pivots 0 (begin p.cost (unit_rows n p.rows p.right)))) (sym q) (well p is u pivots) in
+    record {
+      best = λ k t e. basics_differ t.rows (subst (EndsWell (Three p.columns p.cost (unit_rows u.first p.rows p.right)) p.columns) e w).0.1.units;
+      open_differ = λ j t e. basics_differ t.rows (subst (EndsWell (Three p.columns p.cost (unit_rows u.first p.rows p.right)) p.columns) e w).0.1.units;
+      open_apart = λ j t e.
+          let v = subst (EndsWell (Three p.columns p.cost (unit_rows u.first p.rows p.right)) p.columns) e w in
+          apart_entering t.objective.entries j t.rows v.0.1.objective_rises (entering_falls p.columns 0 j t.objective.entries v.0.1.objective_rises v.1) v.0.1.priced;
+    }
 
 pub solutions_are_certified : SolutionsAreCertified
 solutions_are_certified p pivots is u =
     let e : p.columns - length p.rows ≡ u.first = (let k : p.columns ≡ u.first + length p.rows = u.columns in omega arith) in
     subst (λ (n : ℕ). IsCertified p (ended n (length p.rows) (path p.columns pivots 0 (begin p.cost (unit_rows n p.rows p.right))))) (sym e) (certified p is u pivots)
+
+-- ---- what holds at x holds at values that are the same
+product_same : (f : List Entry) (x z : ℕ → ℚ) → ((c : ℕ) → z c ≡ x c) → product f z ≡ product f x
+product_same [] x z h = refl
+product_same (t ∷ f) x z h = ap₂ ◌+ℚ◌ (ap (λ (v : ℚ). t.value *ℚ v) (h t.column)) (product_same f x z h)
+
+meets_same : (rows : List (List Entry)) (right : List ℚ) (x z : ℕ → ℚ) → ((c : ℕ) → z c ≡ x c) → MeetsAll rows right x → MeetsAll rows right z
+meets_same [] right x z h m = tt
+meets_same (f ∷ rows) [] x z h m = m
+meets_same (f ∷ rows) (b ∷ right) x z h m = (product_same f x z h ∙ m.0, meets_same rows right x z h m.1)
+
+zero_same : (rows : List (List Entry)) (x z : ℕ → ℚ) → ((c : ℕ) → z c ≡ x c) → AllZeroAt rows x → AllZeroAt rows z
+zero_same [] x z h m = tt
+zero_same (f ∷ rows) x z h m = (product_same f x z h ∙ m.0, zero_same rows x z h m.1)
+
+nonnegative_same : (p : Program) (x z : ℕ → ℚ) → ((c : ℕ) → z c ≡ x c) → IsNonnegative p x → IsNonnegative p z
+nonnegative_same p x z h n = record { nonnegative = λ j. subst (λ (v : ℚ). zero_ℚ ≤ℚ v) (sym (h j)) (n.nonnegative j); outside = λ j k. h j ∙ n.outside j k }
+
+feasible_same : (p : Program) (x z : ℕ → ℚ) → ((c : ℕ) → z c ≡ x c) → IsFeasible p x → IsFeasible p z
+feasible_same p x z h f = record { nonnegative = nonnegative_same p x z h f.nonnegative; meets = meets_same p.rows p.right x z h f.meets }
+
+pub optimal_same : (p : Program) (x z : ℕ → ℚ) (y : List ℚ) → ((c : ℕ) → z c ≡ x c) → IsOptimal p x y → IsOptimal p z y
+optimal_same p x z y h o = record { point = feasible_same p x z h o.point; duals = o.duals; equal = product_same p.cost x z h ∙ o.equal }
+
+pub unbounded_same : (p : Program) (x z d e : ℕ → ℚ) → ((c : ℕ) → z c ≡ x c) → ((c : ℕ) → e c ≡ d c) → IsUnbounded p x d → IsUnbounded p z e
+unbounded_same p x z d e h k u = record {
+  point = feasible_same p x z h u.point;
+  ray = record {
+    nonnegative = nonnegative_same p d e k u.ray.nonnegative;
+    stays = zero_same p.rows d e k u.ray.stays;
+    falls = subst (λ (v : ℚ). v <ℚ zero_ℚ) (sym (product_same p.cost d e k)) u.ray.falls;
+  };
+}
