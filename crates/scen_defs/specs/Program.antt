@@ -37,10 +37,13 @@ pub record Program : Type 0 where
 abbrev pub node_content : NodeOf → Node
 node_content n = record { stage = n.stage; parent = n.parent; cost = n.cost; rows = n.rows.items }
 
+abbrev pub place_content : Option NodeOf → Option Node
+place_content None = None
+place_content (Some n) = Some (node_content n)
+
 abbrev pub nodes_content : List (Option NodeOf) → List (Option Node)
 nodes_content [] = []
-nodes_content (None ∷ nodes) = None ∷ nodes_content nodes
-nodes_content (Some n ∷ nodes) = Some (node_content n) ∷ nodes_content nodes
+nodes_content (place ∷ nodes) = place_content place ∷ nodes_content nodes
 
 abbrev pub scenario_content : ScenarioOf → Scenario
 scenario_content s = record { name = s.name; probability = s.probability; path = s.path.items }
