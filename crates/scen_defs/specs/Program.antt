@@ -83,10 +83,14 @@ abbrev pub is_live : Option Node → Bool
 is_live None = false
 is_live (Some node) = true
 
--- node n; where none is live, one without costs and rows
+-- what stands for a node that is not live: one without costs and rows
+abbrev pub no_node : Node
+no_node = record { stage = 0; parent = None; cost = []; rows = [] }
+
+-- node n, where it is live
 abbrev pub node_at : List (Option Node) → ℕ → Node
-node_at [] n = record { stage = 0; parent = None; cost = []; rows = [] }
-node_at (None ∷ nodes) zero = record { stage = 0; parent = None; cost = []; rows = [] }
+node_at [] n = no_node
+node_at (None ∷ nodes) zero = no_node
 node_at (Some node ∷ nodes) zero = node
 node_at (first ∷ nodes) (suc n) = node_at nodes n
 

@@ -1,1 +1,2 @@
 pub mod NodeSteps
+pub mod PlaceSteps

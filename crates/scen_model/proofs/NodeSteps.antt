@@ -2,8 +2,9 @@
 use Rattle.std.proofs.Common.{◌≡◌, ℕ, ◌+◌, ◌<◌, List, [], ◌∷◌, Option, Some, None, length, drop, get_or, refl, sym, ap, subst, ◌∙◌, Result, Ok, Err, add-one}
 use Rattle.rationals.specs.Passes.{then_walk}
 use Rattle.scen_defs.specs.declared.program.Node.{Node as NodeOf}
+use Rattle.scen_defs.specs.declared.program.Program.{Program as ProgramOf}
 use Rattle.scen_defs.specs.Lists.{places}
-use Rattle.scen_defs.specs.Program.{is_live, node_at, node_content, place_content, nodes_content}
+use Rattle.scen_defs.specs.Program.{content, view_of, is_live, node_at, node_content, place_content, nodes_content}
 use Rattle.scen_defs.proofs.NodeReads.{nodes_read, node_read}
 use Rattle.scen_model.specs.Walks.{fold_walk}
 
@@ -24,6 +25,11 @@ some_read nodes i place n e d = subst (λ (q : Option NodeOf). q ≡ get_or node
 pub node_is : (nodes items : List (Option NodeOf)) → items ≡ nodes → (i : ℕ) (place : Option NodeOf) (n : NodeOf) → i < length items → place ≡ get_or items i place → place ≡ Some n
     → node_at (nodes_content nodes) i ≡ node_content n
 node_is nodes items same i place n h e d = ap (λ l. node_at (nodes_content l) i) (sym same) ∙ node_read items i n h (some_read items i place n e d)
+
+-- its rows are those of the node
+pub rows_read : (p : ProgramOf) (items : List (Option NodeOf)) → items ≡ p.nodes.items → (i : ℕ) (place : Option NodeOf) (n : NodeOf) → i < length items → place ≡ get_or items i place → place ≡ Some n
+    → n.rows.items ≡ (view_of (content p)).rows i
+rows_read p items same i place n h e d = sym (ap (λ m. m.rows) (node_is p.nodes.items items same i place n h e d))
 
 -- `items` is the slice that the loop reads
 module _ {S P : Type 0} (f : S → ℕ → Result S P) (s : S) (nodes items : List (Option NodeOf)) (same : items ≡ nodes) (i : ℕ) (whole : Result S P) (kept : fold_walk f s (live_from i nodes) ≡ whole) where
