@@ -1,14 +1,16 @@
 //! Exact fractions of 128-bit numbers.
 #![tactic(auto)]
 
+mod digits;
 mod form;
 mod fraction;
 mod gcd;
+mod literal;
 mod memory;
 mod order;
-mod parse;
 mod parts;
 mod passed;
+mod significand;
 mod term;
 mod text;
 
@@ -17,4 +19,4 @@ pub use fraction::Frac;
 pub use memory::Memory;
 pub use passed::Passed;
 pub use term::Term;
-pub use text::{NumFault, print};
+pub use text::{NumFault, parse, print};
