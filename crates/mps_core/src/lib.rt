@@ -1,2 +1,18 @@
-//! Core files.
+//! Core files: the reader of the MPS format, and the linear program that it gives.
 #![tactic(auto)]
+
+mod cause;
+mod core;
+mod draft;
+mod number;
+mod parts;
+mod reading;
+mod rows;
+mod place;
+mod section;
+mod stop;
+mod terms;
+
+pub use cause::{Cause, ReadFail, Refusal};
+pub use core::Core;
+pub use parts::{ColumnDef, RowDef};

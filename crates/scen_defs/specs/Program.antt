@@ -37,10 +37,13 @@ pub record Program : Type 0 where
 abbrev pub node_content : NodeOf → Node
 node_content n = record { stage = n.stage; parent = n.parent; cost = n.cost; rows = n.rows.items }
 
+abbrev pub place_content : Option NodeOf → Option Node
+place_content None = None
+place_content (Some n) = Some (node_content n)
+
 abbrev pub nodes_content : List (Option NodeOf) → List (Option Node)
 nodes_content [] = []
-nodes_content (None ∷ nodes) = None ∷ nodes_content nodes
-nodes_content (Some n ∷ nodes) = Some (node_content n) ∷ nodes_content nodes
+nodes_content (place ∷ nodes) = place_content place ∷ nodes_content nodes
 
 abbrev pub scenario_content : ScenarioOf → Scenario
 scenario_content s = record { name = s.name; probability = s.probability; path = s.path.items }
@@ -80,10 +83,14 @@ abbrev pub is_live : Option Node → Bool
 is_live None = false
 is_live (Some node) = true
 
--- node n; where none is live, one without costs and rows
+-- what stands for a node that is not live: one without costs and rows
+abbrev pub no_node : Node
+no_node = record { stage = 0; parent = None; cost = []; rows = [] }
+
+-- node n, where it is live
 abbrev pub node_at : List (Option Node) → ℕ → Node
-node_at [] n = record { stage = 0; parent = None; cost = []; rows = [] }
-node_at (None ∷ nodes) zero = record { stage = 0; parent = None; cost = []; rows = [] }
+node_at [] n = no_node
+node_at (None ∷ nodes) zero = no_node
 node_at (Some node ∷ nodes) zero = node
 node_at (first ∷ nodes) (suc n) = node_at nodes n
 

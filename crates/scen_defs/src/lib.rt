@@ -8,4 +8,3 @@ mod values;
 pub use program::{Column, Node, NodeRow, Program, Row, Scenario};
 pub use report::{Finding, Halt, Kind, Place, Report};
 pub use values::{Value, Values};
-

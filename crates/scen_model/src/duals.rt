@@ -1,0 +1,228 @@
+// What multipliers are worth.
+ghost use Rattle.std.specs.Prelude.{◌≡◌};
+ghost use Rattle.rationals.specs.Rational.{zero_ℚ};
+ghost use Rattle.scen_defs.specs.Values.{at};
+ghost use Rattle.scen_defs.specs.Program.{content, view_of};
+ghost use Rattle.scen_defs.specs.Flat.{without_costs, is_above};
+ghost use Rattle.scen_defs.specs.Lists.{pick};
+ghost use Rattle.scen_model.specs.Answers.{AnswersOption};
+ghost use Rattle.scen_model.specs.Walks.{costs_of, rows_from, all_rows, less_from, less_all, reduced_walk, bound_step, columns_step, all_columns, dual_by, dual_walk};
+
+use crate::ends::add_worth;
+use crate::look::value_at;
+use crate::stop::Stop;
+use crate::totals::{total, totals};
+use crate::tree::{Costs, cost_at, is_above, stage};
+use frac128::{Frac, Passed};
+use scen_defs::{Halt, NodeRow, Place, Program, Value, Values};
+
+/// The sum, and row by row the multiplier times the end that it uses.
+fn add_rows(rows: &[NodeRow], values: &[Value], node: u64, start: Frac) -> Result<Frac, Stop>
+    ensures { result ≡ rows_from (at values.now node) start rows.now }
+{
+    let mut sum = start;
+    for row in rows {
+        let multiplier = value_at(values, node, row.row as u64);
+        sum = add_worth(row.low, row.high, multiplier, sum)?;
+    }
+    Ok(sum)
+}
+
+/// The rows of all nodes.
+fn add_all_rows(program: &Program, values: &[Value]) -> Result<Frac, Stop>
+    ensures { result ≡ all_rows (view_of (content program.now)) (at values.now) }
+{
+    let mut sum = Frac::zero();
+    for (place, slot) in program.nodes.iter().enumerate() {
+        if let Some(node) = slot {
+            sum = add_rows(&node.rows, values, place as u64, sum)?;
+        }
+    }
+    Ok(sum)
+}
+
+/// What is left of a number, row by row, less the entry of a column times the multiplier.
+fn less_rows(
+    rows: &[NodeRow],
+    values: &[Value],
+    node: u64,
+    column: u64,
+    start: Frac,
+) -> Result<Frac, Passed>
+    ensures { result ≡ less_from column (at values.now node) start rows.now }
+{
+    let mut rest = start;
+    for row in rows {
+        let multiplier = value_at(values, node, row.row as u64);
+        let product = row.entries.get(column).mul(multiplier)?;
+        rest = rest.sub(product)?;
+    }
+    Ok(rest)
+}
+
+/// The same where a node is the top one or stands below it.
+fn less_node(
+    program: &Program,
+    rows: &[NodeRow],
+    values: &[Value],
+    top: u64,
+    node: u64,
+    column: u64,
+    start: Frac,
+) -> Result<Frac, Passed>
+    ensures { result ≡ pick (is_above (view_of (content program.now)) top node) (less_from column (at values.now node) start rows.now) (Ok start) }
+{
+    if is_above(program, top, node) {
+        less_rows(rows, values, node, column, start)
+    } else {
+        Ok(start)
+    }
+}
+
+/// The same over all nodes.
+fn less_below(
+    program: &Program,
+    values: &[Value],
+    top: u64,
+    column: u64,
+    start: Frac,
+) -> Result<Frac, Passed>
+    ensures { result ≡ less_all (view_of (content program.now)) (at values.now) top column start }
+{
+    let mut rest = start;
+    for (place, slot) in program.nodes.iter().enumerate() {
+        if let Some(node) = slot {
+            rest = less_node(program, &node.rows, values, top, place as u64, column, rest)?;
+        }
+    }
+    Ok(rest)
+}
+
+/// The reduced cost of a column at a node.
+fn reduced(
+    program: &Program,
+    costs: Costs,
+    values: &[Value],
+    node: u64,
+    column: u64,
+) -> Result<Frac, Passed>
+    ensures { result ≡ reduced_walk (costs_of costs (view_of (content program.now))) (view_of (content program.now)) (at values.now) node column }
+{
+    let total = total(&program.scenarios, node)?;
+    let start = total.mul(cost_at(program, costs, node, column))?;
+    less_below(program, values, node, column, start)
+}
+
+/// The sum, and a reduced cost times the bound that it uses.
+fn add_column(
+    program: &Program,
+    costs: Costs,
+    values: &[Value],
+    node: u64,
+    column: u64,
+    lower: Option<Frac>,
+    upper: Option<Frac>,
+    sum: Frac,
+) -> Result<Frac, Stop>
+    ensures { result ≡ bound_step (reduced_walk (costs_of costs (view_of (content program.now))) (view_of (content program.now)) (at values.now) node column) lower upper sum }
+{
+    let reduced = reduced(program, costs, values, node, column)?;
+    add_worth(lower, upper, reduced, sum)
+}
+
+/// The same for each column of a node's stage.
+fn add_columns(
+    program: &Program,
+    costs: Costs,
+    values: &[Value],
+    node: u64,
+    start: Frac,
+) -> Result<Frac, Stop>
+    ensures { result ≡ columns_step (costs_of costs (view_of (content program.now))) (view_of (content program.now)) (at values.now) start node }
+{
+    let stage = stage(program, node);
+    let mut sum = start;
+    for (place, column) in program.columns.iter().enumerate() {
+        if column.stage == stage {
+            let lower = column.lower;
+            let upper = column.upper;
+            sum = add_column(
+                program,
+                costs,
+                values,
+                node,
+                place as u64,
+                lower,
+                upper,
+                sum,
+            )?;
+        }
+    }
+    Ok(sum)
+}
+
+/// The same for all nodes.
+fn add_all_columns(
+    program: &Program,
+    costs: Costs,
+    values: &[Value],
+    start: Frac,
+) -> Result<Frac, Stop>
+    ensures { result ≡ all_columns (costs_of costs (view_of (content program.now))) (view_of (content program.now)) (at values.now) start }
+{
+    let mut sum = start;
+    for (place, slot) in program.nodes.iter().enumerate() {
+        if slot.is_some() {
+            sum = add_columns(program, costs, values, place as u64, sum)?;
+        }
+    }
+    Ok(sum)
+}
+
+/// The totals, then the rows, then the columns.
+fn value_by(program: &Program, costs: Costs, values: &[Value]) -> Result<Frac, Stop>
+    ensures { result ≡ dual_by (costs_of costs (view_of (content program.now))) (view_of (content program.now)) (at values.now) }
+{
+    totals(program)?;
+    let sum = add_all_rows(program, values)?;
+    add_all_columns(program, costs, values, sum)
+}
+
+/// What multipliers are worth: by node and row the multiplier times the end of the row's interval that
+/// it uses, then by node and column the reduced cost times the bound that it uses, added from left to right.
+///
+/// A number above 0 uses the low end or the lower bound, one below 0 the high end or the upper bound. The
+/// reduced cost of a column at a node is the node's total times the cost, less entry times multiplier by
+/// node and row, over the rows of the node and of all nodes below it. The totals by node come first.
+/// `None` comes exactly where a used end is not finite and no operation before it passes. `Passed` has
+/// place `Check` and names the first operation that passes.
+pub fn dual_value(program: &Program, dual: &Values) -> Result<Option<Frac>, Halt>
+    ensures { AnswersOption (dual_walk (view_of (content program.now)) (at dual.now)) result }
+{
+    answer(value_by(program, Costs::Own, dual.items()))
+}
+
+/// What multipliers are worth where all costs are 0; else as `dual_value`.
+pub fn zero_value(program: &Program, ray: &Values) -> Result<Option<Frac>, Halt>
+    ensures { AnswersOption (dual_walk (without_costs (view_of (content program.now))) (at ray.now)) result }
+{
+    answer(value_by(program, Costs::Zero, ray.items()))
+}
+
+fn answer(value: Result<Frac, Stop>) -> Result<Option<Frac>, Halt>
+    ensures { AnswersOption value result }
+{
+    match value {
+        Ok(sum) => Ok(Some(sum)),
+        Err(stop) => stopped(stop),
+    }
+}
+
+fn stopped(stop: Stop) -> Result<Option<Frac>, Halt>
+    ensures { AnswersOption (Err stop) result }
+{
+    match stop {
+        Stop::Decided => Ok(None),
+        Stop::Passed(passed) => Err(Halt::Passed(Place::Check, passed)),
+    }
+}

@@ -1,0 +1,47 @@
+// Tests of numbers, and the end of an interval that a multiplier uses.
+ghost use Rattle.std.specs.Prelude.{◌≡◌};
+ghost use Rattle.rationals.specs.Rational.{at_most};
+ghost use Rattle.scen_defs.specs.Ends.{used_end};
+ghost use Rattle.scen_model.specs.Walks.{worth_step};
+
+use crate::stop::Stop;
+use frac128::Frac;
+
+pub(crate) fn is_at_most(a: Frac, b: Frac) -> bool
+    ensures { result ≡ at_most a b }
+{
+    a <= b
+}
+
+/// The low end for a multiplier above 0, the high end below 0, and 0 for 0.
+fn used_end(low: Option<Frac>, high: Option<Frac>, multiplier: Frac) -> Option<Frac>
+    ensures { result ≡ used_end low high multiplier }
+{
+    let zero = Frac::zero();
+    if !is_at_most(multiplier, zero) {
+        low
+    } else if !is_at_most(zero, multiplier) {
+        high
+    } else {
+        Some(zero)
+    }
+}
+
+/// The sum, and a multiplier times the end that it uses.
+pub(crate) fn add_worth(
+    low: Option<Frac>,
+    high: Option<Frac>,
+    multiplier: Frac,
+    sum: Frac,
+) -> Result<Frac, Stop>
+    ensures { result ≡ worth_step low high multiplier sum }
+{
+    match used_end(low, high, multiplier) {
+        None => Err(Stop::Decided),
+        Some(end) => {
+            let product = multiplier.mul(end)?;
+            let next = sum.add(product)?;
+            Ok(next)
+        }
+    }
+}

@@ -1,0 +1,93 @@
+// Where a node stands in the tree.
+ghost use Rattle.std.specs.Prelude.{◌≡◌, ◌-◌, MatchOption};
+ghost use Rattle.scen_defs.specs.Program.{content, nodes_content, node_content, node_at, no_node, or_root, view_of};
+ghost use Rattle.scen_defs.specs.Flat.{up, is_above};
+ghost use Rattle.rationals.specs.Sparse.{coefficient};
+ghost use Rattle.scen_model.specs.Walks.{costs_of};
+
+use frac128::Frac;
+use scen_defs::{Node, Program};
+
+/// The node of that number, where it is live.
+fn find(nodes: &[Option<Node>], node: u64) -> Option<&Node>
+    ensures { MatchOption result (node_at (nodes_content nodes.now) node ≡ no_node) (λ found. node_at (nodes_content nodes.now) node ≡ node_content found.now) }
+{
+    let place = node as usize;
+    if place >= nodes.len() {
+        return None;
+    }
+    match &nodes[place] {
+        Some(found) => Some(found),
+        None => None,
+    }
+}
+
+/// The stage of a node, 0 where it is not live.
+pub(crate) fn stage(program: &Program, node: u64) -> u32
+    ensures { result ≡ (view_of (content program.now)).stage node }
+{
+    match find(&program.nodes, node) {
+        Some(found) => found.stage,
+        None => 0,
+    }
+}
+
+/// The parent's number, 0 where there is none.
+fn parent(program: &Program, node: u64) -> u64
+    ensures { result ≡ (view_of (content program.now)).parent node }
+{
+    match find(&program.nodes, node) {
+        Some(found) => or_root(found.parent),
+        None => 0,
+    }
+}
+
+/// The node, or the root where there is none.
+fn or_root(node: Option<u32>) -> u64
+    ensures { result ≡ or_root node }
+{
+    match node {
+        Some(number) => number as u64,
+        None => 0,
+    }
+}
+
+/// The node so many stages up.
+pub(crate) fn up(program: &Program, stages: u32, node: u64) -> u64
+    ensures { result ≡ up (view_of (content program.now)) stages node }
+{
+    let mut at = node;
+    for _stage in 0..stages {
+        at = parent(program, at);
+    }
+    at
+}
+
+/// Whether the first node is the second, or stands above it.
+pub(crate) fn is_above(program: &Program, upper: u64, lower: u64) -> bool
+    ensures { result ≡ is_above (view_of (content program.now)) upper lower }
+{
+    let high = stage(program, upper);
+    let low = stage(program, lower);
+    high <= low && up(program, low - high, lower) == upper
+}
+
+/// Which costs count.
+#[derive(Clone, Copy)]
+pub(crate) enum Costs {
+    Own,
+    Zero,
+}
+
+/// The cost of a column at a node, 0 where there is none.
+pub(crate) fn cost_at(program: &Program, costs: Costs, node: u64, column: u64) -> Frac
+    ensures { result ≡ coefficient (costs_of costs (view_of (content program.now)) node) column }
+{
+    match costs {
+        Costs::Own => match find(&program.nodes, node) {
+            Some(found) => found.cost.get(column),
+            None => Frac::zero(),
+        },
+        Costs::Zero => Frac::zero(),
+    }
+}
