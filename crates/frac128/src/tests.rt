@@ -1,6 +1,6 @@
 // Literals, and sums, differences, products, quotients and comparisons at the edges of 128 bits. The
 // tables are texts, since each member of an array is a step of the proof.
-use crate::{Frac, Memory, NumFault, Passed, parse, print};
+use crate::{Form, Frac, Memory, NumFault, Passed, parse, print};
 use std::alloc::Global;
 use std::cmp::Ordering;
 use std::process::Abort;
@@ -322,5 +322,28 @@ fn numbers_at_the_edges(rt: HostRuntime) -> Result<(), Fail> {
         let found = applied(&rt, rt.alloc(), left, symbol, right)?;
         assert_eq!(rt; found.as_slice(), expected.as_bytes(), "{row}");
     }
+    Ok(())
+}
+
+/// The form with one value.
+fn single(rt: &impl Abort, alloc: Global, column: u64, value: Frac) -> Result<Form, Memory> {
+    assert!(rt; !value.is_zero());
+    let mut form = Form::empty(alloc);
+    form.push(column, value)?;
+    Ok(form)
+}
+
+#[test]
+fn forms_are_added_and_multiplied(rt: HostRuntime) -> Result<(), Fail> {
+    let two = Frac::from_int(2);
+    let first = single(&rt, rt.alloc(), 1, parse(b"1/2")?)?;
+    let second = single(&rt, rt.alloc(), 4, parse(b"3")?)?;
+    let sum = first.add_scaled(two, &second)?;
+    let other = second.add_scaled(two, &first)?;
+    assert_eq!(rt; sum.get(4), Frac::from_int(6));
+    assert_eq!(rt; sum.get(2), Frac::zero());
+    assert_eq!(rt; sum.dot(&other)?, parse(b"37/2")?);
+    assert_eq!(rt; sum.copy(rt.alloc())?.terms().len(), 2);
+    assert_eq!(rt; sum.add_scaled(Frac::from_int(-1), &sum)?.len(), 0);
     Ok(())
 }
