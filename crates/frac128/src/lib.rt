@@ -12,6 +12,8 @@ mod parts;
 mod passed;
 mod significand;
 mod term;
+#[cfg(test)]
+mod tests;
 mod text;
 
 pub use form::{Form, FormFault};
