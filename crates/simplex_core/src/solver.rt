@@ -67,7 +67,7 @@ pub fn solve(alloc: Global, program: &Standard, pivots: u64) -> Result<Outcome, 
     requires { EndsInUnits program.now }
     ensures exact { IfOk result (Tells (solution program.now pivots)) }
     ensures certified { IfOk result (Shows program.now) }
-    ensures feasible { IfOk result IsNotInfeasible }
+    ensures feasible { EndsInUnits program.now → IfOk result IsNotInfeasible }
 {
     let _columns = program.columns();
     let outcome = follow(alloc, program, pivots)?;
