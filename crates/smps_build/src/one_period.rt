@@ -1,0 +1,153 @@
+// The program of one period of a core.
+ghost use Rattle.std.specs.Prelude.{◌≡◌, ◌++◌, ◌<◌, ◌^◌, [], suc, length, Ok, IfOk, OnOk, MatchResult, map};
+ghost use Rattle.rationals.specs.Forms.{EndsBelow, put};
+ghost use Rattle.scen_defs.specs.Program.{content};
+ghost use Rattle.smps_build.specs.Single.{column_of, row_of, costs_from, entries_from, rows_from, single_walk, BuildFaultOf};
+
+use crate::fault::BuildFault;
+use crate::interval::interval;
+use frac128::{Form, Frac, Memory};
+use mps_core::{ColumnDef, Core, RowDef};
+use scen_defs::{Column, Node, NodeRow, Program, Row, Scenario};
+use smps_words::Name;
+use std::alloc::{AllocError, Global};
+
+fn copied(alloc: Global, name: &Name) -> Result<Name, AllocError>
+    ensures { IfOk result (λ copy. copy ≡ name.now) }
+{
+    Name::new(alloc, name.as_bytes())
+}
+
+fn columns_of(alloc: Global, columns: &[ColumnDef]) -> Result<Vec<Column>, AllocError>
+    ensures { IfOk result (λ all. all.items ≡ map column_of columns.now) }
+{
+    let mut all = Vec::new(alloc);
+    for column in columns {
+        let name = copied(alloc, &column.name)?;
+        let lower = column.lower;
+        let upper = column.upper;
+        all.push(Column {
+            name,
+            stage: 0,
+            lower,
+            upper,
+        })?;
+    }
+    Ok(all)
+}
+
+fn rows_of(alloc: Global, rows: &[RowDef]) -> Result<Vec<Row>, AllocError>
+    ensures { IfOk result (λ all. all.items ≡ map row_of rows.now) }
+{
+    let mut all = Vec::new(alloc);
+    for row in rows {
+        let name = copied(alloc, &row.name)?;
+        let kind = row.kind;
+        let range = row.range;
+        all.push(Row {
+            name,
+            stage: 0,
+            kind,
+            range,
+        })?;
+    }
+    Ok(all)
+}
+
+/// Adds a value in a column above all others, unless it is 0.
+fn put(form: &mut Form, column: u64, value: Frac) -> Result<(), Memory>
+    requires { EndsBelow column form.old }
+    ensures ok { OnOk result (form.new ≡ form.old ++ put column value []) }
+    ensures below { OnOk result (EndsBelow (suc column) form.new) }
+{
+    if !value.is_zero() {
+        form.push(column, value)?;
+    }
+    Ok(())
+}
+
+/// The costs by column.
+fn costs_of(alloc: Global, columns: &[ColumnDef]) -> Result<Form, Memory>
+    ensures { IfOk result (λ form. form ≡ costs_from 0 columns.now) }
+{
+    let mut form = Form::empty(alloc);
+    for (place, column) in columns.iter().enumerate() {
+        put(&mut form, place as u64, column.cost)?;
+    }
+    Ok(form)
+}
+
+/// The entries of a row by column.
+fn entries_of(alloc: Global, columns: &[ColumnDef], row: u64) -> Result<Form, Memory>
+    ensures { IfOk result (λ form. form ≡ entries_from row 0 columns.now) }
+{
+    let mut form = Form::empty(alloc);
+    for (place, column) in columns.iter().enumerate() {
+        let entry = column.entries.get(row);
+        put(&mut form, place as u64, entry)?;
+    }
+    Ok(form)
+}
+
+/// The rows with their entries and intervals.
+fn node_rows(
+    alloc: Global,
+    columns: &[ColumnDef],
+    rows: &[RowDef],
+) -> Result<Vec<NodeRow>, BuildFault>
+    requires { length rows.now < 2 ^ 32 }
+    ensures { MatchResult result (λ all. rows_from columns.now [] 0 rows.now ≡ Ok all.items) (BuildFaultOf (rows_from columns.now [] 0 rows.now)) }
+{
+    let mut all = Vec::new(alloc);
+    for (place, row) in rows.iter().enumerate() {
+        let (low, high) = interval(row.kind, row.rhs, row.range)?;
+        let entries = entries_of(alloc, columns, place as u64)?;
+        all.push(NodeRow {
+            row: place as u32,
+            entries,
+            low,
+            high,
+        })?;
+    }
+    Ok(all)
+}
+
+/// The program of one period that a core states: the period `P1`, the node 0, the scenario `S1` of
+/// probability 1.
+///
+/// A row of kind L with right-hand side b reaches from nothing to b, one of kind G from b to nothing, one
+/// of kind E from b to b; with a range R they reach from b less the size of R to b, from b to b and the
+/// size of R, and from b to b and R (where R is below 0, from b and R to b). `Passed` names the first of
+/// these operations, by row, that passes.
+pub fn single(alloc: Global, core: &Core) -> Result<Program, BuildFault>
+    ensures { MatchResult result (λ program. single_walk core.now ≡ Ok (content program)) (BuildFaultOf (single_walk core.now)) }
+{
+    let rows = node_rows(alloc, &core.columns, &core.rows)?;
+    let cost = costs_of(alloc, &core.columns)?;
+    let mut nodes = Vec::new(alloc);
+    nodes.push(Some(Node {
+        stage: 0,
+        parent: None,
+        cost,
+        rows,
+    }))?;
+    let mut path = Vec::new(alloc);
+    path.push(0)?;
+    let mut scenarios = Vec::new(alloc);
+    scenarios.push(Scenario {
+        name: Name::new(alloc, b"S1")?,
+        probability: Frac::one(),
+        path,
+    })?;
+    let mut periods = Vec::new(alloc);
+    periods.push(Name::new(alloc, b"P1")?)?;
+    Ok(Program {
+        objective: copied(alloc, &core.objective)?,
+        rhs: copied(alloc, &core.rhs_set)?,
+        periods,
+        columns: columns_of(alloc, &core.columns)?,
+        rows: rows_of(alloc, &core.rows)?,
+        nodes,
+        scenarios,
+    })
+}
