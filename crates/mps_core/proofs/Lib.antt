@@ -1,2 +1,6 @@
 pub mod TermLemmas
 pub mod StepLemmas
+pub mod StepOk
+pub mod TermKept
+pub mod KeptLemmas
+pub mod CoreLemmas
