@@ -2,6 +2,7 @@
 #![tactic(auto)]
 
 mod forms;
+mod lists;
 mod standard;
 
 pub use standard::{StandardFault, standard_form};

@@ -160,9 +160,7 @@ fn is_at_most(row: &NodeRow, columns: u64, number: u64) -> bool
 {
     match (row.low, row.high) {
         (None, Some(high)) => {
-            row.row as u64 == number
-                && is_room(high)
-                && ends_below(row.entries.terms(), columns)
+            row.row as u64 == number && is_room(high) && ends_below(row.entries.terms(), columns)
         }
         _ => false,
     }
