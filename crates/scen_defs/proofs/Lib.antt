@@ -1,2 +1,14 @@
 pub mod ValueLaws
 pub mod NodeReads
+pub mod SumLaws
+pub mod EndLaws
+pub mod TreeLaws
+pub mod Costs
+pub mod Duality
+pub mod Directions
+pub mod Subtrees
+pub mod Above
+pub mod Recession
+pub mod Valid
+pub mod Runs
+pub mod Cover

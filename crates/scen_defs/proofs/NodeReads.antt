@@ -47,3 +47,8 @@ pub column_read : (columns : List Column) (i : ℕ) (c : Column) → i < length 
 column_read [] i c h e = absurd (omega arith)
 column_read (d ∷ columns) zero c h e = sym e
 column_read (d ∷ columns) (suc i) c h e = column_read columns i c (omega arith) e
+
+pub column_past : (columns : List Column) (i : ℕ) → length columns ≤ i → (column_at columns i).stage ≡ 0
+column_past [] i h = refl
+column_past (d ∷ columns) zero h = absurd (omega arith)
+column_past (d ∷ columns) (suc i) h = column_past columns i (omega arith)

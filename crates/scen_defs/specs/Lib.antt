@@ -4,3 +4,4 @@ pub mod Values
 pub mod Program
 pub mod Flat
 pub mod Valid
+pub mod Laws

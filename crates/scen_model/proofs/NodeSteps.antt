@@ -1,5 +1,5 @@
 -- Loops over the live nodes of a program.
-use Rattle.std.proofs.Common.{◌≡◌, ℕ, ◌+◌, ◌<◌, List, [], ◌∷◌, Option, Some, None, length, drop, get_or, refl, sym, ap, subst, ◌∙◌, Result, Ok, Err, add-one}
+use Rattle.std.proofs.Common.{◌≡◌, ℕ, ◌+◌, ◌<◌, List, [], ◌∷◌, Option, Some, None, true, false, is_some, length, drop, get_or, refl, sym, ap, subst, ◌∙◌, Result, Ok, Err, add-one}
 use Rattle.rationals.specs.Passes.{then_walk}
 use Rattle.scen_defs.specs.declared.program.Node.{Node as NodeOf}
 use Rattle.scen_defs.specs.declared.program.Program.{Program as ProgramOf}
@@ -47,3 +47,18 @@ module _ {S P : Type 0} (f : S → ℕ → Result S P) (s : S) (nodes items : Li
 
   pub next_dead : (place : Option NodeOf) → i < length items → place ≡ get_or items i place → place ≡ None → fold_walk f s (live_from (i + 1) nodes) ≡ whole
   next_dead place h e d = back s (sym (ap (fold_walk f s) (dead_read items i place h e d)) ∙ kept_items)
+
+  -- a place that is tested, and not taken apart
+  pub next_some : (place : Option NodeOf) (t : S) → i < length items → place ≡ get_or items i place → is_some place ≡ true → Ok t ≡ f s i → fold_walk f t (live_from (i + 1) nodes) ≡ whole
+  next_some place t h e b k = go place refl
+    where
+      go : (p : Option NodeOf) → place ≡ p → fold_walk f t (live_from (i + 1) nodes) ≡ whole
+      go None d = absurd (let q : is_some place ≡ false = ap is_some d in cc)
+      go (Some n) d = next_live place n t h e d k
+
+  pub next_none : (place : Option NodeOf) → i < length items → place ≡ get_or items i place → is_some place ≡ false → fold_walk f s (live_from (i + 1) nodes) ≡ whole
+  next_none place h e b = go place refl
+    where
+      go : (p : Option NodeOf) → place ≡ p → fold_walk f s (live_from (i + 1) nodes) ≡ whole
+      go None d = next_dead place h e d
+      go (Some n) d = absurd (let q : is_some place ≡ true = ap is_some d in cc)

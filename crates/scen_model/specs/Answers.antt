@@ -1,5 +1,5 @@
 -- What a call answers, by its walk.
-use Rattle.std.specs.Prelude.{◌≡◌, Option, Some, None, Result, Ok, Err, MatchResult, ⊤}
+use Rattle.std.specs.Prelude.{◌≡◌, Bool, true, false, Option, Some, None, Result, Ok, Err, MatchResult, ⊤}
 use Rattle.rationals.specs.Passes.{Operation}
 use Rattle.scen_model.specs.declared.stop.Stop.{Stop}
 use Rattle.scen_model.specs.declared.stop.Stop.TheVariants.{Decided, Passed as PassedStop}
@@ -42,3 +42,9 @@ abbrev pub AnswersOption : {X : Type 0} → Result X Stop → Result (Option X) 
 AnswersOption walk (Ok (Some x)) = walk ≡ Ok x
 AnswersOption walk (Ok None) = walk ≡ Err Decided
 AnswersOption walk (Err h) = StopsAt walk h
+
+-- yes where the walk comes to its end, no where it is stopped; or the operation in which it ends, or want of memory
+abbrev pub AnswersTest : Result (Unit {0}) Stop → Result Bool Halt → Type 0
+AnswersTest walk (Ok true) = walk ≡ Ok tt
+AnswersTest walk (Ok false) = walk ≡ Err Decided
+AnswersTest walk (Err h) = StopsAt walk h

@@ -1,15 +1,17 @@
 -- The sums of a program, operation by operation in their order. A walk ends at the first operation that passes.
-use Rattle.std.specs.Prelude.{ℕ, Bool, true, false, List, [], ◌∷◌, Option, Some, None, Result, Ok, Err}
-use Rattle.rationals.specs.Rational.{ℚ, zero_ℚ}
+use Rattle.std.specs.Prelude.{ℕ, Bool, true, false, not, ◌&&◌, List, [], ◌∷◌, Option, Some, None, Result, Ok, Err}
+use Rattle.rationals.specs.Rational.{ℚ, zero_ℚ, at_most}
 use Rattle.rationals.specs.Sparse.{Entry, coefficient}
 use Rattle.rationals.specs.Passes.{Operation, add_walk, sub_walk, mul_walk, then_walk}
 use Rattle.scen_defs.specs.declared.program.NodeRow.{NodeRow}
 use Rattle.scen_defs.specs.Lists.{is_in, pick}
 use Rattle.scen_defs.specs.Ends.{used_end}
 use Rattle.scen_defs.specs.Program.{View, Scenario}
-use Rattle.scen_defs.specs.Flat.{is_above}
+use Rattle.scen_defs.specs.Flat.{along, is_above, zero_end}
 use Rattle.scen_model.specs.declared.tree.Costs.{Costs}
 use Rattle.scen_model.specs.declared.tree.Costs.TheVariants.{Own, Zero}
+use Rattle.scen_model.specs.declared.feasibility.Ends.{Ends}
+use Rattle.scen_model.specs.declared.feasibility.Ends.TheVariants.{Own as OwnEnds, Zero as ZeroEnds}
 use Rattle.scen_model.specs.declared.stop.Stop.{Stop}
 use Rattle.scen_model.specs.declared.stop.Stop.TheVariants.{Decided, Passed}
 
@@ -120,3 +122,55 @@ dual_by costs v y = then_walk (stopping (totals_walk v v.live)) (λ _. then_walk
 
 abbrev pub dual_walk : View → (ℕ → ℕ → ℚ) → Result ℚ Stop
 dual_walk v y = dual_by v.cost v y
+
+-- ---- what is feasible
+
+abbrev pub own_end : Option ℚ → Option ℚ
+own_end e = e
+
+-- the ends that count
+abbrev pub end_of : Ends → Option ℚ → Option ℚ
+end_of OwnEnds e = e
+end_of ZeroEnds e = zero_end e
+
+abbrev pub is_above_low : Option ℚ → ℚ → Bool
+is_above_low None q = true
+is_above_low (Some low) q = at_most low q
+
+abbrev pub is_below_high : Option ℚ → ℚ → Bool
+is_below_high None q = true
+is_below_high (Some high) q = at_most q high
+
+abbrev pub is_between : Option ℚ → Option ℚ → ℚ → Bool
+is_between low high q = is_above_low low q && is_below_high high q
+
+-- a test that fails decides
+abbrev pub test : Bool → Result (Unit {0}) Stop
+test true = Ok tt
+test false = Err Decided
+
+-- the rows of a node where the columns along its path have the values x
+abbrev pub rows_test : (Option ℚ → Option ℚ) → (ℕ → ℚ) → List NodeRow → Result (Unit {0}) Stop
+rows_test ends x [] = Ok tt
+rows_test ends x (r ∷ rs) = then_walk (stopping (product_from x zero_ℚ r.entries)) (λ s. then_walk (test (is_between (ends r.low) (ends r.high) s)) (λ _. rows_test ends x rs))
+
+abbrev pub all_rows_test : (Option ℚ → Option ℚ) → View → (ℕ → ℕ → ℚ) → Result (Unit {0}) Stop
+all_rows_test ends v x = fold_walk (λ _ n. rows_test ends (along v x n) (v.rows n)) tt v.live
+
+-- the bounds of the columns of a node's stage
+abbrev pub bounds_test : (Option ℚ → Option ℚ) → View → (ℕ → ℕ → ℚ) → ℕ → Result (Unit {0}) Stop
+bounds_test ends v x n = fold_walk (λ _ j. test (is_between (ends (v.lower j)) (ends (v.upper j)) (x n j))) tt (v.columns (v.stage n))
+
+abbrev pub all_bounds_test : (Option ℚ → Option ℚ) → View → (ℕ → ℕ → ℚ) → Result (Unit {0}) Stop
+all_bounds_test ends v x = fold_walk (λ _ n. bounds_test ends v x n) tt v.live
+
+-- all bounds, and then all rows
+abbrev pub meets_walk : (Option ℚ → Option ℚ) → View → (ℕ → ℕ → ℚ) → Result (Unit {0}) Stop
+meets_walk ends v x = then_walk (all_bounds_test ends v x) (λ _. all_rows_test ends v x)
+
+abbrev pub feasible_walk : View → (ℕ → ℕ → ℚ) → Result (Unit {0}) Stop
+feasible_walk v x = meets_walk own_end v x
+
+-- with zero ends, and then the cost
+abbrev pub direction_walk : View → (ℕ → ℕ → ℚ) → Result (Unit {0}) Stop
+direction_walk v d = then_walk (meets_walk zero_end v d) (λ _. then_walk (stopping (cost_walk v d)) (λ c. test (not (at_most zero_ℚ c))))

@@ -4,6 +4,8 @@
 mod costs;
 mod duals;
 mod ends;
+mod feasibility;
+mod laws;
 mod look;
 mod stop;
 mod totals;
@@ -11,6 +13,11 @@ mod tree;
 
 pub use costs::cost;
 pub use duals::{dual_value, zero_value};
+pub use feasibility::{feasible, is_direction};
+pub use laws::{
+    infeasibility_is_shown, programs_are_trees, recession_makes_good, recessions_are_trees,
+    unboundedness_is_shown, weak_duality_holds,
+};
 pub use scen_defs::{
     Column, Finding, Halt, Kind, Node, NodeRow, Place, Program, Report, Row, Scenario, Value,
     Values,

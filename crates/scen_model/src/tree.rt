@@ -1,12 +1,12 @@
 // Where a node stands in the tree.
 ghost use Rattle.std.specs.Prelude.{◌≡◌, ◌-◌, MatchOption};
-ghost use Rattle.scen_defs.specs.Program.{content, nodes_content, node_content, node_at, no_node, or_root, view_of};
-ghost use Rattle.scen_defs.specs.Flat.{up, is_above};
+ghost use Rattle.scen_defs.specs.Program.{content, nodes_content, node_content, node_at, no_node, or_root, column_at, view_of};
+ghost use Rattle.scen_defs.specs.Flat.{up, home, is_above};
 ghost use Rattle.rationals.specs.Sparse.{coefficient};
 ghost use Rattle.scen_model.specs.Walks.{costs_of};
 
 use frac128::Frac;
-use scen_defs::{Node, Program};
+use scen_defs::{Column, Node, Program};
 
 /// The node of that number, where it is live.
 fn find(nodes: &[Option<Node>], node: u64) -> Option<&Node>
@@ -70,6 +70,27 @@ pub(crate) fn is_above(program: &Program, upper: u64, lower: u64) -> bool
     let high = stage(program, upper);
     let low = stage(program, lower);
     high <= low && up(program, low - high, lower) == upper
+}
+
+/// The stage of a column, 0 where there is none.
+fn column_stage(columns: &[Column], column: u64) -> u32
+    ensures { result ≡ (column_at columns.now column).stage }
+{
+    let place = column as usize;
+    if place < columns.len() {
+        columns[place].stage
+    } else {
+        0
+    }
+}
+
+/// The node of a node's path that decides a column.
+pub(crate) fn home(program: &Program, node: u64, column: u64) -> u64
+    ensures { result ≡ home (view_of (content program.now)) node column }
+{
+    let low = stage(program, node);
+    let high = column_stage(&program.columns, column);
+    up(program, low.saturating_sub(high), node)
 }
 
 /// Which costs count.

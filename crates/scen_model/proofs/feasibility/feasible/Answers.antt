@@ -1,0 +1,9 @@
+use Rattle.std.proofs.Common.{subst, ap, ◌∙◌}
+use Rattle.scen_defs.specs.Program.{content, view_of}
+use Rattle.scen_defs.specs.Values.{at}
+use Rattle.scen_model.specs.Answers.{AnswersTest}
+use Rattle.scen_model.specs.Walks.{feasible_walk}
+use Rattle.scen_model.proofs.feasibility.feasible.Goals as goal
+
+pub returns : goal.returns
+returns c = subst (λ walk. AnswersTest walk c.answer.result) (c.test_all.ensures ∙ ap (λ x. feasible_walk (view_of (content c.args.program.now)) (at x)) c.items.ensures) c.answer.ensures

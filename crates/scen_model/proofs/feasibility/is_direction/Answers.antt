@@ -1,0 +1,9 @@
+use Rattle.std.proofs.Common.{subst, ap, ◌∙◌}
+use Rattle.scen_defs.specs.Program.{content, view_of}
+use Rattle.scen_defs.specs.Values.{at}
+use Rattle.scen_model.specs.Answers.{AnswersTest}
+use Rattle.scen_model.specs.Walks.{direction_walk}
+use Rattle.scen_model.proofs.feasibility.is_direction.Goals as goal
+
+pub returns : goal.returns
+returns c = subst (λ walk. AnswersTest walk c.answer.result) (c.test_direction.ensures ∙ ap (λ d. direction_walk (view_of (content c.args.program.now)) (at d)) c.items.ensures) c.answer.ensures

@@ -1,0 +1,32 @@
+// What holds of every program: weak duality, and what certificates show.
+ghost use Rattle.scen_defs.specs.Laws.{WeakDuality, InfeasibilityShown, UnboundednessShown, ProgramsAreTrees, RecessionsAreTrees, RecessionMakesGood};
+
+/// The value of good multipliers is at most the cost of a feasible point.
+pub fn weak_duality_holds()
+    ensures { WeakDuality }
+{}
+
+/// Multipliers that are good with all costs 0, and are then worth more than 0, exclude every feasible point.
+pub fn infeasibility_is_shown()
+    ensures { InfeasibilityShown }
+{}
+
+/// With a feasible point and a direction the cost has no lower limit.
+pub fn unboundedness_is_shown()
+    ensures { UnboundednessShown }
+{}
+
+/// What a program keeps makes a tree, with node 0 as its root.
+pub fn programs_are_trees()
+    ensures { ProgramsAreTrees }
+{}
+
+/// The recession form of a tree is a tree.
+pub fn recessions_are_trees()
+    ensures { RecessionsAreTrees }
+{}
+
+/// Multipliers that are good on the recession form, and worth at least 0 there, are good.
+pub fn recession_makes_good()
+    ensures { RecessionMakesGood }
+{}
