@@ -68,11 +68,11 @@ column_step n i form t old new all h e l whole rises ends made =
     let next : next_from 0 new ≡ suc t.column = ap (next_from 0) made ∙ next_push 0 t.column t.value old in
     rw (add-one) (
       ap (λ (values : List At). values ++ columns_below n (drop (suc i) form)) made ∙ append_assoc old (at_root t.column t.value ∷ []) (columns_below n (drop (suc i) form))
-        ∙ ap (λ (values : List At). old ++ values) (sym (below_at n i form t h e l)) ∙ whole,
+          ∙ ap (λ (values : List At). old ++ values) (sym (below_at n i form t h e l)) ∙ whole,
       subst (λ k. Ascending k (drop (suc i) form)) (sym next) (ascends_behind (next_from 0 old) i form t h e rises),
       subst (λ (values : List At). EndsBefore values 0 (next_from 0 values)) (sym made)
-        (subst (λ k. EndsBefore (old ++ at_root t.column t.value ∷ []) 0 k) (sym (next_push 0 t.column t.value old))
-          (ends_before_push t.column t.value old (ends_before_more (next_from 0 old) t.column old (ascends_at (next_from 0 old) i form t h e rises) ends)))
+          (subst (λ k. EndsBefore (old ++ at_root t.column t.value ∷ []) 0 k) (sym (next_push 0 t.column t.value old))
+          (ends_before_push t.column t.value old (ends_before_more (next_from 0 old) t.column old (ascends_at (next_from 0 old) i form t h e rises) ends))),
     )
 
 pub row_value_zero : (k : ℕ) (v : ℚ) → v ≡ zero_ℚ → row_value k v ≡ []
@@ -98,9 +98,8 @@ pub row_step : (i : ℕ) (duals : List ℚ) (d : ℚ) (old new all : List At) �
     → old ++ rows_from i (drop i duals) ≡ all → EndsBefore old 0 i → new ≡ old ++ row_value i d
     → (new ++ rows_from (i + 1) (drop (i + 1) duals) ≡ all) × EndsBefore new 0 (i + 1)
 row_step i duals d old new all h e whole ends made =
-    let head : drop i duals ≡ d ∷ drop (suc i) duals = drop-cons duals i d h ∙ ap (λ x. x ∷ drop (suc i) duals) (sym e) in
-    (
+    let head : drop i duals ≡ d ∷ drop (suc i) duals = drop-cons duals i d h ∙ ap (λ x. x ∷ drop (suc i) duals) (sym e) in (
       rw (add-one) (ap (λ (values : List At). values ++ rows_from (suc i) (drop (suc i) duals)) made ∙ append_assoc old (row_value i d) (rows_from (suc i) (drop (suc i) duals))
-        ∙ ap (λ ds. old ++ rows_from i ds) (sym head) ∙ whole),
-      ends_before_row i d old new made ends
+          ∙ ap (λ ds. old ++ rows_from i ds) (sym head) ∙ whole),
+      ends_before_row i d old new made ends,
     )

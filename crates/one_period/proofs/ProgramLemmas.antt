@@ -70,7 +70,7 @@ units : (n j : ℕ) (k : ℕ) (rows : List NodeRow) → AreAtMost n k rows → l
 units n j k [] a = tt
 units n j k (row ∷ rows) a = (record { front = row.entries; below = (a.0).below; is = refl }, units n (suc j) (suc k) rows a.1)
 
-slacks_length : (j : ℕ) (rows : List NodeRow) → length (with_slacks j rows) ≡ length rows
+pub slacks_length : (j : ℕ) (rows : List NodeRow) → length (with_slacks j rows) ≡ length rows
 slacks_length j [] = refl
 slacks_length j (row ∷ rows) = ap suc (slacks_length (suc j) rows)
 

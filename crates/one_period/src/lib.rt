@@ -3,6 +3,8 @@
 
 mod forms;
 mod lists;
+mod report;
 mod standard;
 
+pub use report::solve_program;
 pub use standard::{StandardFault, standard_form};

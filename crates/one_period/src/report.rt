@@ -1,7 +1,10 @@
 //! What an outcome of the simplex method says of a program of one period.
-ghost use Rattle.std.specs.Prelude.{◌≡◌, IfOk};
+ghost use Rattle.std.specs.Prelude.{◌≡◌, IfOk, length};
+ghost use Rattle.scen_defs.specs.Fits.{HaveNames, ListsHaveNames};
+ghost use Rattle.rationals.specs.Passes.{Operation};
+ghost use Rattle.one_period.specs.Solved.{IsSolved, IsBest, IsEndless, left_open};
 
-use crate::lists::{column_values, row_values};
+use crate::lists::{dual_values, point_values};
 use crate::standard::{StandardFault, standard_form};
 use frac128::{Form, Frac, Memory, Passed};
 use scen_defs::{Finding, Halt, Place, Program, Report, Values};
@@ -13,7 +16,9 @@ use std::alloc::Global;
 const SOLVE: u64 = 1;
 
 /// Solves a program of one period in at most `pivots` pivots, and reports what was found.
-pub fn solve_program(alloc: Global, program: &Program, pivots: u64) -> Result<Report, StandardFault> {
+pub fn solve_program(alloc: Global, program: &Program, pivots: u64) -> Result<Report, StandardFault>
+    ensures names { IfOk result (ListsHaveNames program.now) }
+{
     let form = standard_form(alloc, program)?;
     let outcome = solve(alloc, &form, pivots)?;
     let report = reported(alloc, program, outcome)?;
@@ -22,23 +27,13 @@ pub fn solve_program(alloc: Global, program: &Program, pivots: u64) -> Result<Re
 
 /// The report of an outcome.
 fn reported(alloc: Global, program: &Program, outcome: Outcome) -> Result<Report, Memory>
-    requires { length program.now.columns.items < 2 ^ 32 }
-    requires { length program.now.rows.items < 2 ^ 32 }
+    requires { IsSolved program.now outcome }
     ensures { IfOk result (ListsHaveNames program.now) }
 {
-    let columns = program.columns.len() as u64;
     match outcome {
-        Outcome::Optimal { point, duals } => {
-            let policy = column_values(alloc, &point.into_terms(), columns)?;
-            let dual = row_values(alloc, &duals)?;
-            at_best(program, policy, dual)
-        }
-        Outcome::Unbounded { point, ray } => {
-            let policy = column_values(alloc, &point.into_terms(), columns)?;
-            let direction = column_values(alloc, &ray.into_terms(), columns)?;
-            without_end(program, policy, direction)
-        }
-        Outcome::Infeasible { duals: _ } => Ok(left_open(Finding::OpenSolves(SOLVE))),
+        Outcome::Optimal { point, duals } => best(alloc, program, point, &duals),
+        Outcome::Unbounded { point, ray } => endless(alloc, program, point, ray),
+        Outcome::Infeasible { duals: _ } => unreachable!(),
         Outcome::PivotsEnded => Ok(left_open(Finding::OpenPivots(SOLVE))),
         Outcome::Passed(_pivot, passed) => {
             Ok(left_open(Finding::OpenPassed(Place::Solve(SOLVE), passed)))
@@ -46,8 +41,32 @@ fn reported(alloc: Global, program: &Program, outcome: Outcome) -> Result<Report
     }
 }
 
+/// The report of a point and duals that prove each other best.
+fn best(alloc: Global, program: &Program, point: Form, duals: &[Frac]) -> Result<Report, Memory>
+    requires { IsBest program.now point duals.now }
+    ensures names { IfOk result (ListsHaveNames program.now) }
+{
+    let policy = point_values(alloc, program, point)?;
+    let dual = dual_values(alloc, program, duals)?;
+    at_best(program, policy, dual)
+}
+
+/// The report of a point and a ray along which the cost falls without end.
+fn endless(alloc: Global, program: &Program, point: Form, ray: Form) -> Result<Report, Memory>
+    requires { IsEndless program.now point ray }
+    ensures names { IfOk result (ListsHaveNames program.now) }
+{
+    let policy = point_values(alloc, program, point)?;
+    let direction = point_values(alloc, program, ray)?;
+    without_end(program, policy, direction)
+}
+
 /// The report of a policy and a dual that prove each other best.
-fn at_best(program: &Program, policy: Values, dual: Values) -> Result<Report, Memory> {
+fn at_best(program: &Program, policy: Values, dual: Values) -> Result<Report, Memory>
+    requires policy { HaveNames (length program.now.columns.items) policy }
+    requires dual { HaveNames (length program.now.rows.items) dual }
+    ensures { IfOk result (ListsHaveNames program.now) }
+{
     let upper = match cost(program, &policy) {
         Ok(upper) => upper,
         Err(halt) => return stopped(Place::Cost(SOLVE), halt),
@@ -68,7 +87,11 @@ fn at_best(program: &Program, policy: Values, dual: Values) -> Result<Report, Me
 }
 
 /// The report of a policy and a direction in which the cost falls without end.
-fn without_end(program: &Program, policy: Values, direction: Values) -> Result<Report, Memory> {
+fn without_end(program: &Program, policy: Values, direction: Values) -> Result<Report, Memory>
+    requires policy { HaveNames (length program.now.columns.items) policy }
+    requires direction { HaveNames (length program.now.columns.items) direction }
+    ensures { IfOk result (ListsHaveNames program.now) }
+{
     let upper = match cost(program, &policy) {
         Ok(upper) => upper,
         Err(halt) => return stopped(Place::Cost(SOLVE), halt),
@@ -89,7 +112,9 @@ fn without_end(program: &Program, policy: Values, direction: Values) -> Result<R
 }
 
 /// The report with an upper end and the policy that shows it.
-fn with_policy(report: Report, upper: Frac, policy: Values) -> Report {
+fn with_policy(report: Report, upper: Frac, policy: Values) -> Report
+    ensures { result ≡ record report { upper = Some upper; policy = Some policy } }
+{
     Report {
         upper: Some(upper),
         policy: Some(policy),
@@ -98,7 +123,9 @@ fn with_policy(report: Report, upper: Frac, policy: Values) -> Report {
 }
 
 /// The report of a computation that ended early at this place.
-fn stopped(place: Place, halt: Halt) -> Result<Report, Memory> {
+fn stopped(place: Place, halt: Halt) -> Result<Report, Memory>
+    ensures { IfOk result (λ report. (p : Operation) × (report ≡ left_open (Finding.OpenPassed place p))) }
+{
     match halt {
         Halt::Passed(_check, passed) => Ok(left_open(Finding::OpenPassed(place, passed))),
         Halt::Memory => Err(Memory),
@@ -106,7 +133,9 @@ fn stopped(place: Place, halt: Halt) -> Result<Report, Memory> {
 }
 
 /// A report without ends and lists.
-fn left_open(finding: Finding) -> Report {
+fn left_open(finding: Finding) -> Report
+    ensures { result ≡ left_open finding }
+{
     Report {
         number: 1,
         nodes: 1,

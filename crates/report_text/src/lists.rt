@@ -2,7 +2,7 @@
 ghost use Rattle.std.specs.Prelude.{◌≡◌, ◌<◌, ◌++◌, ℕ, List, IfSome, IfOk, OnOk, length, map, slice_index_or, option_map};
 ghost use Rattle.std.specs.List.{flat_map};
 ghost use Rattle.report_text.specs.Text.{value_text, list_text, lists_text, column_names, row_names};
-ghost use Rattle.report_text.specs.Fits.{HaveNames, ListsHaveNames};
+ghost use Rattle.scen_defs.specs.Fits.{HaveNames, ListsHaveNames};
 
 use crate::pieces::{put, put_count};
 use frac128::{Memory, print};

@@ -1,7 +1,7 @@
 //! The text of a report.
 ghost use Rattle.std.specs.Prelude.{◌≡◌, ◌++◌, OnOk, OnErr};
 ghost use Rattle.report_text.specs.Text.{extra_text, head_text, ends_text, report_text};
-ghost use Rattle.report_text.specs.Fits.{ListsHaveNames};
+ghost use Rattle.scen_defs.specs.Fits.{ListsHaveNames};
 
 use crate::lists::put_lists;
 use crate::pieces::{put, put_count, put_end, put_finding};

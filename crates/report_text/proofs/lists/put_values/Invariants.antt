@@ -1,7 +1,7 @@
 use Rattle.std.proofs.Common.{◌≡◌, ◌++◌, length, map, drop}
 use Rattle.std.specs.List.{flat_map}
 use Rattle.report_text.specs.Text.{value_text}
-use Rattle.report_text.specs.Fits.{HaveNames}
+use Rattle.scen_defs.specs.Fits.{HaveNames}
 use Rattle.report_text.proofs.lists.put_values.Given as goal
 
 abbrev pub invariant-loop-value : goal.invariant-loop-value
