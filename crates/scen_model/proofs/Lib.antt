@@ -1,2 +1,6 @@
 pub mod NodeSteps
 pub mod PlaceSteps
+pub mod WalkEnds
+pub mod CostEnds
+pub mod DualEnds
+pub mod FeasibleEnds

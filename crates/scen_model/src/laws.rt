@@ -1,5 +1,6 @@
 // What holds of every program: weak duality, and what certificates show.
 ghost use Rattle.scen_defs.specs.Laws.{WeakDuality, InfeasibilityShown, UnboundednessShown, ProgramsAreTrees, RecessionsAreTrees, RecessionMakesGood};
+ghost use Rattle.scen_model.specs.Laws.{CostLaw, DualLaws, FeasibleLaws, DirectionLaws};
 
 /// The value of good multipliers is at most the cost of a feasible point.
 pub fn weak_duality_holds()
@@ -29,4 +30,26 @@ pub fn recessions_are_trees()
 /// Multipliers that are good on the recession form, and worth at least 0 there, are good.
 pub fn recession_makes_good()
     ensures { RecessionMakesGood }
+{}
+
+/// Where the walk over the cost comes to its end, its value is the cost.
+pub fn costs_are_exact()
+    ensures { CostLaw }
+{}
+
+/// Where the walk over the value of multipliers comes to its end, they are good and it is their value;
+/// where an end decides, they are not good.
+pub fn duals_are_exact()
+    ensures { DualLaws }
+{}
+
+/// Where the walk over bounds and rows comes to its end, the point is feasible; where a test decides, it
+/// is not.
+pub fn tests_are_exact()
+    ensures { FeasibleLaws }
+{}
+
+/// Where the walk over a direction comes to its end, it is one; where a test decides, it is not.
+pub fn directions_are_exact()
+    ensures { DirectionLaws }
 {}

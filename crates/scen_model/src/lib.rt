@@ -15,7 +15,8 @@ pub use costs::cost;
 pub use duals::{dual_value, zero_value};
 pub use feasibility::{feasible, is_direction};
 pub use laws::{
-    infeasibility_is_shown, programs_are_trees, recession_makes_good, recessions_are_trees,
+    costs_are_exact, directions_are_exact, duals_are_exact, infeasibility_is_shown,
+    programs_are_trees, recession_makes_good, recessions_are_trees, tests_are_exact,
     unboundedness_is_shown, weak_duality_holds,
 };
 pub use scen_defs::{

@@ -1,0 +1,103 @@
+-- What a walk that came to its end, or was stopped, went through.
+use Rattle.std.proofs.Common.{◌≡◌, ℕ, Bool, true, false, List, [], ◌∷◌, Result, Ok, Err, refl, sym, ap, subst, ◌∙◌}
+use Rattle.rationals.specs.declared.Op.TheVariants.{Add, Mul}
+use Rattle.rationals.specs.Rational.{ℚ, zero_ℚ, one_ℚ, ◌+ℚ◌, ◌-ℚ◌, ◌*ℚ◌, by_eqs, by_ring, terms, add_zero_ℚ}
+use Rattle.rationals.specs.Ring.Eqs.{done, by_eq}
+use Rattle.rationals.specs.Passes.{Operation, add_walk, sub_walk, mul_walk, then_walk}
+use Rattle.rationals.specs.Sums.{sum_ℚ}
+use Rattle.rationals.specs.Sparse.{Entry, product, value_if}
+use Rattle.rationals.proofs.WalkLaws.{walk_value}
+use Rattle.scen_defs.specs.Lists.{Each, is_in, pick}
+use Rattle.scen_defs.specs.Program.{Scenario}
+use Rattle.scen_model.specs.declared.stop.Stop.{Stop}
+use Rattle.scen_model.specs.declared.stop.Stop.TheVariants.{Decided, Passed}
+use Rattle.scen_model.specs.Walks.{fold_walk, add_product, product_from, total_from, stopping}
+
+-- one walk and then another
+pub record Ended {A B P : Type 0} (first : Result A P) (next : A → Result B P) (b : B) : Type 0 where
+  pub result : A
+  pub first_is : first ≡ Ok result
+  pub next_is : next result ≡ Ok b
+
+pub ended : {A B P : Type 0} (first : Result A P) (next : A → Result B P) (b : B) → then_walk first next ≡ Ok b → Ended first next b
+ended (Ok a) next b e = record { result = a; first_is = refl; next_is = e }
+ended (Err p) next b e = absurd (cc)
+
+pub data Decides {A B : Type 0} (first : Result A Stop) (next : A → Result B Stop) : Type 0 where
+  at_first : first ≡ Err Decided → Decides first next
+  at_next : (a : A) → first ≡ Ok a → next a ≡ Err Decided → Decides first next
+
+pub decides : {A B : Type 0} (first : Result A Stop) (next : A → Result B Stop) → then_walk first next ≡ Err Decided → Decides first next
+decides (Ok a) next e = at_next a refl e
+decides (Err s) next e = at_first (let d : s ≡ Decided = cc in ap Err d)
+
+pub stopping-ends : {A : Type 0} (w : Result A Operation) (a : A) → stopping w ≡ Ok a → w ≡ Ok a
+stopping-ends (Ok b) a e = let d : b ≡ a = cc in ap Ok d
+stopping-ends (Err p) a e = absurd (cc)
+
+pub stopping-decided : {A : Type 0} (w : Result A Operation) → stopping w ≡ Err Decided → ⊥
+stopping-decided (Ok b) e = absurd (cc)
+stopping-decided (Err p) e = absurd (cc)
+
+-- ---- step after step
+module _ {A P : Type 0} (f : ℚ → A → Result ℚ P) (g : A → ℚ) where
+  pub fold-adds : ((s : ℚ) (a : A) (t : ℚ) → f s a ≡ Ok t → t ≡ s +ℚ g a) → (s : ℚ) (xs : List A) (q : ℚ) → fold_walk f s xs ≡ Ok q → q ≡ s +ℚ sum_ℚ g xs
+  fold-adds h s [] q e = let d : q ≡ s = cc in d ∙ sym (add_zero_ℚ s)
+  fold-adds h s (x ∷ xs) q e =
+      let one = ended (f s x) (λ t. fold_walk f t xs) q e in
+      let r : q ≡ one.result +ℚ sum_ℚ g xs = fold-adds h one.result xs q one.next_is in
+      let t : one.result ≡ s +ℚ g x = h s x one.result one.first_is in
+      by_eqs (q ∷ s ∷ one.result ∷ g x ∷ sum_ℚ g xs ∷ []) (by_eq one_ℚ r (by_eq one_ℚ t done)) (search terms depth 40) tt
+
+  pub fold-takes : ((s : ℚ) (a : A) (t : ℚ) → f s a ≡ Ok t → t ≡ s -ℚ g a) → (s : ℚ) (xs : List A) (q : ℚ) → fold_walk f s xs ≡ Ok q → q ≡ s -ℚ sum_ℚ g xs
+  fold-takes h s [] q e = let d : q ≡ s = cc in d ∙ by_ring (s ∷ []) (search terms depth 40) tt
+  fold-takes h s (x ∷ xs) q e =
+      let one = ended (f s x) (λ t. fold_walk f t xs) q e in
+      let r : q ≡ one.result -ℚ sum_ℚ g xs = fold-takes h one.result xs q one.next_is in
+      let t : one.result ≡ s -ℚ g x = h s x one.result one.first_is in
+      by_eqs (q ∷ s ∷ one.result ∷ g x ∷ sum_ℚ g xs ∷ []) (by_eq one_ℚ r (by_eq one_ℚ t done)) (search terms depth 40) tt
+
+pub fold-each : {A S P : Type 0} (f : S → A → Result S P) (G : A → Type 0) → ((s : S) (a : A) (t : S) → f s a ≡ Ok t → G a) → (s : S) (xs : List A) (q : S) → fold_walk f s xs ≡ Ok q → Each G xs
+fold-each f G h s [] q e = tt
+fold-each f G h s (x ∷ xs) q e = let one = ended (f s x) (λ t. fold_walk f t xs) q e in (h s x one.result one.first_is, fold-each f G h one.result xs q one.next_is)
+
+pub fold-decided : {A S : Type 0} (f : S → A → Result S Stop) (G : A → Type 0) → ((s : S) (a : A) → f s a ≡ Err Decided → G a → ⊥) → (s : S) (xs : List A) → fold_walk f s xs ≡ Err Decided → Each G xs → ⊥
+fold-decided f G h s [] e g = absurd (cc)
+fold-decided {A} {S} f G h s (x ∷ xs) e g = go (decides (f s x) (λ t. fold_walk f t xs) e) (λ t k. fold-decided f G h t xs k g.1)
+  where
+    go : Decides (f s x) (λ t. fold_walk f t xs) → ((t : S) → fold_walk f t xs ≡ Err Decided → ⊥) → ⊥
+    go (at_first d) rest = h s x d g.0
+    go (at_next t d k) rest = rest t k
+
+-- ---- sums
+pub add_product-ends : (s a b q : ℚ) → add_product s a b ≡ Ok q → q ≡ s +ℚ a *ℚ b
+add_product-ends s a b q e =
+    let one = ended (mul_walk a b) (λ p. add_walk s p) q e in
+    walk_value Add s one.result q one.next_is ∙ ap (λ p. s +ℚ p) (walk_value Mul a b one.result one.first_is)
+
+pub product_from-ends : (x : ℕ → ℚ) (s : ℚ) (es : List Entry) (q : ℚ) → product_from x s es ≡ Ok q → q ≡ s +ℚ product es x
+product_from-ends x s [] q e = let d : q ≡ s = cc in d ∙ sym (add_zero_ℚ s)
+product_from-ends x s (d ∷ es) q e =
+    let one = ended (add_product s d.value (x d.column)) (λ t. product_from x t es) q e in
+    let r : q ≡ one.result +ℚ product es x = product_from-ends x one.result es q one.next_is in
+    let t : one.result ≡ s +ℚ d.value *ℚ x d.column = add_product-ends s d.value (x d.column) one.result one.first_is in
+    by_eqs (q ∷ s ∷ one.result ∷ d.value ∷ x d.column ∷ product es x ∷ []) (by_eq one_ℚ r (by_eq one_ℚ t done)) (search terms depth 40) tt
+
+through : ℕ → List Scenario → ℚ
+through n cs = sum_ℚ (λ (c : Scenario). value_if (is_in n c.path) c.probability) cs
+
+pub total_from-ends : (n : ℕ) (s : ℚ) (cs : List Scenario) (q : ℚ) → total_from n s cs ≡ Ok q → q ≡ s +ℚ sum_ℚ (λ (c : Scenario). value_if (is_in n c.path) c.probability) cs
+unfolding through
+total_from-ends n s [] q e = let d : q ≡ s = cc in d ∙ sym (add_zero_ℚ s)
+total_from-ends n s (c ∷ cs) q e = go (is_in n c.path) e (λ t r k. total_from-ends n t cs r k)
+  where
+    go : (b : Bool) → pick b (then_walk (add_walk s c.probability) (λ t. total_from n t cs)) (total_from n s cs) ≡ Ok q
+        → ((t r : ℚ) → total_from n t cs ≡ Ok r → r ≡ t +ℚ through n cs) → q ≡ s +ℚ (value_if b c.probability +ℚ through n cs)
+    go true e rest =
+        let one = ended (add_walk s c.probability) (λ t. total_from n t cs) q e in
+        let r : q ≡ one.result +ℚ through n cs = rest one.result q one.next_is in
+        let t : one.result ≡ s +ℚ c.probability = walk_value Add s c.probability one.result one.first_is in
+        by_eqs (q ∷ s ∷ one.result ∷ c.probability ∷ through n cs ∷ []) (by_eq one_ℚ r (by_eq one_ℚ t done)) (search terms depth 40) tt
+    go false e rest =
+        let r : q ≡ s +ℚ through n cs = rest s q e in
+        by_eqs (q ∷ s ∷ through n cs ∷ []) (by_eq one_ℚ r done) (search terms depth 40) tt
