@@ -4,3 +4,5 @@ pub mod StepOk
 pub mod TermKept
 pub mod KeptLemmas
 pub mod CoreLemmas
+pub mod Filing
+pub mod ValueLemmas

@@ -51,7 +51,7 @@ pub within_more : (rows more : ℕ) (terms : List Entry) → rows ≤ more → E
 within_more rows more [] low within = tt
 within_more rows more (term ∷ terms) low within = (omega (arith, within.0), within_more rows more terms low within.1)
 
-nonzero_rises : (start : ℕ) (terms : List Entry) → Ascending start terms → Ascending start (nonzero_terms terms)
+pub nonzero_rises : (start : ℕ) (terms : List Entry) → Ascending start terms → Ascending start (nonzero_terms terms)
 nonzero_rises start [] rises = tt
 nonzero_rises start (term ∷ terms) rises = put_rises (is_zero term.value) start term.column term.value (nonzero_terms terms) rises.0 (nonzero_rises (suc term.column) terms rises.1)
 

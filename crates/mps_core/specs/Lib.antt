@@ -9,3 +9,7 @@ pub mod Core
 pub mod Kept
 pub mod Finished
 pub mod Cause
+pub mod Lines
+pub mod Stated
+pub mod Bounds
+pub mod Means
