@@ -14,7 +14,7 @@ use Rattle.lp_defs.specs.Walks.{Walk, after_ok}
 use Rattle.rationals.specs.Sparse.{Entry, value_if, product, Ascending}
 use Rattle.lp_defs.specs.Path.{Candidate}
 use Rattle.lp_defs.specs.Lines.{Line, value_at, cleared, divided}
-use Rattle.lp_defs.specs.Path.{Row, Tableau, Best, Open, entering, path, pivoted, row_at, cleared_row, cleared_rows}
+use Rattle.lp_defs.specs.Path.{Row, Tableau, Done, Open, entering, path, pivoted, row_at, cleared_row, cleared_rows}
 use Rattle.lp_defs.specs.Linear.{Holds, AllLines, AllRows, Solves, Less, Times, IsTied}
 use Rattle.lp_defs.specs.Ends.{IsChosen, EndsWell, unit, IsPoint, begin}
 use Rattle.lp_defs.specs.Basis.{IsUnits, IsBasic, IsBelow, point}
@@ -248,15 +248,17 @@ basic_driven j i t u h within ne z q =
     basic_pivot j i zero_ℚ t u h within ne (sym (ap (λ (w : ℚ). w *ℚ inv_ℚ a) z ∙ by_ring (inv_ℚ a ∷ []) (search terms depth 40) tt)) (le_refl_ℚ zero_ℚ)
     (all_weaker (λ line. zero_ℚ ≤ℚ line.right) (λ line. zero_ℚ <ℚ value_at line.entries j → zero_ℚ ≤ℚ line.right /ℚ value_at line.entries j) t.rows (λ line k p. mul_nonneg_ℚ line.right (inv_ℚ (value_at line.entries j)) k (inv_nonneg_ℚ p)) h.feasible) q
 
--- the basic columns stay below any number that the entering columns are below
+-- the basic columns stay below any number that the new one is below
+pub below_pivot : (all j i : ℕ) (t u : Tableau) → j < all → i < length t.rows → IsBelow all t → pivoted j i t ≡ Ok u → IsBelow all u
+below_pivot all j i t u l w h q =
+    let p : Pivots j i t u = pivots j i t u q in
+    let r : Row = row_at t.rows i in
+    let others : List Row = remove t.rows i in
+    let below = rows_uninsert (λ s. s.basic < all) others i r (subst (AllRows (λ s. s.basic < all)) (sym (put_back t.rows i w)) h) in
+    subst (AllRows (λ s. s.basic < all)) (sym p.rows) (rows_insert (λ s. s.basic < all) p.others i (record { basic = j; line = p.pivot }) (each_below all j p.pivot others p.others p.each below.0) l)
+
 pub below_keeps : (n all : ℕ) → n ≤ all → Keeps (IsBelow all) n
-below_keeps n all le t u j c h e m q =
-    let p : Pivots j c.index t u = pivots j c.index t u q in
-    let r : Row = row_at t.rows c.index in
-    let others : List Row = remove t.rows c.index in
-    let below = rows_uninsert (λ s. s.basic < all) others c.index r (subst (AllRows (λ s. s.basic < all)) (sym (put_back t.rows c.index m.within)) h) in
-    let l : j < n = entering_below n t.objective.entries j e in
-    subst (AllRows (λ s. s.basic < all)) (sym p.rows) (rows_insert (λ s. s.basic < all) p.others c.index (record { basic = j; line = p.pivot }) (each_below all j p.pivot others p.others p.each below.0) (omega arith))
+below_keeps n all le t u j c h e m q = below_pivot all j c.index t u (let l : j < n = entering_below n t.objective.entries j e in omega arith) m.within h q
 
 -- ---- the point
 product_point : (f : List Entry) (a : ℚ) (u v : ℕ → ℚ) → product f (λ c. a *ℚ u c +ℚ v c) ≡ a *ℚ product f u +ℚ product f v

@@ -5,7 +5,6 @@ pub mod Path
 pub mod Linear
 pub mod Ends
 pub mod Basis
-pub mod TwoPhases
 pub mod Trace
 pub mod Phases
 pub mod Program

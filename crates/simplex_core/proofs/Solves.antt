@@ -3,7 +3,7 @@ use Rattle.std.proofs.Common.{◌≡◌, ℕ, zero, suc, ◌+◌, ◌-◌, List,
 use Rattle.rationals.specs.Rational.{ℚ}
 use Rattle.rationals.specs.Sparse.{Entry, coefficient}
 use Rattle.lp_defs.specs.Lines.{Line}
-use Rattle.lp_defs.specs.Path.{Row, Tableau, Ending, Best, Open, path}
+use Rattle.lp_defs.specs.Path.{Row, Tableau, Ending, Done, Open, path}
 use Rattle.lp_defs.specs.Ends.{begin}
 use Rattle.lp_defs.specs.Basis.{point, ray}
 use Rattle.lp_defs.specs.Program.{Program, IsProgram, EndsInUnits}
@@ -42,13 +42,13 @@ followed p pivots columns forms t e new h k m r = record {
       ∙ ap₂ (λ (n : ℕ) (f : List (List Entry)). path n pivots 0 (begin p.cost (unit_rows (n - length f) p.rows p.right))) h k) r;
 }
 
-pub at_best : (p : Program) (pivots columns made : ℕ) (forms : List (List Entry)) (e : End) (new : Tableau) → e ≡ end.Best made → Followed p pivots columns forms e new → whole p pivots ≡ Best made new
+pub at_best : (p : Program) (pivots columns made : ℕ) (forms : List (List Entry)) (e : End) (new : Tableau) → e ≡ end.Done made → Followed p pivots columns forms e new → whole p pivots ≡ Done made new
 at_best p pivots columns made forms e new h f = subst (λ (x : End). Reached (whole p pivots) x new) h f.reached
 
 pub at_open : (p : Program) (pivots columns j : ℕ) (forms : List (List Entry)) (e : End) (new : Tableau) → e ≡ end.Open j → Followed p pivots columns forms e new → whole p pivots ≡ Open j new
 at_open p pivots columns j forms e new h f = subst (λ (x : End). Reached (whole p pivots) x new) h f.reached
 
-pub differ_at_best : (p : Program) (pivots made : ℕ) (new : Tableau) (rows : List Row) → IsProgram p → EndsInUnits p → whole p pivots ≡ Best made new → rows ≡ new.rows → BasicsDiffer rows
+pub differ_at_best : (p : Program) (pivots made : ℕ) (new : Tableau) (rows : List Row) → IsProgram p → EndsInUnits p → whole p pivots ≡ Done made new → rows ≡ new.rows → BasicsDiffer rows
 differ_at_best p pivots made new rows is u e h = subst BasicsDiffer (sym h) ((basics_at p pivots is u).best made new e)
 
 pub differ_at_open : (p : Program) (pivots j : ℕ) (new : Tableau) (rows : List Row) → IsProgram p → EndsInUnits p → whole p pivots ≡ Open j new → rows ≡ new.rows → BasicsDiffer rows
@@ -57,11 +57,11 @@ differ_at_open p pivots j new rows is u e h = subst BasicsDiffer (sym h) ((basic
 pub apart_at_open : (p : Program) (pivots j : ℕ) (new : Tableau) (rows : List Row) → IsProgram p → EndsInUnits p → whole p pivots ≡ Open j new → rows ≡ new.rows → NotIn j rows
 apart_at_open p pivots j new rows is u e h = subst (NotIn j) (sym h) ((basics_at p pivots is u).open_apart j new e)
 
-pub tells_best : (p : Program) (pivots columns made : ℕ) (forms : List (List Entry)) (e : End) (new : Tableau) (rows : List Row) (objective : Line) (x : List Entry) (y : List ℚ) → Followed p pivots columns forms e new → e ≡ end.Best made → rows ≡ new.rows → objective ≡ new.objective
+pub tells_best : (p : Program) (pivots columns made : ℕ) (forms : List (List Entry)) (e : End) (new : Tableau) (rows : List Row) (objective : Line) (x : List Entry) (y : List ℚ) → Followed p pivots columns forms e new → e ≡ end.Done made → rows ≡ new.rows → objective ≡ new.objective
     → ((c : ℕ) → coefficient x c ≡ point rows c) → y ≡ unit_duals (columns - length forms) (length forms) objective
     → (v : ℕ → ℚ) × (solution p pivots ≡ Optimum v y) × ((c : ℕ) → coefficient x c ≡ v c)
 tells_best p pivots columns made forms e new rows objective x y f h r o px dy =
-    let q : whole p pivots ≡ Best made new = at_best p pivots columns made forms e new h f in
+    let q : whole p pivots ≡ Done made new = at_best p pivots columns made forms e new h f in
     let d : y ≡ unit_duals (p.columns - length p.rows) (length p.rows) new.objective =
     dy ∙ ap (λ (l : Line). unit_duals (columns - length forms) (length forms) l) o ∙ ap₂ (λ (n : ℕ) (g : List (List Entry)). unit_duals (n - length g) (length g) new.objective) f.columns_are f.forms_are in (
       point new.rows,

@@ -37,7 +37,7 @@ fn follow(alloc: Global, program: &Standard, pivots: u64) -> Result<Outcome, Mem
     let mut spare = Vec::new(alloc);
     let end = tableau.follow(columns, pivots, 0, &mut spare)?;
     match end {
-        End::Best(_made) => {
+        End::Done(_made) => {
             let point = point(alloc, tableau.rows())?;
             let duals = unit_duals(alloc, tableau.objective(), first, count)?;
             Ok(Outcome::Optimal { point, duals })

@@ -17,7 +17,7 @@ use std::marker::Model;
 #[derive(Drop)]
 pub enum Step {
     /// No column enters.
-    Best,
+    Done,
     /// This column enters, and no row bounds it.
     Open(u64),
     Pivoted,
@@ -27,7 +27,7 @@ pub enum Step {
 #[derive(Drop)]
 pub enum End {
     /// After so many pivots no column enters.
-    Best(u64),
+    Done(u64),
     /// This column enters, and no row bounds it.
     Open(u64),
     /// One more pivot than allowed would follow.
@@ -111,7 +111,7 @@ impl Tableau {
         ensures { Steps columns self.old result self.new }
     {
         let Some(column) = enter(self.objective.entries(), columns) else {
-            return Ok(Step::Best);
+            return Ok(Step::Done);
         };
         let Some(best) = leave(self.rows.as_slice(), column)? else {
             return Ok(Step::Open(column));
@@ -125,7 +125,7 @@ impl Tableau {
         ensures { Reached (path columns 0 made self.now) result self.now }
     {
         match enter(self.objective.entries(), columns) {
-            None => End::Best(made),
+            None => End::Done(made),
             Some(column) => {
                 if has_above_zero(self.rows.as_slice(), column) {
                     End::PivotsEnded
@@ -149,7 +149,7 @@ impl Tableau {
     {
         for before in made..pivots {
             match self.step(columns, spare) {
-                Ok(Step::Best) => return Ok(End::Best(before)),
+                Ok(Step::Done) => return Ok(End::Done(before)),
                 Ok(Step::Open(column)) => return Ok(End::Open(column)),
                 Ok(Step::Pivoted) => {}
                 Err(fault) => return stopped(fault, before + 1),

@@ -4,14 +4,14 @@ use Rattle.simplex_core.proofs.solver.follow.Goals as goal
 pub point-requires : goal.point-requires
 point-requires c =
     let f : Followed c.args.program.now c.args.pivots c.columns-columns.result c.rows.result.now c.in_ok-end.end c.follow.new.self = followed c.args.program.now c.args.pivots c.columns-columns.result c.rows.result.now c.in_ok-tableau.tableau c.in_ok-end.end c.follow.new.self c.columns-columns.ensures.same c.rows.ensures c.in_ok-tableau.ensures c.in_ok-end.ensures in
-    differ_at_best c.args.program.now c.args.pivots c.in-Best._made c.follow.new.self c.rows-in-Best.result.now c.columns-columns.ensures.is_program c.requires
-    (at_best c.args.program.now c.args.pivots c.columns-columns.result c.in-Best._made c.rows.result.now c.in_ok-end.end c.follow.new.self c.in-Best.is f) c.rows-in-Best.ensures
+    differ_at_best c.args.program.now c.args.pivots c.in-Done._made c.follow.new.self c.rows-in-Done.result.now c.columns-columns.ensures.is_program c.requires
+    (at_best c.args.program.now c.args.pivots c.columns-columns.result c.in-Done._made c.rows.result.now c.in_ok-end.end c.follow.new.self c.in-Done.is f) c.rows-in-Done.ensures
 
-pub returns-in-Best : goal.returns-in-Best
-returns-in-Best c =
+pub returns-in-Done : goal.returns-in-Done
+returns-in-Done c =
     let f : Followed c.args.program.now c.args.pivots c.columns-columns.result c.rows.result.now c.in_ok-end.end c.follow.new.self = followed c.args.program.now c.args.pivots c.columns-columns.result c.rows.result.now c.in_ok-tableau.tableau c.in_ok-end.end c.follow.new.self c.columns-columns.ensures.same c.rows.ensures c.in_ok-tableau.ensures c.in_ok-end.ensures in
-    tells_best c.args.program.now c.args.pivots c.columns-columns.result c.in-Best._made c.rows.result.now c.in_ok-end.end c.follow.new.self c.rows-in-Best.result.now c.objective.result.now c.in_ok-point-in-Best.point c.in_ok-duals-in-Best.duals.items f c.in-Best.is c.rows-in-Best.ensures c.objective.ensures
-    c.in_ok-point-in-Best.ensures c.in_ok-duals-in-Best.ensures
+    tells_best c.args.program.now c.args.pivots c.columns-columns.result c.in-Done._made c.rows.result.now c.in_ok-end.end c.follow.new.self c.rows-in-Done.result.now c.objective.result.now c.in_ok-point-in-Done.point c.in_ok-duals-in-Done.duals.items f c.in-Done.is c.rows-in-Done.ensures c.objective.ensures
+    c.in_ok-point-in-Done.ensures c.in_ok-duals-in-Done.ensures
 
 pub point-requires-in-Open : goal.point-requires-in-Open
 point-requires-in-Open c =

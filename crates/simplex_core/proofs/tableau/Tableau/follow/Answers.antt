@@ -1,8 +1,8 @@
 use Rattle.simplex_core.proofs.Follows.{best_here, open_here, further_here, stops_here}
 use Rattle.simplex_core.proofs.tableau.Tableau.follow.Goals as goal
 
-pub returns-in-Ok-Best : goal.returns-in-Ok-Best
-returns-in-Ok-Best c = best_here c.args.columns c.args.pivots c.loop-before.before c.loop-before.self c.step.new.self _ c.in-Ok-Best.field-0 c.loop-before-test.true c.loop-before.invariant c.in-Ok-Best.field-0-is c.in-Ok-Best.ensures
+pub returns-in-Ok-Done : goal.returns-in-Ok-Done
+returns-in-Ok-Done c = best_here c.args.columns c.args.pivots c.loop-before.before c.loop-before.self c.step.new.self _ c.in-Ok-Done.field-0 c.loop-before-test.true c.loop-before.invariant c.in-Ok-Done.field-0-is c.in-Ok-Done.ensures
 
 pub returns-in-Ok-Open : goal.returns-in-Ok-Open
 returns-in-Ok-Open c = open_here c.args.columns c.args.pivots c.loop-before.before c.in-Ok-Open.column c.loop-before.self c.step.new.self _ c.in-Ok-Open.field-0 c.loop-before-test.true c.loop-before.invariant c.in-Ok-Open.field-0-is c.in-Ok-Open.ensures
