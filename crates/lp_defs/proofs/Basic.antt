@@ -16,6 +16,7 @@ use Rattle.lp_defs.specs.Path.{Candidate}
 use Rattle.lp_defs.specs.Lines.{Line, value_at, cleared, divided}
 use Rattle.lp_defs.specs.Path.{Row, Tableau, Done, Open, entering, path, pivoted, row_at, cleared_row, cleared_rows}
 use Rattle.lp_defs.specs.Linear.{Holds, AllLines, AllRows, Solves, Less, Times, IsTied}
+use Rattle.lp_defs.specs.Stages.{Three, HasRisen}
 use Rattle.lp_defs.specs.Ends.{IsChosen, EndsWell, unit, IsPoint, begin}
 use Rattle.lp_defs.specs.Basis.{IsUnits, IsBasic, IsBelow, point}
 use Rattle.lp_defs.proofs.Linear.{cleared_is, divided_is}
@@ -173,11 +174,7 @@ rows_rise j pivot (r ∷ rows) d all p h g e =
     lines_join P [] b h k = k
     lines_join P (r ∷ a) b h k = (h.0, lines_join P a b h.1 k)
 
-pub record HasRisen (u : Tableau) : Type 0 where
-  pub rows : AllLines (λ line. Ascending 0 line.entries) u.rows
-  pub objective : Ascending 0 u.objective.entries
-
-pivot_rises : (j i : ℕ) (t u : Tableau) → i < length t.rows → AllLines (λ line. Ascending 0 line.entries) t.rows → Ascending 0 t.objective.entries → pivoted j i t ≡ Ok u → HasRisen u
+pub pivot_rises : (j i : ℕ) (t u : Tableau) → i < length t.rows → AllLines (λ line. Ascending 0 line.entries) t.rows → Ascending 0 t.objective.entries → pivoted j i t ≡ Ok u → HasRisen u
 pivot_rises j i t u w h o e =
     let line : Line = (row_at t.rows i).line in
     let a = after_ok (divided (value_at line.entries j) line) (λ pivot. then_walk (cleared_rows j pivot (remove t.rows i) []) (λ rows. then_walk (cleared j pivot t.objective) (λ objective. Ok (record { rows = insert rows i (record { basic = j; line = pivot }); objective = objective })))) u e in
@@ -316,9 +313,6 @@ Both cost rows t = IsTied cost rows t × IsBasic t
 
 pub both_keep : (n : ℕ) (cost : List Entry) (rows : List Row) → Keeps (Both cost rows) n
 both_keep n cost rows t u j c h e m q = (tied_keeps n cost rows t u j c h.0 e m q, basic_keeps n t u j c h.1 e m q)
-
-abbrev pub Three : ℕ → List Entry → List Row → Tableau → Type 0
-Three all cost rows t = IsTied cost rows t × IsBasic t × IsBelow all t
 
 pub three_keep : (n all : ℕ) (cost : List Entry) (rows : List Row) → n ≤ all → Keeps (Three all cost rows) n
 three_keep n all cost rows le t u j c h e m q = (tied_keeps n cost rows t u j c h.0 e m q, basic_keeps n t u j c h.1 e m q, below_keeps n all le t u j c h.2 e m q)

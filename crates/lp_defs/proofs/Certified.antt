@@ -19,12 +19,13 @@ use Rattle.lp_defs.specs.Phases.{unit_rows, with_units, unit_costs, cost_line, p
 use Rattle.lp_defs.specs.Program.{Program, IsProgram}
 use Rattle.lp_defs.specs.Solution.{Solution, counted, first_rows, first_cost, first_end, second_end, second, between, solution, Nowhere, Passes}
 use Rattle.lp_defs.specs.Certificates.{IsNonnegative, IsFeasible, IsDual, IsOptimal, IsInfeasible, IsRay, IsUnbounded, IsCertified, SolutionsAreCertified, column_of, reduced_cost}
+use Rattle.lp_defs.specs.Stages.{all_columns, First, Second}
 use Rattle.lp_defs.proofs.Basic.{value_is, point_of, entering_below}
 use Rattle.lp_defs.proofs.Rays.{ray_of}
 use Rattle.lp_defs.proofs.Phases.{duals_of}
 use Rattle.lp_defs.proofs.Starts.{units_of, units_at_end, length_with_units, free_at_units, meets_of, stays_of, column_is, right_is, costs_rise, costs_below, cost_is_one}
-use Rattle.lp_defs.proofs.Settled.{Settled, point_ends, ray_ends}
-use Rattle.lp_defs.proofs.Ready.{all_columns, First, first_units, first_begins, first_path, driving_begins, EndsDriven, driven_well, Second, second_begins, second_path}
+use Rattle.lp_defs.proofs.Settled.{point_ends, ray_ends}
+use Rattle.lp_defs.proofs.Ready.{first_units, first_begins, first_path, driving_begins, EndsDriven, driven_well, second_begins, second_path}
 
 -- ---- duals by column
 
@@ -146,7 +147,7 @@ module _ (p : Program) (is : IsProgram p) where
   between_certified pivots (Driven_out k t) h = go (priced p.cost t.rows (cost_line p.cost)) refl
     where
       go : (w : Walk Line) → priced p.cost t.rows (cost_line p.cost) ≡ w → IsCertified p (counted k w (λ o. second_end p (path p.columns (pivots - k) k (record { rows = t.rows; objective = o }))))
-      go (Ok o) e = second_certified (path p.columns (pivots - k) k (record { rows = t.rows; objective = o })) (second_path p (pivots - k) k (record { rows = t.rows; objective = o }) (second_begins p t o is h.0 h.1 e))
+      go (Ok o) e = second_certified (path p.columns (pivots - k) k (record { rows = t.rows; objective = o })) (second_path p (pivots - k) k (record { rows = t.rows; objective = o }) (second_begins p t o is h e))
       go (Err q) e = tt
   between_certified pivots Driven_long h = tt
   between_certified pivots (Driven_stop k o) h = tt

@@ -17,15 +17,16 @@ use Rattle.lp_defs.specs.Trace.{NotIn}
 use Rattle.lp_defs.specs.Program.{Program, IsProgram}
 use Rattle.lp_defs.specs.Phases.{unit_rows, with_units, unit_costs, cost_line, priced, nonzero_below, replacing, Driven, Driven_out, Driven_long, Driven_stop, driven_by, driven_at, driven}
 use Rattle.lp_defs.specs.Solution.{first_rows, first_cost}
+use Rattle.lp_defs.specs.Stages.{Three, all_columns, First, Driving, IsEmptyBelow, Settled, DrivenOut, Second}
 use Rattle.lp_defs.proofs.Rows.{Pivots, pivots}
 use Rattle.lp_defs.proofs.Choice.{path_keeps, Keeps}
 use Rattle.lp_defs.proofs.Best.{start_spans}
-use Rattle.lp_defs.proofs.Basic.{value_is, Both, Three, three_keep, point_of, below_pivot, entering_below}
+use Rattle.lp_defs.proofs.Basic.{value_is, Both, three_keep, point_of, below_pivot, entering_below}
 use Rattle.lp_defs.proofs.Rays.{ray_of, entering_falls}
 use Rattle.lp_defs.proofs.Phases.{priced_start, driven_keeps, rows_zip}
 use Rattle.lp_defs.proofs.Twice.{point_at}
 use Rattle.lp_defs.proofs.Starts.{units_of, units_at_end, length_with_units, basics_below, rows_rise, rights_above, costs_rise, costs_above, costs_zero}
-use Rattle.lp_defs.proofs.Settled.{IsEmptyBelow, Settled, FirstSettled, settled_pivot, all_first, first_more, first_pivot, pivot_long, nonzero_is, none_is_empty}
+use Rattle.lp_defs.proofs.Settled.{FirstSettled, settled_pivot, all_first, first_more, first_pivot, pivot_long, nonzero_is, none_is_empty}
 
 pub all_at : (P : Row → Type 0) (rows : List Row) (i : ℕ) → i < length rows → AllRows P rows → P (row_at rows i)
 all_at P [] i h a = absurd (omega arith)
@@ -45,12 +46,6 @@ apart_entering f j (r ∷ rows) a h z = (
 )
 
 -- ---- phase one
-
-abbrev pub all_columns : Program → ℕ
-all_columns p = p.columns + length p.rows
-
-abbrev pub First : Program → Tableau → Type 0
-First p t = Three (all_columns p) (first_cost p) (first_rows p) t
 
 pub first_units : (p : Program) → IsProgram p → IsUnits (first_rows p)
 first_units p is = units_of p.columns p.columns (with_units p.columns p.rows) p.right (le_refl p.columns) (units_at_end p.columns p.columns p.rows is.rows)
@@ -72,11 +67,6 @@ never_open p j t h e open_at =
     not_le_of_lt_ℚ r.falls (costs_above p.columns (length p.rows) (ray j t.rows) (λ c. (r.direction c).0))
 
 -- ---- the pivots on artificial columns that are left
-
--- the artificial columns are 0
-pub record Driving (p : Program) (t : Tableau) : Type 0 where
-  pub first : First p t
-  pub none : t.objective.right ≡ zero_ℚ
 
 pub driving_begins : (p : Program) (t : Tableau) → First p t → zero_ℚ ≤ℚ t.objective.right → Driving p t
 driving_begins p t h le =
@@ -107,7 +97,7 @@ driving_pivot p j i t u d h l n ne q =
 
 -- what holds when all are driven out
 abbrev pub EndsDriven : Program → Driven → Type 0
-EndsDriven p (Driven_out k t) = Driving p t × AllRows (Settled p.columns) t.rows
+EndsDriven p (Driven_out k t) = DrivenOut p t
 EndsDriven p Driven_long = Unit {0}
 EndsDriven p (Driven_stop k o) = Unit {0}
 
@@ -139,7 +129,7 @@ replaces n j r a e = go (ltb r.basic n) refl e
     }
 
 driven_ends : (p : Program) (rows i left k : ℕ) (t : Tableau) → i + rows ≡ length t.rows → Driving p t → FirstSettled p.columns i t.rows → EndsDriven p (driven p.columns rows i left k t)
-driven_ends p zero i left k t h d f = let e : i ≡ length t.rows = omega arith in (d, all_first p.columns t.rows (subst (λ (m : ℕ). FirstSettled p.columns m t.rows) e f))
+driven_ends p zero i left k t h d f = let e : i ≡ length t.rows = omega arith in record { driving = d; settled = all_first p.columns t.rows (subst (λ (m : ℕ). FirstSettled p.columns m t.rows) e f) }
 driven_ends p (suc rows) i left k t h d f = go left (replacing p.columns (row_at t.rows i)) refl (λ left k u e d f. driven_ends p rows (i + 1) left k u e d f)
   where
     next : (j left : ℕ) (w : Walk Tableau) → replacing p.columns (row_at t.rows i) ≡ Some j → pivoted j i t ≡ w
@@ -166,15 +156,11 @@ driven_well p left k t d = driven_ends p (length t.rows) 0 left k t (omega arith
 
 -- ---- phase two
 
-pub record Second (p : Program) (t : Tableau) : Type 0 where
-  pub three : Three (all_columns p) p.cost (first_rows p) t
-  pub settled : AllRows (Settled p.columns) t.rows
-
-pub second_begins : (p : Program) (t : Tableau) (o : Line) → IsProgram p → Driving p t → AllRows (Settled p.columns) t.rows → priced p.cost t.rows (cost_line p.cost) ≡ Ok o → Second p (record { rows = t.rows; objective = o })
-second_begins p t o is d s e =
+pub second_begins : (p : Program) (t : Tableau) (o : Line) → IsProgram p → DrivenOut p t → priced p.cost t.rows (cost_line p.cost) ≡ Ok o → Second p (record { rows = t.rows; objective = o })
+second_begins p t o is out e =
     let b : Both p.cost (first_rows p) (record { rows = t.rows; objective = o }) =
-    priced_start p.cost (first_rows p) t.rows o is.cost.form.rises d.first.1.rows_rise d.first.1.units d.first.1.feasible d.first.0.spans d.first.0.back e in
-    record { three = (b.0, b.1, d.first.2); settled = s }
+    priced_start p.cost (first_rows p) t.rows o is.cost.form.rises out.driving.first.1.rows_rise out.driving.first.1.units out.driving.first.1.feasible out.driving.first.0.spans out.driving.first.0.back e in
+    record { three = (b.0, b.1, out.driving.first.2); settled = out.settled }
 
 second_keeps : (p : Program) → Keeps (Second p) p.columns
 second_keeps p t u j c h e m q = record {

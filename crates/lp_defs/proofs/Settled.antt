@@ -11,19 +11,12 @@ use Rattle.lp_defs.specs.Path.{Row, Tableau, Candidate, entering, pivoted, row_a
 use Rattle.lp_defs.specs.Linear.{AllLines, AllRows, Less}
 use Rattle.lp_defs.specs.Ends.{unit, IsChosen}
 use Rattle.lp_defs.specs.Basis.{point, ray}
+use Rattle.lp_defs.specs.Stages.{IsEmptyBelow, Settled}
 use Rattle.lp_defs.specs.Phases.{nonzero_below, replacing}
 use Rattle.lp_defs.proofs.Rows.{Each, Pivots, pivots, put_back, all_uninsert}
 use Rattle.lp_defs.proofs.Choice.{Keeps}
 use Rattle.lp_defs.proofs.Basic.{value_is, rows_insert, rows_uninsert, entering_below}
 use Rattle.lp_defs.proofs.Phases.{minus_zero}
-
--- no column below n has a value
-pub record IsEmptyBelow (n : ℕ) (r : Row) : Type 0 where
-  pub entries : (c : ℕ) → c < n → product r.line.entries (unit c) ≡ zero_ℚ
-  pub right : r.line.right ≡ zero_ℚ
-
-abbrev pub Settled : ℕ → Row → Type 0
-Settled n r = (r.basic < n) ⊎ IsEmptyBelow n r
 
 pub settled_stays : (n j : ℕ) (pivot : Line) (r s : Row) → j < n → Ascending 0 r.line.entries → s.basic ≡ r.basic → Less (value_at r.line.entries j) r.line pivot s.line → Settled n r → Settled n s
 settled_stays n j pivot r s l a b k (inl h) = inl (omega arith)
@@ -40,11 +33,7 @@ each_settled n j pivot [] (s ∷ ns) l e a h = absurd e
 each_settled n j pivot (r ∷ rs) [] l e a h = absurd e
 each_settled n j pivot (r ∷ rs) (s ∷ ns) l e a h = (settled_stays n j pivot r s l a.0 e.0 e.1 h.0, each_settled n j pivot rs ns l e.2 a.1 h.1)
 
--- the pivots of phase two keep them
-pub record AllSettled (n : ℕ) (t : Tableau) : Type 0 where
-  pub rise : AllLines (λ line. Ascending 0 line.entries) t.rows
-  pub settled : AllRows (Settled n) t.rows
-
+-- a pivot keeps them
 pub settled_pivot : (n j i : ℕ) (t u : Tableau) → j < n → i < length t.rows → AllLines (λ line. Ascending 0 line.entries) t.rows → AllRows (Settled n) t.rows → pivoted j i t ≡ Ok u → AllRows (Settled n) u.rows
 settled_pivot n j i t u l h a s q =
     let p : Pivots j i t u = pivots j i t u q in

@@ -35,10 +35,10 @@ ended_at n j b f h u =
     ∙ product-append u.front (record { column = j; value = one_ℚ } ∷ []) (unit b)
     ∙ by_eqs (product u.front (unit b) ∷ value_if (eqb j b) one_ℚ ∷ []) (by_eq one_ℚ (none_above n b u.front h u.below) done) (search terms depth 40) tt
 
-own_unit : (n j : ℕ) (f : List Entry) → n ≤ j → EndsInUnit n j f → product f (unit j) ≡ one_ℚ
+pub own_unit : (n j : ℕ) (f : List Entry) → n ≤ j → EndsInUnit n j f → product f (unit j) ≡ one_ℚ
 own_unit n j f h u = ended_at n j j f h u ∙ ap (λ (b : Bool). value_if b one_ℚ) (eq-eqb j j refl)
 
-other_unit : (n j b : ℕ) (f : List Entry) → n ≤ b → (j ≡ b → ⊥) → EndsInUnit n j f → product f (unit b) ≡ zero_ℚ
+pub other_unit : (n j b : ℕ) (f : List Entry) → n ≤ b → (j ≡ b → ⊥) → EndsInUnit n j f → product f (unit b) ≡ zero_ℚ
 other_unit n j b f h ne u = ended_at n j b f h u ∙ ap (λ (b : Bool). value_if b one_ℚ) (ne_eqb j b ne)
 
 -- rows from column k on, of which k is above j

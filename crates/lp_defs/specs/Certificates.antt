@@ -3,7 +3,7 @@ use Rattle.std.specs.Prelude.{◌≡◌, ℕ, ◌<◌, ◌≤◌, List, [], ◌�
 use Rattle.rationals.specs.Rational.{ℚ, zero_ℚ, ◌-ℚ◌, ◌≤ℚ◌, ◌<ℚ◌}
 use Rattle.rationals.specs.Sums.{dot}
 use Rattle.rationals.specs.Sparse.{Entry, coefficient, product}
-use Rattle.lp_defs.specs.Program.{Program, IsProgram}
+use Rattle.lp_defs.specs.Program.{Program, IsProgram, EndsInUnits}
 use Rattle.lp_defs.specs.Solution.{Solution, Optimum, Nowhere, Endless, Cut_off, Passes, solution}
 
 -- each form has the value of its right side at x
@@ -74,3 +74,7 @@ IsCertified p (Passes k o) = Unit {0}
 
 abbrev pub SolutionsAreCertified : Type 0
 SolutionsAreCertified = (p : Program) (pivots : ℕ) → IsProgram p → IsCertified p (solution p pivots)
+
+-- a program whose last columns, one for each row, are unit columns is never infeasible
+abbrev pub UnitColumnsAreFeasible : Type 0
+UnitColumnsAreFeasible = (p : Program) (y : List ℚ) → IsProgram p → EndsInUnits p → IsInfeasible p y → ⊥

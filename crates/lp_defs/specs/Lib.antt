@@ -11,3 +11,4 @@ pub mod Program
 pub mod Certificates
 pub mod Solution
 pub mod Placed
+pub mod Stages
