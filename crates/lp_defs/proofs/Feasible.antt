@@ -29,9 +29,9 @@ none_above n j (f ∷ rows) (q ∷ right) (v ∷ y) l a b h k s =
     let low : v ≤ℚ zero_ℚ = by_linear (v ∷ coefficient f j ∷ dot y (column_of rows j) ∷ []) (fact here (equal (ap (λ (w : ℚ). v *ℚ w) one) (equal (dot_later n (suc j) j rows y l (omega arith) a.1) nothing))) (search terms depth 40) tt in
     let first : q *ℚ v ≤ℚ q *ℚ zero_ℚ = mul_mono_ℚ b.0 low in
     let rest : dot y right ≤ℚ zero_ℚ = none_above n (suc j) rows right y (omega arith) a.1 b.1 (omega arith) (omega arith) (λ c p r.
-        let g : v *ℚ coefficient f c +ℚ dot y (column_of rows c) ≤ℚ zero_ℚ = s c (omega arith) (omega arith) in
-        let z : coefficient f c ≡ zero_ℚ = coefficient_is f c ∙ other_unit n j c f (omega arith) (λ e. omega arith) a.0 in
-        by_linear (v ∷ coefficient f c ∷ dot y (column_of rows c) ∷ []) (fact g (equal (ap (λ (w : ℚ). v *ℚ w) z) nothing)) (search terms depth 40) tt) in
+    let g : v *ℚ coefficient f c +ℚ dot y (column_of rows c) ≤ℚ zero_ℚ = s c (omega arith) (omega arith) in
+    let z : coefficient f c ≡ zero_ℚ = coefficient_is f c ∙ other_unit n j c f (omega arith) (λ e. omega arith) a.0 in
+    by_linear (v ∷ coefficient f c ∷ dot y (column_of rows c) ∷ []) (fact g (equal (ap (λ (w : ℚ). v *ℚ w) z) nothing)) (search terms depth 40) tt) in
     by_linear (v ∷ q ∷ dot y right ∷ []) (fact first (fact rest nothing)) (search terms depth 40) tt
 
 pub unit_columns_are_feasible : UnitColumnsAreFeasible

@@ -10,7 +10,7 @@ use Rattle.simplex_core.specs.declared.tableau.Step.{Step}
 use Rattle.simplex_core.specs.declared.tableau.Step.TheVariants as step
 use Rattle.simplex_core.specs.declared.tableau.End.{End}
 use Rattle.simplex_core.specs.declared.tableau.End.TheVariants as end
-use Rattle.simplex_core.specs.Reached.{Steps, Stops, Reached}
+use Rattle.simplex_core.specs.Reached.{Steps, Stops, Reached, EndsWithin}
 use Rattle.simplex_core.proofs.Paths.{rest}
 
 pub best_here : (n p m : ℕ) (t new : Tableau) (whole : Ending) (s : Step) → m < p → path n (p - m) m t ≡ whole → s ≡ step.Done → Steps n t (Ok s) new → whole ≡ Done m new
@@ -34,3 +34,10 @@ stops_here n p m t new whole f r h e g s = go r s
     go (Ok (end.Open j)) s = absurd s
     go (Ok end.PivotsEnded) s = absurd s
     go (Err w) s = tt
+
+pub stops_within : (pivots : ℕ) (f : FormFault) (k : ℕ) (r : Result End Memory) → Stops f k r → IfOk r (EndsWithin pivots)
+stops_within pivots f k (Ok (end.Passed i o)) s = tt
+stops_within pivots f k (Ok (end.Done i)) s = absurd s
+stops_within pivots f k (Ok (end.Open j)) s = tt
+stops_within pivots f k (Ok end.PivotsEnded) s = tt
+stops_within pivots f k (Err w) s = tt

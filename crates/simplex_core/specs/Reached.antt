@@ -1,5 +1,5 @@
 -- How the code's steps and ends tell the path's.
-use Rattle.std.specs.Prelude.{◌≡◌, ℕ, suc, ◌+◌, Result, Ok, Err, Some, None}
+use Rattle.std.specs.Prelude.{◌≡◌, ℕ, suc, ◌+◌, ◌≤◌, Result, Ok, Err, Some, None}
 use Rattle.frac128.specs.declared.form.FormFault.{FormFault}
 use Rattle.frac128.specs.declared.form.FormFault.TheVariants as fault
 use Rattle.frac128.specs.declared.memory.Memory.{Memory}
@@ -31,3 +31,10 @@ Stops f pivot (Ok (end.Done k)) = ⊥
 Stops f pivot (Ok (end.Open j)) = ⊥
 Stops f pivot (Ok end.PivotsEnded) = ⊥
 Stops f pivot (Err m) = f ≡ fault.Memory
+
+-- no more pivots than allowed
+abbrev pub EndsWithin : ℕ → End → Type 0
+EndsWithin pivots (end.Done k) = k ≤ pivots
+EndsWithin pivots (end.Open j) = Unit {0}
+EndsWithin pivots end.PivotsEnded = Unit {0}
+EndsWithin pivots (end.Passed k p) = Unit {0}

@@ -4,7 +4,7 @@ ghost use Rattle.rationals.specs.Rational.{zero_ℚ};
 ghost use Rattle.lp_defs.specs.Lines.{value_at};
 ghost use Rattle.lp_defs.specs.Path.{Tableau, Row, entering, pivoted, path, row_at};
 ghost use Rattle.simplex_core.specs.Gives.{Gives};
-ghost use Rattle.simplex_core.specs.Reached.{Steps, Stops, Reached};
+ghost use Rattle.simplex_core.specs.Reached.{Steps, Stops, Reached, EndsWithin};
 
 use crate::choice::{has_above_zero, leave};
 use crate::line::Line;
@@ -92,8 +92,23 @@ impl Tableau {
         &self.objective
     }
 
+    /// The rows with another objective row.
+    pub fn with_objective(self, objective: Line) -> Tableau
+        ensures { result ≡ record { rows = self.rows; objective = objective } }
+    {
+        Tableau {
+            rows: self.rows,
+            objective,
+        }
+    }
+
     /// Makes `column` basic in the row at `index`.
-    fn pivot(&mut self, column: u64, index: usize, spare: &mut Vec<Term>) -> Result<(), FormFault>
+    pub fn pivot(
+        &mut self,
+        column: u64,
+        index: usize,
+        spare: &mut Vec<Term>,
+    ) -> Result<(), FormFault>
         requires within { index < length self.old.rows }
         requires nonzero { value_at (row_at self.old.rows index).line.entries column ≢ zero_ℚ }
         ensures { Gives (pivoted column index self.old) result self.new }
@@ -145,7 +160,8 @@ impl Tableau {
         spare: &mut Vec<Term>,
     ) -> Result<End, Memory>
         requires { made ≤ pivots }
-        ensures { IfOk result (λ end. Reached (path columns (pivots - made) made self.old) end self.new) }
+        ensures reached { IfOk result (λ end. Reached (path columns (pivots - made) made self.old) end self.new) }
+        ensures within { IfOk result (EndsWithin pivots) }
     {
         for before in made..pivots {
             match self.step(columns, spare) {
