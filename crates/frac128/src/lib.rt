@@ -1,15 +1,19 @@
 //! Exact fractions of 128-bit numbers.
 #![tactic(auto)]
 
+mod digits;
 mod form;
 mod fraction;
 mod gcd;
+mod literal;
 mod memory;
 mod order;
-mod parse;
 mod parts;
 mod passed;
+mod significand;
 mod term;
+#[cfg(test)]
+mod tests;
 mod text;
 
 pub use form::{Form, FormFault};
@@ -17,4 +21,4 @@ pub use fraction::Frac;
 pub use memory::Memory;
 pub use passed::Passed;
 pub use term::Term;
-pub use text::{NumFault, print};
+pub use text::{NumFault, literals_are_exact, parse, print};
