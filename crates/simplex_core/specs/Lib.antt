@@ -1,3 +1,4 @@
 pub mod Gives
 pub mod Reached
 pub mod Told
+pub mod Drove
