@@ -79,13 +79,13 @@ not_negative (d ∷ ds) bs a h = no_sign d minus a.0 (omega arith)
 
 -- ---- the value of a whole number
 
-record HasTrimmed (n : ℕ) : Type 0 where
-  m : ℕ
-  z : ℕ
-  above : 0 < m
-  trimmed : IsTrimmed n m z
+pub record HasTrimmed (n : ℕ) : Type 0 where
+  pub m : ℕ
+  pub z : ℕ
+  pub above : 0 < m
+  pub trimmed : IsTrimmed n m z
 
-trims : (k n : ℕ) → n ≤ k → 0 < n → HasTrimmed n
+pub trims : (k n : ℕ) → n ≤ k → 0 < n → HasTrimmed n
 trims zero n h p = absurd (omega arith)
 trims (suc k) n h p = go (n % 10 == 0) refl (trims k (n / 10))
   where
@@ -118,7 +118,7 @@ whole_value s n p h =
     decimal_found s (pos 0) n t.m t.z t.above t.trimmed ∙ ap (power_value s t.m) power
     ∙ ap (λ b. choose b (Err Wide) (Ok (signed s (t.m * 10 ^ t.z) ÷ 1))) fits ∙ ap (λ k. Ok (signed s k ÷ 1)) (sym v)
 
-zero_is : (s : Bool) → zero_ℚ ≡ signed s 0 ÷ 1
+pub zero_is : (s : Bool) → zero_ℚ ≡ signed s 0 ÷ 1
 unfolding zero_ℚ
 zero_is true = refl
 zero_is false = refl

@@ -12,6 +12,8 @@ mod parts;
 mod passed;
 mod significand;
 mod term;
+#[cfg(test)]
+mod tests;
 mod text;
 
 pub use form::{Form, FormFault};
@@ -19,4 +21,4 @@ pub use fraction::Frac;
 pub use memory::Memory;
 pub use passed::Passed;
 pub use term::Term;
-pub use text::{NumFault, parse, print};
+pub use text::{NumFault, literals_are_exact, parse, print};

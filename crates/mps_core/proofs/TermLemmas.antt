@@ -1,17 +1,15 @@
 -- What a tree map finds and keeps, in the words of terms.
-use Rattle.std.proofs.Common.{◌≡◌, ◌∙◌, ◌++◌, ◌<◌, ◌≤◌, ◌==◌, ◌≢◌, ap, ℕ, ℤ, pos, Bool, true, false, cond, List, [], ◌∷◌, Option, Some, None, map, length, refl, sym, subst, arith, append_assoc, append-nil, nat_lt, if◌then◌else◌, zero, suc}
+use Rattle.std.proofs.Common.{◌≡◌, ◌≤◌, ◌==◌, ap, ℕ, pos, Bool, true, false, cond, List, [], ◌∷◌, Option, Some, None, refl, arith, nat_lt, if◌then◌else◌, suc}
 use Rattle.std.proofs.lemmas.Bool.Decides.{nat_tests}
-use Rattle.std.proofs.lemmas.Map.Views.{All-after_first}
-use Rattle.std.proofs.lemmas.Map.Keys.{sorted_tail}
 use Rattle.std.specs.Map.{lookup, keys_of}
 use Rattle.std.specs.Ordering.{nat_cmp, match_ordering, int_eq}
 use Rattle.std.specs.declared.cmp.Ordering.TheVariants.{Less, Equal, Greater}
 use Rattle.std.specs.BTreeMap.{insert_entry, is_at}
 use Rattle.std.specs.List.Sorted.{IsStrictlySortedBy}
 use Rattle.std.specs.List.{AllByRecursion}
-use Rattle.rationals.specs.Rational.{ℚ, zero_ℚ}
+use Rattle.rationals.specs.Rational.{ℚ}
 use Rattle.rationals.specs.Sparse.{Entry, Ascending, Ascending-weaker}
-use Rattle.rationals.specs.Forms.{find, pick, put, put_unless, is_zero, IsForm, AllNonzero}
+use Rattle.rationals.specs.Forms.{find, pick, put_unless, is_zero, IsForm, AllNonzero}
 use Rattle.rationals.proofs.Lowest.{num_zero}
 use Rattle.mps_core.specs.Terms.{terms_of, with_term, nonzero_terms}
 
@@ -27,7 +25,7 @@ pub lookup_is : (es : List (ℕ × ℚ)) (row : ℕ) → lookup (is_at (nat_cmp 
 lookup_is [] row = refl
 lookup_is (e ∷ es) row = rw (at_key row e.0, lookup_is es row) (same_choice (e.0 == row) e.1 (find (terms_of es) row))
 
-none_here : (here : Bool) (value : ℚ) (rest : Option ℚ) → pick here value rest ≡ None → (here ≡ false) × (rest ≡ None)
+pub none_here : (here : Bool) (value : ℚ) (rest : Option ℚ) → pick here value rest ≡ None → (here ≡ false) × (rest ≡ None)
 none_here true value rest none = cc
 none_here false value rest none = (refl, none)
 
@@ -50,7 +48,7 @@ above key (other ∷ keys) less =
     let below : nat_cmp key other ≡ Less = less.0 in
     (grind (arith, nat_tests), above key keys less.1)
 
-put_rises : (zero_ : Bool) (start row : ℕ) (value : ℚ) (terms : List Entry) → start ≤ row → Ascending (suc row) terms → Ascending start (put_unless zero_ row value terms)
+pub put_rises : (zero_ : Bool) (start row : ℕ) (value : ℚ) (terms : List Entry) → start ≤ row → Ascending (suc row) terms → Ascending start (put_unless zero_ row value terms)
 put_rises true start row value terms low rises = Ascending-weaker (suc row) start terms (omega arith) rises
 put_rises false start row value terms low rises = (low, rises)
 

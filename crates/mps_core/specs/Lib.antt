@@ -5,3 +5,11 @@ pub mod Filed
 pub mod Step
 pub mod View
 pub mod Rows
+pub mod Core
+pub mod Kept
+pub mod Finished
+pub mod Cause
+pub mod Lines
+pub mod Stated
+pub mod Bounds
+pub mod Means

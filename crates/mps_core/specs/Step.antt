@@ -1,5 +1,5 @@
 -- What a line adds to the lines filed before it, or the cause that refuses it.
-use Rattle.std.specs.Prelude.{ℕ, Bool, true, false, ◌&&◌, ◌||◌, not, List, [], ◌∷◌, ◌++◌, ◌+◌, Option, Some, None, Result, Ok, Err, is_some, nat_lt, length, codes, if◌then◌else◌, option_map}
+use Rattle.std.specs.Prelude.{ℕ, Bool, true, false, not, List, [], ◌∷◌, ◌++◌, ◌+◌, Option, Some, None, Result, Ok, Err, is_some, nat_lt, length, codes, if◌then◌else◌, option_map}
 use Rattle.std.specs.Option.{unwrap_or}
 use Rattle.rationals.specs.Rational.{ℚ, zero_ℚ}
 use Rattle.rationals.specs.Sparse.{Entry}

@@ -1,5 +1,5 @@
 -- The reader's tables as definitions see them, and what its steps give.
-use Rattle.std.specs.Prelude.{◌≡◌, ℕ, List, Result, Ok, Err}
+use Rattle.std.specs.Prelude.{◌≡◌, Result, Ok, Err}
 use Rattle.mps_core.specs.declared.cause.Cause.{Cause}
 use Rattle.mps_core.specs.declared.cause.Refusal.{Refusal}
 use Rattle.mps_core.specs.declared.cause.ReadFail.{ReadFail}

@@ -1,4 +1,5 @@
 //! Why a text is refused.
+ghost use Rattle.std.specs.Prelude.{◌≡◌};
 
 /// Why a line is refused.
 #[derive(Clone, Copy, Debug, PartialEq, Eq)]
@@ -8,8 +9,12 @@ pub enum Cause {
 }
 
 impl Cause {
+    ghost use Rattle.mps_core.specs.Cause.{number_of_cause};
+
     /// The number by which the cause is printed.
-    pub fn number(&self) -> u32 {
+    pub fn number(&self) -> u32
+        ensures { result ≡ number_of_cause self.now }
+    {
         match self {
             Cause::NotBuilt => 9,
         }

@@ -1,8 +1,11 @@
 //! The linear program of a core file.
-ghost use Rattle.std.specs.Prelude.{◌≡◌, ◌<◌, ◌^◌, map, length, option_map};
+ghost use Rattle.std.specs.Prelude.{◌≡◌, ◌<◌, ◌^◌, map, length, IfOk};
 
+use crate::draft::Draft;
 use crate::parts::{ColumnDef, RowDef};
+use crate::rows::row_defs;
 use smps_words::{Name, Names};
+use std::alloc::{AllocError, Global};
 
 /// A linear program with one objective, which is to be as small as possible.
 #[derive(Drop)]
@@ -29,41 +32,31 @@ pub struct Core {
 
 impl Core {
     ghost use Rattle.smps_words.specs.Names.{place_of};
+    ghost use Rattle.mps_core.specs.Core.{row_names, column_names};
+    ghost use Rattle.mps_core.specs.Finished.{IsFinished, IsCoreOf};
+    ghost use Rattle.mps_core.specs.View.{filed};
 
-    /// The core of these parts.
-    pub(crate) fn of(
-        objective: Name,
-        rhs_set: Name,
-        skipped: Vec<Name>,
-        rows: Vec<RowDef>,
-        columns: Vec<ColumnDef>,
-        row_names: Names,
-        column_names: Names,
-    ) -> Core
-        requires rows_named { row_names ≡ map (λ row. row.name) rows.items }
-        requires columns_named { column_names ≡ map (λ column. column.name) columns.items }
-        requires few_rows { length rows.items < 2 ^ 32 }
-        requires few_columns { length columns.items < 2 ^ 32 }
-        ensures objective { result.objective ≡ objective }
-        ensures skipped { result.skipped ≡ skipped }
-        ensures rhs_set { result.rhs_set ≡ rhs_set }
-        ensures rows { result.rows ≡ rows }
-        ensures columns { result.columns ≡ columns }
+    /// The core of the lines that are filed.
+    pub(crate) fn of(alloc: Global, draft: Draft) -> Result<Core, AllocError>
+        requires { IsFinished (filed draft) }
+        ensures { IfOk result (λ core. IsCoreOf (filed draft) core) }
     {
-        Core {
-            objective,
-            skipped,
+        let rows = row_defs(alloc, &draft.rows, &draft.rhs)?;
+        let rhs_set = Name::new(alloc, b"RHS")?;
+        Ok(Core {
+            objective: draft.objective.unwrap(),
+            skipped: Vec::new(alloc),
             rhs_set,
             rows,
-            columns,
-            row_names,
-            column_names,
-        }
+            columns: draft.columns,
+            row_names: draft.rows,
+            column_names: draft.names,
+        })
     }
 
     /// The number of the constraint with this name.
     pub fn row(&self, name: &[u8]) -> Option<u32>
-        ensures { result ≡ place_of (map (λ row. row.name) self.now.rows.items) name.now }
+        ensures { result ≡ place_of (row_names self.now.rows.items) name.now }
     {
         match self.row_names.place(name) {
             Some(place) => Some(place as u32),
@@ -73,7 +66,7 @@ impl Core {
 
     /// The number of the column with this name.
     pub fn column(&self, name: &[u8]) -> Option<u32>
-        ensures { result ≡ place_of (map (λ column. column.name) self.now.columns.items) name.now }
+        ensures { result ≡ place_of (column_names self.now.columns.items) name.now }
     {
         match self.column_names.place(name) {
             Some(place) => Some(place as u32),

@@ -14,7 +14,9 @@ use std::alloc::{AllocError, Global};
 
 /// So many constraints, columns and entries of constraints a core has at most, so that its programs fit into memory.
 const MOST_ROWS: usize = 4000;
+
 const MOST_COLUMNS: usize = 4000;
+
 const MOST_ENTRIES: u32 = 100_000;
 
 /// What the lines so far say.

@@ -6,13 +6,16 @@ mod core;
 mod draft;
 mod number;
 mod parts;
+mod place;
 mod reading;
 mod rows;
-mod place;
 mod section;
 mod stop;
 mod terms;
+#[cfg(test)]
+mod tests;
 
 pub use cause::{Cause, ReadFail, Refusal};
 pub use core::Core;
 pub use parts::{ColumnDef, RowDef};
+pub use reading::read_core;

@@ -1,14 +1,35 @@
 //! Reading a whole text.
-ghost use Rattle.std.specs.Prelude.{◌≡◌, ◌<◌, ◌-◌, ◌^◌, length};
+ghost use Rattle.std.specs.Prelude.{◌≡◌, ◌<◌, ◌-◌, ◌^◌, length, IfOk};
+ghost use Rattle.mps_core.specs.Core.{IsCore, IsThin};
+ghost use Rattle.mps_core.specs.Finished.{ReadsCore};
 ghost use Rattle.mps_core.specs.View.{Reads};
 ghost use Rattle.mps_core.specs.Step.{filed_text};
 
 use crate::cause::{Cause, ReadFail, Refusal};
+use crate::core::Core;
 use crate::draft::Draft;
 use crate::section::Section;
 use crate::stop::Stop;
 use smps_words::Lines;
 use std::alloc::Global;
+
+/// The core that the text of a core file gives.
+///
+/// The form is that of the MPS format, of which these parts are read now: NAME, ROWS with one N row first and then L rows, COLUMNS, RHS
+/// with the set `RHS` and no value below 0, and ENDATA, behind which nothing is read. Each other text is refused at its first line
+/// that isn't so.
+pub fn read_core(alloc: Global, text: &[u8]) -> Result<Core, ReadFail>
+    requires { length text.now < 2 ^ 32 - 1 }
+    ensures reads { ReadsCore result (filed_text text.now) }
+    ensures core { IfOk result IsCore }
+    ensures thin { IfOk result IsThin }
+{
+    let draft = file_text(alloc, text)?;
+    match Core::of(alloc, draft) {
+        Ok(core) => Ok(core),
+        Err(_) => Err(ReadFail::Memory),
+    }
+}
 
 /// Files the lines of a text up to ENDATA.
 pub(crate) fn file_text(alloc: Global, text: &[u8]) -> Result<Draft, ReadFail>

@@ -19,11 +19,7 @@ pub(crate) fn or_zero(value: Option<Frac>) -> Frac
 }
 
 /// The constraints with these names and right-hand sides; one that isn't stated is 0.
-pub(crate) fn row_defs(
-    alloc: Global,
-    names: &Names,
-    rhs: &Terms,
-) -> Result<Vec<RowDef>, AllocError>
+pub(crate) fn row_defs(alloc: Global, names: &Names, rhs: &Terms) -> Result<Vec<RowDef>, AllocError>
     ensures { IfOk result (λ rows. rows.items ≡ row_defs rhs.now 0 names.now) }
 {
     let mut rows = Vec::new(alloc);

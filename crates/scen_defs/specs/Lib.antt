@@ -5,3 +5,4 @@ pub mod Program
 pub mod Flat
 pub mod Valid
 pub mod Laws
+pub mod Fits

@@ -1,5 +1,5 @@
 -- What is left of the map gives no term.
-use Rattle.std.proofs.Common.{◌≡◌, ◌∙◌, ◌<◌, List, [], ◌∷◌, ◌++◌, Bool, true, false, length, refl, sym, ap, subst, append-nil, arith}
+use Rattle.std.proofs.Common.{◌≡◌, ◌∙◌, ◌<◌, List, [], ◌∷◌, ◌++◌, true, false, length, refl, sym, ap, subst, append-nil, arith}
 use Rattle.rationals.specs.Sparse.{Entry}
 use Rattle.rationals.specs.Forms.{IsForm}
 use Rattle.mps_core.specs.Terms.{terms_of, nonzero_terms}

@@ -1,0 +1,120 @@
+-- In a cycle of pivots no right side of the objective row changes, and so each quotient of its ratio tests is 0.
+use Rattle.std.proofs.Common.{◌≡◌, ℕ, ◌⊎◌, inl, inr, Bool, true, false, cond, List, [], ◌∷◌, Some, Ok, eqb, refl, sym, ap, ap₂, ◌∙◌, subst, eqb-true}
+use Rattle.std.proofs.lemmas.Bool.{ne_eqb, eqb-false}
+use Rattle.rationals.specs.Rational.{ℚ, zero_ℚ, one_ℚ, ◌+ℚ◌, ◌-ℚ◌, ◌*ℚ◌, neg_ℚ, inv_ℚ, ◌≤ℚ◌, ◌<ℚ◌, by_ring, by_eqs, by_linear, by_linear_eq, terms, le_of_same_ℚ, lt_le_ℚ, mul_nonneg_ℚ, mul_mono_ℚ, not_le_of_lt_ℚ, zero_lt_one_ℚ, cancel_ℚ, ne_of_gt_ℚ, inv_nonneg_ℚ}
+use Rattle.rationals.specs.Ring.Eqs.{done, by_eq}
+use Rattle.rationals.specs.Ring.Given.{fact, equal, nothing}
+use Rattle.rationals.specs.Sums.{dot}
+use Rattle.rationals.specs.Sparse.{Entry, value_if, product}
+use Rattle.lp_defs.specs.Path.{Candidate}
+use Rattle.lp_defs.specs.Lines.{Line, value_at}
+use Rattle.lp_defs.specs.Path.{Row, Tableau, entering, pivoted, row_at}
+use Rattle.lp_defs.specs.Linear.{Holds, AllLines, AllRows, Solves, values, rights, Combines, IsTied}
+use Rattle.lp_defs.specs.Ends.{IsChosen, unit}
+use Rattle.lp_defs.specs.Basis.{IsUnits, IsBasic, point}
+use Rattle.lp_defs.specs.Trace.{NotIn}
+use Rattle.lp_defs.proofs.Rows.{Pivots, pivots}
+use Rattle.lp_defs.proofs.Choice.{all_weaker}
+use Rattle.lp_defs.proofs.Best.{cost_is, values_are}
+use Rattle.lp_defs.proofs.Basic.{point_solves, zero_at_point}
+use Rattle.lp_defs.proofs.Rays.{product_two, entering_falls}
+
+-- a solution of the program solves each tableau of it
+pub solves_on : (cost : List Entry) (rows : List Row) (t : Tableau) (x : ℕ → ℚ) → IsTied cost rows t → Solves rows x → Solves t.rows x
+solves_on cost rows t x k s = all_weaker (λ line. (y : List ℚ) × Combines rows y line) (Holds x) t.rows
+    (λ line m. m.1.entries x ∙ ap (dot m.0) (values_are rows x s) ∙ sym m.1.right) k.spans
+
+-- ---- a point by its values at the basic columns
+abbrev spread : List Row → (ℕ → ℚ) → ℕ → ℚ
+spread [] x c = zero_ℚ
+spread (r ∷ rows) x c = x r.basic *ℚ unit r.basic c +ℚ spread rows x c
+
+not_there : (rows : List Row) (x : ℕ → ℚ) (c : ℕ) → NotIn c rows → spread rows x c ≡ zero_ℚ
+not_there [] x c h = refl
+not_there (r ∷ rows) x c h =
+    let apart : eqb c r.basic ≡ false = ne_eqb c r.basic (λ e. h.0 (sym e)) in
+    let z : spread rows x c ≡ zero_ℚ = not_there rows x c h.1 in
+    rw (apart, z) (by_ring (x r.basic ∷ []) (search terms depth 40) tt)
+
+-- basic columns are different
+pub apart_from : (r : Row) (rows : List Row) → product r.line.entries (unit r.basic) ≡ one_ℚ → AllRows (λ s. product r.line.entries (unit s.basic) ≡ zero_ℚ) rows → NotIn r.basic rows
+apart_from r [] o h = tt
+apart_from r (s ∷ rows) o h =
+    ((λ e. not_le_of_lt_ℚ zero_lt_one_ℚ (le_of_same_ℚ (sym o ∙ ap (λ (b : ℕ). product r.line.entries (unit b)) (sym e) ∙ h.0))), apart_from r rows o h.1)
+
+spread_is : (rows : List Row) (x : ℕ → ℚ) → IsUnits rows → ((c : ℕ) → NotIn c rows → x c ≡ zero_ℚ) → (c : ℕ) → spread rows x c ≡ x c
+spread_is rows x u f c = pick (there rows u)
+  where
+    there : (rows : List Row) → IsUnits rows → (spread rows x c ≡ x c) ⊎ NotIn c rows
+    there [] u = inr tt
+    there (r ∷ rows) u = go (eqb c r.basic) refl (there rows u.3)
+      where
+        go : (b : Bool) → eqb c r.basic ≡ b → (spread rows x c ≡ x c) ⊎ NotIn c rows → (x r.basic *ℚ value_if b one_ℚ +ℚ spread rows x c ≡ x c) ⊎ NotIn c (r ∷ rows)
+        go true e ih =
+            let k : c ≡ r.basic = eqb-true c r.basic e in
+            let n : NotIn c rows = subst (λ (b : ℕ). NotIn b rows) (sym k) (apart_from r rows u.0 u.1) in
+            inl (by_eqs (x r.basic ∷ spread rows x c ∷ x c ∷ []) (by_eq one_ℚ (not_there rows x c n) (by_eq one_ℚ (ap x (sym k)) done)) (search terms depth 40) tt)
+        go false e (inl h) = inl (by_eqs (x r.basic ∷ spread rows x c ∷ x c ∷ []) (by_eq one_ℚ h done) (search terms depth 40) tt)
+        go false e (inr h) = inr ((λ m. eqb-false c r.basic e (sym m)), h)
+
+    pick : (spread rows x c ≡ x c) ⊎ NotIn c rows → spread rows x c ≡ x c
+    pick (inl h) = h
+    pick (inr h) = not_there rows x c h ∙ sym (f c h)
+
+product_same : (f : List Entry) (x z : ℕ → ℚ) → ((c : ℕ) → x c ≡ z c) → product f x ≡ product f z
+product_same [] x z h = refl
+product_same (t ∷ f) x z h = ap₂ (λ (a b : ℚ). t.value *ℚ a +ℚ b) (h t.column) (product_same f x z h)
+
+product_nowhere : (f : List Entry) → product f (λ c. zero_ℚ) ≡ zero_ℚ
+product_nowhere [] = refl
+product_nowhere (t ∷ f) = by_eqs (t.value ∷ product f (λ c. zero_ℚ) ∷ []) (by_eq one_ℚ (product_nowhere f) done) (search terms depth 40) tt
+
+zero_on_spread : (f : List Entry) (rows : List Row) (x : ℕ → ℚ) → AllRows (λ s. product f (unit s.basic) ≡ zero_ℚ) rows → product f (spread rows x) ≡ zero_ℚ
+zero_on_spread f [] x h = product_nowhere f
+zero_on_spread f (r ∷ rows) x h = product_two f (x r.basic) (unit r.basic) (spread rows x)
+    ∙ by_eqs (x r.basic ∷ product f (unit r.basic) ∷ product f (spread rows x) ∷ []) (by_eq (x r.basic) h.0 (by_eq one_ℚ (zero_on_spread f rows x h.1) done)) (search terms depth 40) tt
+
+-- the point is 0 at columns that aren't basic
+pub point_zero : (rows : List Row) (c : ℕ) → NotIn c rows → point rows c ≡ zero_ℚ
+point_zero [] c h = refl
+point_zero (r ∷ rows) c h =
+    let apart : eqb c r.basic ≡ false = ne_eqb c r.basic (λ e. h.0 (sym e)) in
+    let z : point rows c ≡ zero_ℚ = point_zero rows c h.1 in
+    rw (apart, z) (by_ring (r.line.right ∷ []) (search terms depth 40) tt)
+
+-- two tableaus of a program with the same basic columns have the same value
+pub same_basis : (cost : List Entry) (rows : List Row) (n : ℕ) (t u : Tableau) → IsTied cost rows t → IsTied cost rows u → IsBasic t → IsBasic u → ((c : ℕ) → NotIn c t.rows → NotIn c u.rows) → t.objective.right ≡ u.objective.right
+same_basis cost rows n t u kt ku bt bu f =
+    let x : ℕ → ℚ = point u.rows in
+    let s : Solves rows x = ku.back x (point_solves u.rows bu.units) in
+    let cu : product cost x ≡ product u.objective.entries x -ℚ u.objective.right = cost_is cost rows u x ku s in
+    let zu : product u.objective.entries x ≡ zero_ℚ = zero_at_point u.objective.entries u.rows bu.priced in
+    let ct : product cost x ≡ product t.objective.entries x -ℚ t.objective.right = cost_is cost rows t x kt s in
+    let zt : product t.objective.entries x ≡ zero_ℚ =
+    product_same t.objective.entries x (spread t.rows x) (λ c. sym (spread_is t.rows x bt.units (λ c h. point_zero u.rows c (f c h)) c)) ∙ zero_on_spread t.objective.entries t.rows x bt.priced in
+    by_eqs (product cost x ∷ product u.objective.entries x ∷ product t.objective.entries x ∷ t.objective.right ∷ u.objective.right ∷ [])
+    (by_eq (neg_ℚ one_ℚ) cu (by_eq (neg_ℚ one_ℚ) zu (by_eq one_ℚ ct (by_eq one_ℚ zt done)))) (search terms depth 40) tt
+
+-- ---- the right side of the objective row never falls, and stays only where the quotient is 0
+pub record Grows (t u : Tableau) (c : Candidate) : Type 0 where
+  pub by_step : t.objective.right ≤ℚ u.objective.right
+  pub only : u.objective.right ≤ℚ t.objective.right → c.ratio ≡ zero_ℚ
+
+pub pivot_grows : (n j : ℕ) (t u : Tableau) (c : Candidate) → IsBasic t → entering n t.objective.entries ≡ Some j → IsChosen j t.rows c → zero_ℚ ≤ℚ c.ratio → pivoted j c.index t ≡ Ok u → Grows t u c
+pivot_grows n j t u c b e ch r q =
+    let p : Pivots j c.index t u = pivots j c.index t u q in
+    let a : ℚ = value_at (row_at t.rows c.index).line.entries j in
+    let q_is : p.pivot.right ≡ c.ratio = p.scaled.right ∙ by_ring (inv_ℚ a ∷ (row_at t.rows c.index).line.right ∷ []) (search terms depth 40) tt ∙ sym ch.ratio in
+    let f : ℚ = value_at t.objective.entries j in
+    let down : f <ℚ zero_ℚ = entering_falls n 0 j t.objective.entries b.objective_rises e in
+    let new : u.objective.right ≡ t.objective.right -ℚ f *ℚ c.ratio = p.objective.right ∙ ap (λ (v : ℚ). t.objective.right -ℚ f *ℚ v) q_is in
+    let g : c.ratio *ℚ f ≤ℚ c.ratio *ℚ zero_ℚ = mul_mono_ℚ r (lt_le_ℚ down) in
+    record {
+      by_step = by_linear (t.objective.right ∷ u.objective.right ∷ f ∷ c.ratio ∷ []) (fact g (equal new nothing)) (search terms depth 40) tt;
+      only = λ h.
+          let k : f *ℚ c.ratio ≡ f *ℚ zero_ℚ = both (t.objective.right) (u.objective.right) f c.ratio new g h in
+          cancel_ℚ (λ z. not_le_of_lt_ℚ down (le_of_same_ℚ (sym z))) k;
+    }
+  where
+    both : (tr ur f q : ℚ) → ur ≡ tr -ℚ f *ℚ q → q *ℚ f ≤ℚ q *ℚ zero_ℚ → ur ≤ℚ tr → f *ℚ q ≡ f *ℚ zero_ℚ
+    both tr ur f q e g h = by_linear_eq (tr ∷ ur ∷ f ∷ q ∷ []) (fact g (fact h (equal e nothing))) (search terms depth 40) tt

@@ -1,0 +1,14 @@
+pub mod Walks
+pub mod Tests
+pub mod Lines
+pub mod Path
+pub mod Linear
+pub mod Ends
+pub mod Basis
+pub mod TwoPhases
+pub mod Trace
+pub mod Phases
+pub mod Program
+pub mod Certificates
+pub mod Solution
+pub mod Placed

@@ -1,0 +1,5 @@
+pub mod BelowLemmas
+pub mod ListLemmas
+pub mod ProgramLemmas
+pub mod NameLemmas
+pub mod SolvedLemmas

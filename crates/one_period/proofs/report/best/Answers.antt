@@ -1,0 +1,11 @@
+use Rattle.std.proofs.Common.{◌≡◌, length, ◌∙◌, arith}
+use Rattle.one_period.proofs.SolvedLemmas.{best_length}
+use Rattle.one_period.proofs.report.best.Goals as goal
+
+pub dual_values-requires-clause-each_row : goal.dual_values-requires-clause-each_row
+dual_values-requires-clause-each_row c = best_length c.args.program.now c.args.point c.args.duals.now c.requires ∙ c.requires.at_most.each_row
+
+pub dual_values-requires-clause-few : goal.dual_values-requires-clause-few
+dual_values-requires-clause-few c =
+    let e : length c.args.duals.now ≡ length (c.requires.node).rows.items = best_length c.args.program.now c.args.point c.args.duals.now c.requires in
+    omega (arith, c.requires.at_most.few_rows)

@@ -1,0 +1,38 @@
+-- What an `i8` that holds a sign compares as.
+use Rattle.std.proofs.Common.{true, nat_eq, to_z, of_z, ◌≡◌, ℤ, pos, negsuc, zero, suc, refl, sym, subst}
+use Rattle.std.specs.Prelude.{int_lt}
+use Rattle.std.specs.Ordering.{int_eq}
+use Rattle.std.specs.Int.{w8}
+use lib.Signed.{lt_z}
+use Rattle.rationals.specs.Rational.{ℚ, zero_ℚ, ne_of_gt_ℚ, sign_ℚ, sign_of}
+use Rattle.lp_defs.specs.Tests.{is_zero, is_above_zero, is_below_zero, is_above_zero_true}
+
+pub above : (r : ℤ) (v : ℚ) → r ≡ sign_ℚ v → lt_z (pos 0) (to_z w8 (of_z w8 r)) ≡ is_above_zero v
+unfolding is_above_zero
+above r v e = subst (λ (z : ℤ). lt_z (pos 0) (to_z w8 (of_z w8 z)) ≡ int_lt (pos 0) (sign_ℚ v)) (sym e) (go v.num)
+  where
+    go : (z : ℤ) → lt_z (pos 0) (to_z w8 (of_z w8 (sign_of z))) ≡ int_lt (pos 0) (sign_of z)
+    go (pos zero) = refl
+    go (pos (suc n)) = refl
+    go (negsuc n) = refl
+
+pub below : (r : ℤ) (v : ℚ) → r ≡ sign_ℚ v → lt_z (to_z w8 (of_z w8 r)) (pos 0) ≡ is_below_zero v
+unfolding is_below_zero
+below r v e = subst (λ (z : ℤ). lt_z (to_z w8 (of_z w8 z)) (pos 0) ≡ int_lt (sign_ℚ v) (pos 0)) (sym e) (go v.num)
+  where
+    go : (z : ℤ) → lt_z (to_z w8 (of_z w8 (sign_of z))) (pos 0) ≡ int_lt (sign_of z) (pos 0)
+    go (pos zero) = refl
+    go (pos (suc n)) = refl
+    go (negsuc n) = refl
+
+pub zero_is : (r : ℤ) (v : ℚ) → r ≡ sign_ℚ v → nat_eq (of_z w8 r) 0 ≡ is_zero v
+unfolding is_zero
+zero_is r v e = subst (λ (z : ℤ). nat_eq (of_z w8 z) 0 ≡ int_eq (sign_ℚ v) (pos 0)) (sym e) (go v.num)
+  where
+    go : (z : ℤ) → nat_eq (of_z w8 (sign_of z)) 0 ≡ int_eq (sign_of z) (pos 0)
+    go (pos zero) = refl
+    go (pos (suc n)) = refl
+    go (negsuc n) = refl
+
+pub above_is_nonzero : (v : ℚ) → is_above_zero v ≡ true → v ≡ zero_ℚ → ⊥
+above_is_nonzero v e = ne_of_gt_ℚ (is_above_zero_true v e)

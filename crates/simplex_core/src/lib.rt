@@ -1,0 +1,17 @@
+//! The simplex method in exact fractions.
+#![tactic(auto)]
+
+mod choice;
+mod line;
+mod outcome;
+mod point;
+mod row;
+mod sign;
+mod solver;
+mod standard;
+mod start;
+mod tableau;
+
+pub use outcome::Outcome;
+pub use solver::solve;
+pub use standard::Standard;

@@ -1,0 +1,167 @@
+//! Lines of a tableau.
+ghost use Rattle.std.specs.Prelude.{◌≡◌, ◌≢◌, OnOk, []};
+ghost use Rattle.std.specs.Result.{IsOkUnless};
+ghost use Rattle.lp_defs.specs.Lines.{value_at, keep, less_walk, less_entries, divided_entries, divided, cleared};
+ghost use Rattle.rationals.specs.Rational.{zero_ℚ};
+ghost use Rattle.simplex_core.specs.Gives.{Gives};
+
+use crate::sign::is_zero;
+use frac128::{FormFault, Frac, Passed, Term};
+use std::marker::Model;
+use std::mem;
+
+/// A sparse row of a tableau with its right side.
+#[derive(Drop)]
+pub struct Line {
+    entries: Vec<Term>,
+    right: Frac,
+}
+
+impl Model for Line {
+    ghost use Rattle.lp_defs.specs.Lines.{Line};
+
+    ghost Value = { Line };
+
+    ghost view = { λ l. record { entries = l.entries.items; right = l.right } };
+}
+
+/// The entry of a column.
+fn find(entries: &[Term], column: u64) -> Frac
+    ensures { result ≡ value_at entries.now column }
+{
+    for term in entries {
+        if term.column == column {
+            return term.value;
+        }
+    }
+    Frac::zero()
+}
+
+fn less(factor: Frac, from: Frac, times: Frac) -> Result<Frac, Passed>
+    ensures { result ≡ less_walk factor from times }
+{
+    from.sub(factor.mul(times)?)
+}
+
+fn push(done: &mut Vec<Term>, column: u64, value: Frac) -> Result<(), FormFault>
+    ensures items { OnOk result (done.new.items ≡ keep done.old.items column value) }
+    ensures memory { IsOkUnless result FormFault.Memory }
+{
+    if !is_zero(value) {
+        done.push(Term { column, value })?;
+    }
+    Ok(())
+}
+
+/// Appends the entries of `row` less `factor` times those of `pivot`.
+fn subtract(
+    factor: Frac,
+    row: &[Term],
+    pivot: &[Term],
+    done: &mut Vec<Term>,
+) -> Result<(), FormFault>
+    ensures { Gives (less_entries factor row.now pivot.now done.old.items) result done.new.items }
+{
+    let mut i = 0;
+    let mut j = 0;
+    'both: while i < row.len() && j < pivot.len() {
+        let x = row[i];
+        let y = pivot[j];
+        if x.column < y.column {
+            done.push(x)?;
+            i += 1;
+        } else if y.column < x.column {
+            let value = less(factor, Frac::zero(), y.value)?;
+            push(done, y.column, value)?;
+            j += 1;
+        } else {
+            let value = less(factor, x.value, y.value)?;
+            push(done, x.column, value)?;
+            i += 1;
+            j += 1;
+        }
+    }
+    done.extend_from_slice(&row[i..])?;
+    'right: while j < pivot.len() {
+        let y = pivot[j];
+        let value = less(factor, Frac::zero(), y.value)?;
+        push(done, y.column, value)?;
+        j += 1;
+    }
+    Ok(())
+}
+
+fn divide_all(entries: &mut [Term], by: Frac) -> Result<(), FormFault>
+    requires { by ≢ zero_ℚ }
+    ensures { Gives (divided_entries by entries.old []) result entries.new }
+{
+    for i in 0..entries.len() {
+        let term = entries[i];
+        let value = term.value.div(by)?;
+        entries[i] = Term {
+            column: term.column,
+            value,
+        };
+    }
+    Ok(())
+}
+
+impl Line {
+    pub fn new(entries: Vec<Term>, right: Frac) -> Line
+        ensures { result ≡ record { entries = entries.items; right = right } }
+    {
+        Line { entries, right }
+    }
+
+    pub fn entries(&self) -> &[Term]
+        ensures { result.now ≡ self.now.entries }
+    {
+        self.entries.as_slice()
+    }
+
+    pub fn right(&self) -> Frac
+        ensures { result ≡ self.now.right }
+    {
+        self.right
+    }
+
+    pub fn value_at(&self, column: u64) -> Frac
+        ensures { result ≡ value_at self.now.entries column }
+    {
+        find(self.entries.as_slice(), column)
+    }
+
+    pub fn divide(&mut self, by: Frac) -> Result<(), FormFault>
+        requires { by ≢ zero_ℚ }
+        ensures { Gives (divided by self.old) result self.new }
+    {
+        divide_all(self.entries.as_mut_slice(), by)?;
+        self.right = self.right.div(by)?;
+        Ok(())
+    }
+
+    /// Clears a column, in which `pivot` has 1.
+    pub fn clear(
+        &mut self,
+        column: u64,
+        pivot: &Line,
+        spare: &mut Vec<Term>,
+    ) -> Result<(), FormFault>
+        ensures { Gives (cleared column pivot.now self.old) result self.new }
+    {
+        let factor = self.value_at(column);
+        if is_zero(factor) {
+            return Ok(());
+        }
+        spare.clear();
+        subtract(
+            factor,
+            self.entries.as_slice(),
+            pivot.entries.as_slice(),
+            spare,
+        )?;
+        self.right = less(factor, self.right, pivot.right)?;
+        mem::swap(&mut self.entries, spare);
+        Ok(())
+    }
+}

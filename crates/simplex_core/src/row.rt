@@ -1,0 +1,76 @@
+//! Rows of a tableau.
+ghost use Rattle.std.specs.Prelude.{◌≡◌, []};
+ghost use Rattle.lp_defs.specs.Path.{cleared_row, cleared_rows};
+ghost use Rattle.simplex_core.specs.Gives.{Gives};
+
+use crate::line::Line;
+use frac128::{FormFault, Term};
+use std::marker::Model;
+
+/// A row of a tableau and its basic column.
+#[derive(Drop)]
+pub struct Row {
+    basic: u64,
+    line: Line,
+}
+
+impl Model for Row {
+    ghost use Rattle.lp_defs.specs.Path.{Row};
+
+    ghost Value = { Row };
+
+    ghost view = { λ r. record { basic = r.basic; line = r.line } };
+}
+
+impl Row {
+    pub fn new(basic: u64, line: Line) -> Row
+        ensures { result ≡ record { basic = basic; line = line } }
+    {
+        Row { basic, line }
+    }
+
+    pub fn basic(&self) -> u64
+        ensures { result ≡ self.now.basic }
+    {
+        self.basic
+    }
+
+    pub fn line(&self) -> &Line
+        ensures { result.now ≡ self.now.line }
+    {
+        &self.line
+    }
+
+    pub fn into_line(self) -> Line
+        ensures { result ≡ self.line }
+    {
+        self.line
+    }
+
+    /// Clears a column, in which `pivot` has 1.
+    pub fn clear(
+        &mut self,
+        column: u64,
+        pivot: &Line,
+        spare: &mut Vec<Term>,
+    ) -> Result<(), FormFault>
+        ensures { Gives (cleared_row column pivot.now self.old) result self.new }
+    {
+        self.line.clear(column, pivot, spare)
+    }
+}
+
+/// Clears a column of all rows.
+pub fn clear_all(
+    rows: &mut [Row],
+    column: u64,
+    pivot: &Line,
+    spare: &mut Vec<Term>,
+) -> Result<(), FormFault>
+    ensures { Gives (cleared_rows column pivot.now rows.old []) result rows.new }
+{
+    for k in 0..rows.len() {
+        rows[k].clear(column, pivot, spare)?;
+    }
+    Ok(())
+}

@@ -1,0 +1,39 @@
+//! The top call.
+ghost use Rattle.std.specs.Prelude.{◌≡◌, ℕ, List, None, map, string_bytes};
+ghost use Rattle.smps_io.specs.Faults.{Rose};
+ghost use Rattle.smps_cli.specs.Words.{core_name};
+ghost use Rattle.smps_cli.specs.Answers.{Answers};
+ghost use Rattle.smps_cli.specs.declared.status.FileKind.{FileKind};
+
+use crate::answer::answered;
+use crate::status::{FileKind, Status};
+use frac128::Memory;
+use smps_io::{Shelf, Sink, SinkFault, write_all};
+use std::alloc::Global;
+use std::rt::Runtime;
+
+/// Runs the command that the words name: reads its file from the shelf, writes its output to the sink,
+/// and says how it ended. The words don't hold the program's own name; they are `solve`, `--core` and the
+/// name of a core file. Everything is computed before the first byte is written.
+pub fn run<R: Runtime, H: Shelf, K: Sink>(
+    rt: &R,
+    alloc: Global,
+    words: &[String],
+    shelf: &mut H,
+    sink: &mut K,
+) -> Status
+    ensures words { result ≡ Status.Words → core_name (map string_bytes words.now) ≡ None }
+    ensures read { (kind : FileKind) → result ≡ Status.ReadFault kind → Rose (H.faults shelf.old) (H.faults shelf.new) }
+    ensures write { result ≡ Status.WriteFault → Rose (K.faults sink.old) (K.faults sink.new) }
+    ensures answers { Answers (H.content shelf.old) (map string_bytes words.now) (K.written sink.old) (K.written sink.new) result }
+{
+    let answer = match answered(rt, alloc, words, shelf) {
+        Ok(answer) => answer,
+        Err(Memory) => return Status::Memory,
+    };
+    match write_all(rt, sink, &answer.output) {
+        Ok(()) => answer.status,
+        Err(SinkFault::Failed) => Status::WriteFault,
+        Err(SinkFault::Memory) => Status::Memory,
+    }
+}

@@ -1,0 +1,16 @@
+-- Two appends, one after the other.
+use Rattle.std.proofs.Common.{◌≡◌, ℕ, ◌+◌, List, ◌++◌, take, drop, Option, None, Some, refl, ap, sym, ◌∙◌, append_assoc}
+use Rattle.std.proofs.Math.Seq.{take-add}
+use Rattle.std.specs.Option.{option_map}
+use Rattle.smps_io.specs.Puts.{Appends}
+
+append_twice : (old : Option (List ℕ)) (xs ys : List ℕ) → option_map (λ written. written ++ ys) (option_map (λ written. written ++ xs) old) ≡ option_map (λ written. written ++ (xs ++ ys)) old
+append_twice None xs ys = refl
+append_twice (Some w) xs ys = ap Some (append_assoc w xs ys)
+
+pub appends_more : (old mid new : Option (List ℕ)) (bytes : List ℕ) (at k : ℕ)
+    → Appends old (take at bytes) mid → Appends mid (take k (drop at bytes)) new → Appends old (take (at + k) bytes) new
+appends_more old mid new bytes at k first then =
+    then ∙ ap (option_map (λ written. written ++ take k (drop at bytes))) first
+    ∙ append_twice old (take at bytes) (take k (drop at bytes))
+    ∙ sym (ap (λ b. option_map (λ written. written ++ b) old) (take-add at k bytes))
