@@ -1,12 +1,12 @@
 -- The value of the walk over the cost.
-use Rattle.std.proofs.Common.{◌≡◌, ℕ, List, [], ◌∷◌, Result, Ok, sym, ◌∙◌}
+use Rattle.std.proofs.Common.{◌≡◌, ℕ, [], ◌∷◌, Ok, sym, ◌∙◌}
 use Rattle.rationals.specs.Rational.{ℚ, zero_ℚ, one_ℚ, ◌+ℚ◌, ◌*ℚ◌, by_eqs, terms, zero_add_ℚ}
 use Rattle.rationals.specs.Ring.Eqs.{done, by_eq}
 use Rattle.rationals.specs.Passes.{then_walk}
 use Rattle.scen_defs.specs.Program.{View, total}
 use Rattle.scen_defs.specs.Flat.{node_cost}
 use Rattle.scen_defs.proofs.Costs.{cost-by_nodes}
-use Rattle.scen_model.specs.Walks.{fold_walk, add_product, product_from, total_from, totals_walk, cost_step, costs_walk}
+use Rattle.scen_model.specs.Walks.{add_product, product_from, total_from, totals_walk, cost_step, costs_walk}
 use Rattle.scen_model.specs.Laws.{CostLaw}
 use Rattle.scen_model.proofs.WalkEnds.{ended, fold-adds, add_product-ends, product_from-ends, total_from-ends}
 

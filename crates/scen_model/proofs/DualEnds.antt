@@ -1,7 +1,7 @@
 -- The value of the walk over the value of multipliers.
-use Rattle.std.proofs.Common.{◌≡◌, ℕ, Bool, true, false, List, [], ◌∷◌, Option, Some, None, Result, Ok, Err, refl, sym, ap, subst, ◌∙◌}
+use Rattle.std.proofs.Common.{◌≡◌, ℕ, Bool, true, false, List, [], ◌∷◌, Option, Some, None, Ok, Err, sym, ap, subst, ◌∙◌}
 use Rattle.rationals.specs.declared.Op.TheVariants.{Sub, Mul}
-use Rattle.rationals.specs.Rational.{ℚ, zero_ℚ, one_ℚ, ◌+ℚ◌, ◌-ℚ◌, ◌*ℚ◌, by_eqs, by_ring, terms, zero_add_ℚ, add_zero_ℚ}
+use Rattle.rationals.specs.Rational.{ℚ, zero_ℚ, one_ℚ, ◌+ℚ◌, ◌-ℚ◌, ◌*ℚ◌, by_eqs, by_ring, terms, add_zero_ℚ}
 use Rattle.rationals.specs.Ring.Eqs.{done, by_eq}
 use Rattle.rationals.specs.Passes.{then_walk, sub_walk, mul_walk}
 use Rattle.rationals.specs.Sums.{sum_ℚ}
@@ -14,7 +14,7 @@ use Rattle.scen_defs.specs.Program.{View, total}
 use Rattle.scen_defs.specs.Flat.{is_above, subtree, reduced, GoodAt, IsGood, value}
 use Rattle.scen_defs.proofs.SumLaws.{each-both, each-map, sum-keep}
 use Rattle.scen_model.specs.declared.stop.Stop.TheVariants.{Decided}
-use Rattle.scen_model.specs.Walks.{fold_walk, add_product, total_walk, totals_walk, stopping, end_step, worth_step, rows_from, less_from, less_step, less_all, reduced_walk, bound_step, column_step, columns_step, all_rows, all_columns, dual_walk}
+use Rattle.scen_model.specs.Walks.{add_product, total_walk, totals_walk, stopping, end_step, worth_step, rows_from, less_from, less_step, less_all, reduced_walk, column_step, columns_step, all_rows, all_columns, dual_walk}
 use Rattle.scen_model.specs.Laws.{DualLaws}
 use Rattle.scen_model.proofs.WalkEnds.{Decides, ended, decides, stopping-ends, stopping-decided, fold-adds, fold-takes, fold-each, fold-decided, add_product-ends, total_from-ends}
 use Rattle.scen_model.proofs.WalkEnds.Decides.{at_first, at_next}

@@ -1,17 +1,16 @@
 -- What the walks over rows and bounds show.
-use Rattle.std.proofs.Common.{◌≡◌, ℕ, Bool, true, false, not, ◌&&◌, List, [], ◌∷◌, Option, Some, None, Result, Ok, Err, map, refl, sym, ap, subst, ◌∙◌}
-use Rattle.std.proofs.lemmas.Bool.{and_parts}
-use Rattle.rationals.specs.Rational.{ℚ, zero_ℚ, ◌≤ℚ◌, ◌<ℚ◌, at_most, at_most_true, at_most_false, not_le_of_lt_ℚ, zero_add_ℚ}
+use Rattle.std.proofs.Common.{◌≡◌, ℕ, Bool, true, false, not, ◌&&◌, List, [], ◌∷◌, Option, Some, None, Ok, Err, map, refl, sym, subst, ◌∙◌}
+use Rattle.rationals.specs.Rational.{ℚ, zero_ℚ, ◌<ℚ◌, at_most, at_most_true, at_most_false, not_le_of_lt_ℚ, zero_add_ℚ}
 use Rattle.rationals.specs.Passes.{then_walk}
 use Rattle.rationals.specs.Sparse.{product}
 use Rattle.scen_defs.specs.declared.program.NodeRow.{NodeRow}
 use Rattle.scen_defs.specs.Lists.{Each}
 use Rattle.scen_defs.specs.Ends.{AtLeast, AtMost, Between}
 use Rattle.scen_defs.specs.Program.{View, IsTree}
-use Rattle.scen_defs.specs.Flat.{along, FeasibleAt, Feasible, zero_end, zero_row, with_zero_ends, IsDirection, cost}
+use Rattle.scen_defs.specs.Flat.{along, FeasibleAt, Feasible, zero_end, zero_row, with_zero_ends, IsDirection}
 use Rattle.scen_defs.proofs.SumLaws.{each-both, each-map}
 use Rattle.scen_model.specs.declared.stop.Stop.TheVariants.{Decided}
-use Rattle.scen_model.specs.Walks.{fold_walk, product_from, stopping, own_end, is_above_low, is_below_high, is_between, test, rows_test, all_rows_test, bounds_test, all_bounds_test, meets_walk, cost_walk, direction_walk}
+use Rattle.scen_model.specs.Walks.{product_from, stopping, own_end, is_above_low, is_below_high, is_between, test, rows_test, all_rows_test, bounds_test, all_bounds_test, meets_walk, cost_walk, direction_walk}
 use Rattle.scen_model.specs.Laws.{FeasibleLaws, DirectionLaws}
 use Rattle.scen_model.proofs.WalkEnds.{Decides, ended, decides, stopping-ends, stopping-decided, fold-each, fold-decided, product_from-ends}
 use Rattle.scen_model.proofs.WalkEnds.Decides.{at_first, at_next}

@@ -4,3 +4,4 @@ pub mod WalkEnds
 pub mod CostEnds
 pub mod DualEnds
 pub mod FeasibleEnds
+pub mod ContentLemmas

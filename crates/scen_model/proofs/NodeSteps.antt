@@ -1,5 +1,5 @@
 -- Loops over the live nodes of a program.
-use Rattle.std.proofs.Common.{◌≡◌, ℕ, ◌+◌, ◌<◌, List, [], ◌∷◌, Option, Some, None, true, false, is_some, length, drop, get_or, refl, sym, ap, subst, ◌∙◌, Result, Ok, Err, add-one}
+use Rattle.std.proofs.Common.{◌≡◌, ℕ, ◌+◌, ◌<◌, List, ◌∷◌, Option, Some, None, true, false, is_some, length, drop, get_or, refl, sym, ap, subst, ◌∙◌, Result, Ok, Err, add-one}
 use Rattle.rationals.specs.Passes.{then_walk}
 use Rattle.scen_defs.specs.declared.program.Node.{Node as NodeOf}
 use Rattle.scen_defs.specs.declared.program.Program.{Program as ProgramOf}

@@ -1,5 +1,5 @@
 -- Loops over the members of a list that pass a test.
-use Rattle.std.proofs.Common.{◌≡◌, ℕ, ◌+◌, ◌<◌, Bool, true, false, List, [], ◌∷◌, length, drop, get_or, sym, ap, ◌∙◌, Result, Ok, Err, add-one}
+use Rattle.std.proofs.Common.{◌≡◌, ℕ, ◌+◌, ◌<◌, Bool, true, false, List, ◌∷◌, length, drop, get_or, sym, ap, ◌∙◌, Result, Ok, Err, add-one}
 use Rattle.rationals.specs.Passes.{then_walk}
 use Rattle.scen_defs.specs.Lists.{places}
 use Rattle.scen_defs.proofs.NodeReads.{drop_read}

@@ -1,16 +1,16 @@
 -- What a walk that came to its end, or was stopped, went through.
-use Rattle.std.proofs.Common.{◌≡◌, ℕ, Bool, true, false, List, [], ◌∷◌, Result, Ok, Err, refl, sym, ap, subst, ◌∙◌}
+use Rattle.std.proofs.Common.{◌≡◌, ℕ, Bool, true, false, List, [], ◌∷◌, Result, Ok, Err, refl, sym, ap, ◌∙◌}
 use Rattle.rationals.specs.declared.Op.TheVariants.{Add, Mul}
-use Rattle.rationals.specs.Rational.{ℚ, zero_ℚ, one_ℚ, ◌+ℚ◌, ◌-ℚ◌, ◌*ℚ◌, by_eqs, by_ring, terms, add_zero_ℚ}
+use Rattle.rationals.specs.Rational.{ℚ, one_ℚ, ◌+ℚ◌, ◌-ℚ◌, ◌*ℚ◌, by_eqs, by_ring, terms, add_zero_ℚ}
 use Rattle.rationals.specs.Ring.Eqs.{done, by_eq}
-use Rattle.rationals.specs.Passes.{Operation, add_walk, sub_walk, mul_walk, then_walk}
+use Rattle.rationals.specs.Passes.{Operation, add_walk, mul_walk, then_walk}
 use Rattle.rationals.specs.Sums.{sum_ℚ}
 use Rattle.rationals.specs.Sparse.{Entry, product, value_if}
 use Rattle.rationals.proofs.WalkLaws.{walk_value}
 use Rattle.scen_defs.specs.Lists.{Each, is_in, pick}
 use Rattle.scen_defs.specs.Program.{Scenario}
 use Rattle.scen_model.specs.declared.stop.Stop.{Stop}
-use Rattle.scen_model.specs.declared.stop.Stop.TheVariants.{Decided, Passed}
+use Rattle.scen_model.specs.declared.stop.Stop.TheVariants.{Decided}
 use Rattle.scen_model.specs.Walks.{fold_walk, add_product, product_from, total_from, stopping}
 
 -- one walk and then another

@@ -2,9 +2,11 @@
 #![tactic(auto)]
 
 mod costs;
+mod derived;
 mod duals;
 mod ends;
 mod feasibility;
+mod fitting;
 mod laws;
 mod look;
 mod stop;
@@ -12,8 +14,10 @@ mod totals;
 mod tree;
 
 pub use costs::cost;
+pub use derived::derive;
 pub use duals::{dual_value, zero_value};
 pub use feasibility::{feasible, is_direction};
+pub use fitting::fits;
 pub use laws::{
     costs_are_exact, directions_are_exact, duals_are_exact, infeasibility_is_shown,
     programs_are_trees, recession_makes_good, recessions_are_trees, tests_are_exact,

@@ -1,6 +1,7 @@
 // Where a node stands in the tree.
-ghost use Rattle.std.specs.Prelude.{◌≡◌, ◌-◌, MatchOption};
-ghost use Rattle.scen_defs.specs.Program.{content, nodes_content, node_content, node_at, no_node, or_root, column_at, view_of};
+ghost use Rattle.std.specs.Prelude.{◌≡◌, ◌-◌, MatchOption, is_some};
+ghost use Rattle.scen_defs.specs.Program.{content, is_live, nodes_content, node_content, node_at, no_node, or_root, column_at, view_of};
+ghost use Rattle.scen_defs.specs.Lists.{passes_at};
 ghost use Rattle.scen_defs.specs.Flat.{up, home, is_above};
 ghost use Rattle.rationals.specs.Sparse.{coefficient};
 ghost use Rattle.scen_model.specs.Walks.{costs_of};
@@ -9,8 +10,9 @@ use frac128::Frac;
 use scen_defs::{Column, Node, Program};
 
 /// The node of that number, where it is live.
-fn find(nodes: &[Option<Node>], node: u64) -> Option<&Node>
-    ensures { MatchOption result (node_at (nodes_content nodes.now) node ≡ no_node) (λ found. node_at (nodes_content nodes.now) node ≡ node_content found.now) }
+pub(crate) fn find(nodes: &[Option<Node>], node: u64) -> Option<&Node>
+    ensures live { is_some result ≡ passes_at is_live node (nodes_content nodes.now) }
+    ensures node { MatchOption result (node_at (nodes_content nodes.now) node ≡ no_node) (λ found. node_at (nodes_content nodes.now) node ≡ node_content found.now) }
 {
     let place = node as usize;
     if place >= nodes.len() {

@@ -1,9 +1,5 @@
-use Rattle.std.proofs.Common.{◌≡◌, ℕ, ◌+◌, ◌<◌, List, Option, Some, Ok, length, get_or, sym, ap, ◌∙◌}
+use Rattle.std.proofs.Common.{◌+◌, Ok, sym, ap, ◌∙◌}
 use Rattle.std.proofs.lemmas.Result.{err_from_is_err_and}
-use Rattle.rationals.specs.Rational.{ℚ}
-use Rattle.scen_defs.specs.declared.program.Node.{Node as NodeOf}
-use Rattle.scen_defs.specs.declared.program.NodeRow.{NodeRow}
-use Rattle.scen_defs.specs.declared.program.Program.{Program as ProgramOf}
 use Rattle.scen_defs.specs.Program.{content, view_of}
 use Rattle.scen_defs.specs.Values.{at}
 use Rattle.scen_model.specs.Walks.{fold_walk, rows_from}

@@ -1,5 +1,4 @@
 use Rattle.std.proofs.Common.{◌≡◌}
-use Rattle.rationals.specs.Rational.{zero_ℚ}
 use Rattle.scen_defs.specs.Values.{at}
 use Rattle.scen_defs.specs.Program.{content, view_of}
 use Rattle.scen_model.specs.Walks.{fold_walk, rows_from, all_rows}

@@ -1,4 +1,4 @@
-use Rattle.std.proofs.Common.{◌≡◌, ℕ, ◌+◌, ◌<◌, List, Option, Ok, Result, eqb, length, get_or, refl, sym, ap, ap₂, ◌∙◌}
+use Rattle.std.proofs.Common.{◌≡◌, ℕ, ◌+◌, ◌<◌, List, Ok, Result, eqb, length, get_or, sym, ap, ap₂, ◌∙◌}
 use Rattle.std.proofs.lemmas.Bool.{eq-eqb, ne_eqb}
 use Rattle.std.proofs.lemmas.Result.{err_from_is_err_and}
 use Rattle.rationals.specs.Rational.{ℚ}
@@ -8,7 +8,7 @@ use Rattle.scen_defs.specs.declared.program.Program.{Program as ProgramOf}
 use Rattle.scen_defs.specs.Program.{content, column_at, view_of}
 use Rattle.scen_defs.specs.Values.{at}
 use Rattle.scen_defs.proofs.NodeReads.{column_read}
-use Rattle.scen_model.specs.Walks.{fold_walk, costs_of, reduced_walk, bound_step, column_step}
+use Rattle.scen_model.specs.Walks.{fold_walk, costs_of, bound_step, column_step}
 use Rattle.scen_model.proofs.PlaceSteps.{places_from, next_place, stop_place, skip_place}
 use Rattle.scen_model.proofs.duals.add_columns.Goals as goal
 use Rattle.scen_model.proofs.duals.add_columns.Goals.{then-column-stage+in_ok-sum, else-column-stage}

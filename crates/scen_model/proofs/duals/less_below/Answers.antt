@@ -1,4 +1,4 @@
-use Rattle.std.proofs.Common.{◌≡◌, ℕ, ◌+◌, ◌<◌, List, Option, Some, Ok, length, get_or, sym, ap, ◌∙◌}
+use Rattle.std.proofs.Common.{◌+◌, Ok, sym, ap, ◌∙◌}
 use Rattle.std.proofs.lemmas.Result.{err_from_is_err_and}
 use Rattle.scen_defs.specs.Lists.{pick}
 use Rattle.scen_defs.specs.Program.{content, view_of}

@@ -1,11 +1,10 @@
-use Rattle.std.proofs.Common.{◌≡◌, ℕ, ◌+◌, ◌<◌, List, Option, Ok, Result, length, get_or, sym, ap, ap₂, ◌∙◌}
+use Rattle.std.proofs.Common.{◌≡◌, ℕ, ◌<◌, List, length, get_or, sym, ap, ap₂, ◌∙◌}
 use Rattle.std.proofs.lemmas.Bool.{eq-eqb, ne_eqb}
 use Rattle.std.proofs.lemmas.Result.{err_from_is_err_and}
 use Rattle.rationals.specs.Rational.{ℚ}
 use Rattle.scen_defs.specs.declared.program.Column.{Column}
 use Rattle.scen_defs.specs.declared.program.Program.{Program as ProgramOf}
 use Rattle.scen_defs.specs.Program.{content, column_at, view_of}
-use Rattle.scen_defs.specs.Values.{at}
 use Rattle.scen_defs.proofs.NodeReads.{column_read}
 use Rattle.scen_model.specs.declared.feasibility.Ends.{Ends}
 use Rattle.scen_model.specs.Walks.{end_of, is_between, test}
