@@ -4,10 +4,11 @@ use Rattle.std.specs.Prelude.{codes}
 use Rattle.std.specs.Option.{option_map}
 use Rattle.std.proofs.lemmas.Bool.Decides.{nat_tests}
 use Rattle.rationals.specs.Rational.{ℚ}
+use Rattle.rationals.specs.Sparse.{Entry}
 use Rattle.rationals.specs.Forms.{find, pick, is_zero}
 use Rattle.frac128.specs.Numbers.{read_number}
 use Rattle.frac128.specs.declared.text.NumFault.{NumFault}
-use Rattle.smps_words.specs.Names.{same_name, place_of}
+use Rattle.smps_words.specs.Names.{same_name, place_of, IsNumbered}
 use Rattle.smps_words.proofs.NumberedNames.{same_name_refl, place_of_right}
 use Rattle.mps_core.specs.declared.cause.Cause.{Cause}
 use Rattle.mps_core.specs.declared.cause.Cause.TheVariants as cause
@@ -90,22 +91,24 @@ cost_adds d f g column row word value keeps filing current objective number none
     } in
     subst (λ (k : Filed). Adds f k (pair_of column row word) d.pairs) is adds
 
-by_place : (d : Data) (f : Filed) (column row word : List ℕ) (place i : ℕ) (value : ℚ) (b : Bool) → Keeps f → Agrees d.pairs f.objective f.rows column f.cost f.terms → place_of f.rows row ≡ Some place → number_in word ≡ value → find f.terms place ≡ None →
-    i < length f.rows → (place == i) ≡ b → pick b value (find f.terms i) ≡ value_on (d.pairs ++ pair_of column row word ∷ []) column (get_or f.rows i [])
-by_place d f column row word place i value true keeps agrees at number none below same =
+-- a row's value, where it has its first one
+pub by_place : (rows : List (List ℕ)) (terms : List Entry) (pairs : List Pair) (column row word : List ℕ) (place i : ℕ) (value : ℚ) (b : Bool) → IsNumbered rows →
+    ((k : ℕ) → k < length rows → find terms k ≡ value_on pairs column (get_or rows k [])) → place_of rows row ≡ Some place → number_in word ≡ value → find terms place ≡ None →
+    i < length rows → (place == i) ≡ b → pick b value (find terms i) ≡ value_on (pairs ++ pair_of column row word ∷ []) column (get_or rows i [])
+by_place rows terms pairs column row word place i value true numbered agrees at number none below same =
     let here : place ≡ i = grind (arith, nat_tests, same) in
-    let right = place_of_right f.rows row place at in
-    let name : get_or f.rows i [] ≡ row = ap (λ n. get_or f.rows n []) (sym here) ∙ right.1 in
-    let gone : value_on d.pairs column (get_or f.rows i []) ≡ None = sym (agrees.terms i below) ∙ ap (find f.terms) (sym here) ∙ none in
-    let found : same_name (get_or f.rows i []) row ≡ true = rw name (same_name_refl row) in
-    ap Some (sym number) ∙ sym (first_value d.pairs (pair_of column row word) column (get_or f.rows i []) (same_name_refl column) found gone)
-by_place d f column row word place i value false keeps agrees at number none below same =
-    let right = place_of_right f.rows row place at in
-    let other : same_name (get_or f.rows i []) row ≡ false = name_differs (get_or f.rows i []) row _ refl (λ equal.
-    let here : i ≡ place = one_place f.rows i place keeps.rows below right.0 (equal ∙ sym right.1) in
+    let right = place_of_right rows row place at in
+    let name : get_or rows i [] ≡ row = ap (λ n. get_or rows n []) (sym here) ∙ right.1 in
+    let gone : value_on pairs column (get_or rows i []) ≡ None = sym (agrees i below) ∙ ap (find terms) (sym here) ∙ none in
+    let found : same_name (get_or rows i []) row ≡ true = rw name (same_name_refl row) in
+    ap Some (sym number) ∙ sym (first_value pairs (pair_of column row word) column (get_or rows i []) (same_name_refl column) found gone)
+by_place rows terms pairs column row word place i value false numbered agrees at number none below same =
+    let right = place_of_right rows row place at in
+    let other : same_name (get_or rows i []) row ≡ false = name_differs (get_or rows i []) row _ refl (λ equal.
+    let here : i ≡ place = one_place rows i place numbered below right.0 (equal ∙ sym right.1) in
     let yes : (place == i) ≡ true = grind (arith, nat_tests) in
     absurd (cc (yes, same))) in
-    agrees.terms i below ∙ sym (other_row d.pairs (pair_of column row word) column (get_or f.rows i []) other)
+    agrees i below ∙ sym (other_row pairs (pair_of column row word) column (get_or rows i []) other)
 
 entry_adds : (d : Data) (f g : Filed) (column row word : List ℕ) (place : ℕ) (value : ℚ) → Keeps f → Filing d f → f.current ≡ Some column → place_of f.rows row ≡ Some place → number_in word ≡ value → IsEntry f g place value →
     Adds f g (pair_of column row word) d.pairs
@@ -119,7 +122,7 @@ entry_adds d f g column row word place value keeps filing current at number ok =
             let differs : same_name other row ≡ false = name_differs other row _ refl (λ same.
             let no : true ≡ false = ap is_some (sym at) ∙ ap (λ name. is_some (place_of f.rows name)) (sym same) ∙ keeps.apart other known in absurd (cc)) in
             agrees.cost other known ∙ sym (other_row d.pairs (pair_of column row word) column other differs);
-        terms = λ i below. find_with place value f.terms i ok.new ∙ by_place d f column row word place i value (place == i) keeps agrees at number ok.new below refl;
+        terms = λ i below. find_with place value f.terms i ok.new ∙ by_place f.rows f.terms d.pairs column row word place i value (place == i) keeps.rows agrees.terms at number ok.new below refl;
       };
       entries = rw (at, number) (counted_is (is_zero value) f.entries);
     } in

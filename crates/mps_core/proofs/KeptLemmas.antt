@@ -273,7 +273,7 @@ column_line_kept f g (_ ∷ _ ∷ _ ∷ _ ∷ _ ∷ _ ∷ _) keeps e = cc
 
 -- ---- RHS
 
-with_rhs_kept : (f g : Filed) (section : Section) (name word : List ℕ) → KeepsIn section f → with_rhs f name word ≡ Ok g → KeepsIn section g
+pub with_rhs_kept : (f g : Filed) (section : Section) (name word : List ℕ) → KeepsIn section f → with_rhs f name word ≡ Ok g → KeepsIn section g
 with_rhs_kept f g section name word keeps e =
     let ok = rhs_ok f g name word e in
     subst (KeepsIn section) ok.is (

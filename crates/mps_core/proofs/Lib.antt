@@ -10,3 +10,4 @@ pub mod FilingRows
 pub mod DistinctLemmas
 pub mod FilingColumns
 pub mod FilingValues
+pub mod FilingLines
