@@ -184,7 +184,7 @@ made section rows columns rhs ranges bounds = record {
   bounds = bounds;
 }
 
-made_same : (s s' : List ℕ) (r r' c c' h h' a a' b b' : List (List (List ℕ))) → s ≡ s' → r ≡ r' → c ≡ c' → h ≡ h' → a ≡ a' → b ≡ b' → made s r c h a b ≡ made s' r' c' h' a' b'
+pub made_same : (s s' : List ℕ) (r r' c c' h h' a a' b b' : List (List (List ℕ))) → s ≡ s' → r ≡ r' → c ≡ c' → h ≡ h' → a ≡ a' → b ≡ b' → made s r c h a b ≡ made s' r' c' h' a' b'
 made_same s s' r r' c c' h h' a a' b b' is ir ic ih ia ib =
     ap (λ x. made x r c h a b) is ∙ ap (λ x. made s' x c h a b) ir ∙ ap (λ x. made s' r' x h a b) ic ∙ ap (λ x. made s' r' c' x a b) ih ∙ ap (λ x. made s' r' c' h' x b) ia ∙ ap (λ x. made s' r' c' h' a' x) ib
 

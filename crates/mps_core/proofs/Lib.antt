@@ -11,3 +11,4 @@ pub mod DistinctLemmas
 pub mod FilingColumns
 pub mod FilingValues
 pub mod FilingLines
+pub mod MeansLemmas
