@@ -226,7 +226,7 @@ column_by f g name keeps (inr new) =
       at,
     )
 
-column_kept : (f g : Filed) (name : List ℕ) → KeepsIn sections.Columns f → with_column f name ≡ Ok g → KeepsIn sections.Columns g
+pub column_kept : (f g : Filed) (name : List ℕ) → KeepsIn sections.Columns f → with_column f name ≡ Ok g → KeepsIn sections.Columns g
 column_kept f g name keeps e = column_by f g name keeps (column_ok f g name e)
 
 -- the place of a constraint is below their number
@@ -250,7 +250,7 @@ value_by f g section name value (places.Constraint row) keeps at e =
     } in
     subst (KeepsIn section) ok.is (values_kept f f.cost _ _ f.rhs keeps.0 terms keeps.0.rhs, keeps.1)
 
-value_kept : (f g : Filed) (section : Section) (name word : List ℕ) → KeepsIn section f → with_value f name word ≡ Ok g → KeepsIn section g
+pub value_kept : (f g : Filed) (section : Section) (name word : List ℕ) → KeepsIn section f → with_value f name word ≡ Ok g → KeepsIn section g
 value_kept f g section name word keeps e =
     let ok = value_ok f g name word e in
     value_by f g section name ok.1 ok.0 keeps ok.2 ok.4
@@ -273,7 +273,7 @@ column_line_kept f g (_ ∷ _ ∷ _ ∷ _ ∷ _ ∷ _ ∷ _) keeps e = cc
 
 -- ---- RHS
 
-with_rhs_kept : (f g : Filed) (section : Section) (name word : List ℕ) → KeepsIn section f → with_rhs f name word ≡ Ok g → KeepsIn section g
+pub with_rhs_kept : (f g : Filed) (section : Section) (name word : List ℕ) → KeepsIn section f → with_rhs f name word ≡ Ok g → KeepsIn section g
 with_rhs_kept f g section name word keeps e =
     let ok = rhs_ok f g name word e in
     subst (KeepsIn section) ok.is (
