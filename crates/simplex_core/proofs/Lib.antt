@@ -6,3 +6,4 @@ pub mod Follows
 pub mod Counting
 pub mod Drives
 pub mod Solves
+pub mod Checks

@@ -2,3 +2,4 @@ pub mod Gives
 pub mod Reached
 pub mod Told
 pub mod Drove
+pub mod Checks
