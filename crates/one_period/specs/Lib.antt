@@ -1,3 +1,4 @@
 pub mod Standard
 pub mod Lists
 pub mod Solved
+pub mod Laws
