@@ -44,7 +44,9 @@ value_filed d f g row word keeps filing e =
       free = filing.free;
       constraints = filing.constraints;
       kinds = filing.kinds;
+      first = filing.first;
       names = filing.names;
+      last = filing.last;
       columns = filing.columns;
       current = filing.current;
       idle = filing.idle;
@@ -69,7 +71,9 @@ set_line d g fields is filing at = record {
   free = filing.free;
   constraints = filing.constraints;
   kinds = filing.kinds;
+  first = filing.first;
   names = filing.names;
+  last = filing.last;
   columns = filing.columns;
   current = filing.current;
   idle = filing.idle;
@@ -135,11 +139,13 @@ entered : (d : Data) (f : Filed) (next : Section) (has_columns : Bool) → Filin
     Filing (record d { section = section_word next }) (record f { section = next; has_columns = has_columns })
 entered d f next has_columns filing still = record {
   section = refl;
-  early = λ before. let early = filing.early (still before) in record { columns = early.columns; current = early.current; pairs = early.pairs; entries = early.entries; rhs = early.rhs; rhs_pairs = early.rhs_pairs };
+  early = λ before. let early = filing.early (still before) in record { columns = early.columns; current = early.current; named = early.named; pairs = early.pairs; entries = early.entries; rhs = early.rhs; rhs_pairs = early.rhs_pairs };
   free = filing.free;
   constraints = filing.constraints;
   kinds = filing.kinds;
+  first = filing.first;
   names = filing.names;
+  last = filing.last;
   columns = filing.columns;
   current = filing.current;
   idle = filing.idle;
@@ -254,7 +260,7 @@ row_line_by d f g kind name None none filing at e =
     subst (λ (word : List ℕ). Filing (record d { rows = d.rows ++ (word ∷ name ∷ []) ∷ [] }) g) (sym (name_is kind (codes "N") ok.0)) (subst (Filing (record d { rows = d.rows ++ (codes "N" ∷ name ∷ []) ∷ [] })) ok.1 (objective_filed d f name filing at none))
 row_line_by d f g kind name (Some held) there filing at e =
     let ok = constraint_ok f g kind name e in
-    subst (λ (word : List ℕ). Filing (record d { rows = d.rows ++ (word ∷ name ∷ []) ∷ [] }) g) (sym (name_is kind (codes "L") ok.0)) (subst (Filing (record d { rows = d.rows ++ (codes "L" ∷ name ∷ []) ∷ [] })) ok.3 (constraint_filed d f name filing at))
+    subst (λ (word : List ℕ). Filing (record d { rows = d.rows ++ (word ∷ name ∷ []) ∷ [] }) g) (sym (name_is kind (codes "L") ok.0)) (subst (Filing (record d { rows = d.rows ++ (codes "L" ∷ name ∷ []) ∷ [] })) ok.3 (constraint_filed d f held name filing at there))
 
 row_line_filed : (d : Data) (f g : Filed) (fields : List (List ℕ)) → Filing d f → f.section ≡ sections.Rows → row_line f fields ≡ Ok g → Filing (record d { rows = d.rows ++ fields ∷ [] }) g
 unfolding row_line
@@ -298,11 +304,13 @@ step_filed lines f g line keeps filing e = filed_by lines f g line.number line.h
 pub none_filed : Filing (data_on []) nothing_filed
 none_filed = record {
   section = refl;
-  early = λ before. record { columns = refl; current = refl; pairs = refl; entries = refl; rhs = refl; rhs_pairs = refl };
+  early = λ before. record { columns = refl; current = refl; named = refl; pairs = refl; entries = refl; rhs = refl; rhs_pairs = refl };
   free = refl;
   constraints = refl;
   kinds = refl;
+  first = λ none. refl;
   names = refl;
+  last = λ name is. cc;
   columns = All-nil (AgreesWhole [] None []);
   current = λ name is. cc;
   idle = λ none. (refl, refl);

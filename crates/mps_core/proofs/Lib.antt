@@ -12,3 +12,4 @@ pub mod FilingColumns
 pub mod FilingValues
 pub mod FilingLines
 pub mod MeansLemmas
+pub mod FitLemmas
