@@ -34,8 +34,8 @@ use Rattle.mps_core.proofs.ValueLemmas.{find_with}
 not_early : (f : Filed) (X : Type 0) → f.section ≡ sections.Rhs → nat_lt (rank f.section) (rank sections.Columns) ≡ true → X
 not_early f X at before = let no : nat_lt 4 3 ≡ true = ap (λ section. nat_lt (rank section) 3) (sym at) ∙ before in absurd (cc)
 
-value_filed : (d : Data) (f g : Filed) (row word : List ℕ) → KeepsIn sections.Rhs f → Filing d f → with_rhs f row word ≡ Ok g → Filing (record d { rhs_pairs = d.rhs_pairs ++ pair_of [] row word ∷ [] }) g
-value_filed d f g row word keeps filing e =
+pub rhs_value_filed : (d : Data) (f g : Filed) (row word : List ℕ) → KeepsIn sections.Rhs f → Filing d f → with_rhs f row word ≡ Ok g → Filing (record d { rhs_pairs = d.rhs_pairs ++ pair_of [] row word ∷ [] }) g
+rhs_value_filed d f g row word keeps filing e =
     let ok = rhs_ok f g row word e in
     let h : Filed = record f { rhs = with_term ok.row ok.value f.rhs } in
     let filed : Filing (record d { rhs_pairs = d.rhs_pairs ++ pair_of [] row word ∷ [] }) h = record {
@@ -93,14 +93,14 @@ rhs_line_filed d f g (_ ∷ _ ∷ []) keeps filing e = cc
 rhs_line_filed d f g (set ∷ row ∷ word ∷ []) keeps filing e =
     let named = chosen_ok (same_name set (codes "RHS")) cause.NotBuilt _ g e in
     let after = with_rhs_kept f g sections.Rhs row word keeps named.1 in
-    set_line _ g (set ∷ row ∷ word ∷ []) (ap Some (name_is set (codes "RHS") named.0)) (value_filed d f g row word keeps filing named.1) after.1
+    set_line _ g (set ∷ row ∷ word ∷ []) (ap Some (name_is set (codes "RHS") named.0)) (rhs_value_filed d f g row word keeps filing named.1) after.1
 rhs_line_filed d f g (_ ∷ _ ∷ _ ∷ _ ∷ []) keeps filing e = cc
 rhs_line_filed d f g (set ∷ row ∷ word ∷ second ∷ other ∷ []) keeps filing e =
     let named = chosen_ok (same_name set (codes "RHS")) cause.NotBuilt _ g e in
     let first = bind_ok (with_rhs f row word) (λ h. with_rhs h second other) g named.1 in
     let between = with_rhs_kept f first.0 sections.Rhs row word keeps first.1 in
     let after = with_rhs_kept first.0 g sections.Rhs second other between first.2 in
-    let two = value_filed _ first.0 g second other between (value_filed d f first.0 row word keeps filing first.1) first.2 in
+    let two = rhs_value_filed _ first.0 g second other between (rhs_value_filed d f first.0 row word keeps filing first.1) first.2 in
     let whole : Filing (record d { rhs_pairs = d.rhs_pairs ++ pair_of [] row word ∷ pair_of [] second other ∷ [] }) g =
     subst (λ (pairs : List Pair). Filing (record d { rhs_pairs = pairs }) g) (append_assoc d.rhs_pairs (pair_of [] row word ∷ []) (pair_of [] second other ∷ [])) two in
     set_line _ g (set ∷ row ∷ word ∷ second ∷ other ∷ []) (ap Some (name_is set (codes "RHS") named.0)) whole after.1
@@ -246,7 +246,7 @@ rhs_data lines number fields at =
     (data_more (codes "RHS") lines line (rw at refl)) (data_same (codes "RANGES") lines line (rw at refl)) (data_same (codes "BOUNDS") lines line (rw at refl))
     ∙ ap (λ pairs. record (data_on lines) { rhs = before ++ fields ∷ []; rhs_pairs = pairs }) (flat_snoc set_pairs before fields)
 
-header_data : (lines : List TextLine) (number : ℕ) (fields : List (List ℕ)) → same_name (last_section [] lines) (codes "ENDATA") ≡ false →
+pub header_data : (lines : List TextLine) (number : ℕ) (fields : List (List ℕ)) → same_name (last_section [] lines) (codes "ENDATA") ≡ false →
     data_on (lines ++ record { number = number; header = true; fields = fields } ∷ []) ≡ record (data_on lines) { section = first_word fields }
 header_data lines number fields open_ =
     let line : TextLine = record { number = number; header = true; fields = fields } in

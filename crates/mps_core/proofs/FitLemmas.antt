@@ -41,20 +41,20 @@ same_either_way : (one other : List ℕ) → same_name one other ≡ same_name o
 same_either_way one other = agree (same_name one other) (same_name other one)
     (λ same. ap (λ name. same_name name one) (sym (name_is one other same)) ∙ same_name_refl one) (λ same. ap (λ name. same_name name other) (sym (name_is other one same)) ∙ same_name_refl other)
 
-and_true : (b : Bool) → (b && true) ≡ b
+pub and_true : (b : Bool) → (b && true) ≡ b
 and_true true = refl
 and_true false = refl
 
 -- one step after another is taken where both are
-seq : {A B : Type 0} (r : Result A Cause) (k : A → Result B Cause) (first then_ : Bool) → is_ok r ≡ first → ((x : A) → r ≡ Ok x → is_ok (k x) ≡ then_) → is_ok (r >>= k) ≡ (first && then_)
+pub seq : {A B : Type 0} (r : Result A Cause) (k : A → Result B Cause) (first then_ : Bool) → is_ok r ≡ first → ((x : A) → r ≡ Ok x → is_ok (k x) ≡ then_) → is_ok (r >>= k) ≡ (first && then_)
 seq (Ok x) k first then_ is later = later x refl ∙ ap (λ b. b && then_) is
 seq (Err c) k first then_ is later = ap (λ b. b && then_) is
 
-ok_if : {A : Type 0} (b : Bool) (x : A) (c : Cause) → is_ok (if b then Ok x else Err c) ≡ b
+pub ok_if : {A : Type 0} (b : Bool) (x : A) (c : Cause) → is_ok (if b then Ok x else Err c) ≡ b
 ok_if true x c = refl
 ok_if false x c = refl
 
-unless_if : {A : Type 0} (b : Bool) (c : Cause) (r : Result A Cause) → is_ok (if b then Err c else r) ≡ (not b && is_ok r)
+pub unless_if : {A : Type 0} (b : Bool) (c : Cause) (r : Result A Cause) → is_ok (if b then Err c else r) ≡ (not b && is_ok r)
 unless_if true c r = refl
 unless_if false c r = refl
 
@@ -90,7 +90,7 @@ row_fit before g name free rows =
     ∙ ap (λ names. is_some (place_of names name) || is_some (place_of g.rows name)) (sym free) ∙ ap (λ names. is_some (place_of (free_rows before) name) || is_some (place_of names name)) (sym rows)
 
 -- there is a line of ROWS where there is an objective
-rows_there : (d : Data) (f : Filed) (objective : Option (List ℕ)) (rows : List (List (List ℕ))) → f.objective ≡ objective → d.rows ≡ rows → Filing d f → is_nothing rows ≡ not (is_some objective)
+pub rows_there : (d : Data) (f : Filed) (objective : Option (List ℕ)) (rows : List (List (List ℕ))) → f.objective ≡ objective → d.rows ≡ rows → Filing d f → is_nothing rows ≡ not (is_some objective)
 rows_there d f None [] none lines filing = refl
 rows_there d f None (line ∷ rows) none lines filing = let empty : d.rows ≡ [] = filing.first none in absurd (cc (empty, lines))
 rows_there d f (Some held) (line ∷ rows) there lines filing = refl
@@ -149,11 +149,11 @@ name_fit before f name filing follows at =
 abbrev pub fits_rest : List (List ℕ) → List Pair → Pair → Bool
 fits_rest rows pairs pair = is_number pair.word && (not (is_some (value_on pairs pair.column pair.row)) && (not (counts rows pair) || nat_lt (count_entries rows pairs) most_entries))
 
-number_fit : (word : List ℕ) (r : Result ℚ NumFault) → read_number word ≡ r → is_ok (number_or_cause r) ≡ is_ok r
+pub number_fit : (word : List ℕ) (r : Result ℚ NumFault) → read_number word ≡ r → is_ok (number_or_cause r) ≡ is_ok r
 number_fit word (Ok value) is = refl
 number_fit word (Err fault) is = refl
 
-value_known : (r : Result ℚ NumFault) (value : ℚ) → number_or_cause r ≡ Ok value → number_or_zero r ≡ value
+pub value_known : (r : Result ℚ NumFault) (value : ℚ) → number_or_cause r ≡ Ok value → number_or_zero r ≡ value
 value_known (Ok known) value e = cc
 value_known (Err fault) value e = cc
 
@@ -188,11 +188,11 @@ place_fit : (d : Data) (g : Filed) (column row word : List ℕ) (value : ℚ) (p
 place_fit d g column row word value places.Objective keeps filing current at number = cost_fit d g column row word value keeps filing current (objective_is g.objective g.rows row at)
 place_fit d g column row word value (places.Constraint place) keeps filing current at number = entry_fit d g column row word place value filing current (constraint_is g.objective g.rows row place at) number
 
-needs_fit : {A : Type 0} (c : Cause) (o : Option A) → is_ok (needs c o) ≡ is_some o
+pub needs_fit : {A : Type 0} (c : Cause) (o : Option A) → is_ok (needs c o) ≡ is_some o
 needs_fit c None = refl
 needs_fit c (Some x) = refl
 
-needs_some : {A : Type 0} (c : Cause) (o : Option A) (x : A) → needs c o ≡ Ok x → o ≡ Some x
+pub needs_some : {A : Type 0} (c : Cause) (o : Option A) (x : A) → needs c o ≡ Ok x → o ≡ Some x
 needs_some c None x e = cc
 needs_some c (Some y) x e = cc
 

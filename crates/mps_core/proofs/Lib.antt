@@ -13,3 +13,4 @@ pub mod FilingValues
 pub mod FilingLines
 pub mod MeansLemmas
 pub mod FitLemmas
+pub mod FitLines
