@@ -14,3 +14,4 @@ pub mod FilingLines
 pub mod MeansLemmas
 pub mod FitLemmas
 pub mod FitLines
+pub mod Judged
