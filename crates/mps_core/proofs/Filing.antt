@@ -17,7 +17,7 @@ use Rattle.mps_core.specs.Filed.{Filed}
 use Rattle.mps_core.specs.Lines.{last_section, data_of}
 use Rattle.mps_core.specs.Section.{rank}
 use Rattle.mps_core.specs.Stated.{free_name, constraint_name, constraint_kind, Pair, columns_named, entry_pairs, distinct, number_in, value_on, set_on, set_pairs}
-use Rattle.mps_core.specs.Thin.{count_entries}
+use Rattle.mps_core.specs.Thin.{last_of, count_entries}
 
 -- the word that begins a section
 abbrev pub section_word : Section → List ℕ
@@ -67,6 +67,7 @@ pub record AgreesWhole (pairs : List Pair) (objective : Option (List ℕ)) (rows
 pub record IsEarly (d : Data) (f : Filed) : Type 0 where
   pub columns : f.columns ≡ []
   pub current : f.current ≡ None
+  pub named : d.named ≡ []
   pub pairs : d.pairs ≡ []
   pub entries : f.entries ≡ 0
   pub rhs : f.rhs ≡ []
@@ -78,7 +79,10 @@ pub record Filing (d : Data) (f : Filed) : Type 0 where
   pub free : flat_map free_name d.rows ≡ option_to_list f.objective
   pub constraints : flat_map constraint_name d.rows ≡ f.rows
   pub kinds : flat_map constraint_kind d.rows ≡ map (λ row. Less) f.rows
+  pub first : f.objective ≡ None → d.rows ≡ []
   pub names : distinct [] d.named ≡ f.names
+  -- the column that isn't whole is that of the last line
+  pub last : (name : List ℕ) → f.current ≡ Some name → last_of d.named ≡ Some name
   pub columns : All (AgreesWhole d.pairs f.objective f.rows) f.columns
   pub current : (name : List ℕ) → f.current ≡ Some name → Agrees d.pairs f.objective f.rows name f.cost f.terms
   -- without a column that isn't whole nothing is filed of one

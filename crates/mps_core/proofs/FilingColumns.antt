@@ -23,7 +23,7 @@ use Rattle.mps_core.specs.Section.{rank}
 use Rattle.mps_core.specs.Stated.{Pair, distinct, number_in, value_on}
 use Rattle.mps_core.specs.Step.{column_def, closed, closed_at, is_named, place_in}
 use Rattle.mps_core.specs.Terms.{with_term}
-use Rattle.mps_core.specs.Thin.{counts, count_entries}
+use Rattle.mps_core.specs.Thin.{last_of, counts, count_entries}
 use Rattle.mps_core.proofs.DistinctLemmas.{new_name, distinct_snoc, name_is, name_differs, one_place, nowhere, absent_before, last_found}
 use Rattle.mps_core.proofs.Filing.{Data, Agrees, AgreesWhole, IsEarly, Filing}
 use Rattle.mps_core.proofs.StepOk.{counted}
@@ -46,7 +46,9 @@ closed_filed_at d f (Some name) at keeps filing = record {
   free = filing.free;
   constraints = filing.constraints;
   kinds = filing.kinds;
+  first = filing.first;
   names = filing.names;
+  last = λ other is. cc;
   columns = All-push (AgreesWhole d.pairs f.objective f.rows) f.columns (column_def name f.cost f.terms) filing.columns
       (whole_agrees d.pairs f.objective f.rows name f.cost f.terms keeps.terms.rises (filing.current name at));
   current = λ other is. cc;
@@ -65,6 +67,11 @@ closed_filed d f keeps filing = closed_filed_at d f f.current refl keeps filing
 
 -- ---- the column of a line
 
+pub last_snoc : (names : List (List ℕ)) (name : List ℕ) → last_of (names ++ name ∷ []) ≡ Some name
+last_snoc [] name = refl
+last_snoc (first ∷ []) name = refl
+last_snoc (first ∷ second ∷ names) name = last_snoc (second ∷ names) name
+
 -- in COLUMNS it is no longer early
 not_early : (f : Filed) (X : Type 0) → f.section ≡ sections.Columns → nat_lt (rank f.section) (rank sections.Columns) ≡ true → X
 not_early f X at before = let no : nat_lt 3 3 ≡ true = ap (λ section. nat_lt (rank section) 3) (sym at) ∙ before in absurd (cc)
@@ -79,6 +86,8 @@ opened_filed d h name filing none at new =
       free = filing.free;
       constraints = filing.constraints;
       kinds = filing.kinds;
+      first = filing.first;
+      last = λ other is. last_snoc d.named name ∙ is;
       names = distinct_snoc [] d.named name ∙ ap (λ names. names ++ new_name names name) filing.names ∙ ap (λ b. h.names ++ (if b then [] else name ∷ [])) new;
       columns = filing.columns;
       current = λ other is. let same : name ≡ other = cc in subst (λ (known : List ℕ). Agrees d.pairs h.objective h.rows known h.cost h.terms) same (record {
@@ -107,6 +116,8 @@ again_filed d f name keeps filing current at =
       free = filing.free;
       constraints = filing.constraints;
       kinds = filing.kinds;
+      first = filing.first;
+      last = λ other is. last_snoc d.named name ∙ sym current ∙ is;
       names = distinct_snoc [] d.named name ∙ ap (λ names. names ++ new_name names name) filing.names ∙ ap (λ b. f.names ++ (if b then [] else name ∷ [])) there ∙ append-nil f.names;
       columns = filing.columns;
       current = filing.current;
@@ -160,7 +171,9 @@ pair_filed d f g pair keeps filing current at adds =
       free = filing.free;
       constraints = filing.constraints;
       kinds = filing.kinds;
+      first = filing.first;
       names = filing.names;
+      last = filing.last;
       columns = λ k e below. whole_more d.pairs pair f.objective f.rows (get_or f.columns k e) (whole_differ f pair.column k e keeps current below) (filing.columns k e below);
       current = λ name is. let same : pair.column ≡ name = cc in subst (λ (known : List ℕ). Agrees (d.pairs ++ pair ∷ []) f.objective f.rows known g.cost g.terms) same adds.agrees;
       idle = λ none. absurd (cc (none, current));

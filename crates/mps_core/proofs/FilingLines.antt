@@ -34,8 +34,8 @@ use Rattle.mps_core.proofs.ValueLemmas.{find_with}
 not_early : (f : Filed) (X : Type 0) → f.section ≡ sections.Rhs → nat_lt (rank f.section) (rank sections.Columns) ≡ true → X
 not_early f X at before = let no : nat_lt 4 3 ≡ true = ap (λ section. nat_lt (rank section) 3) (sym at) ∙ before in absurd (cc)
 
-value_filed : (d : Data) (f g : Filed) (row word : List ℕ) → KeepsIn sections.Rhs f → Filing d f → with_rhs f row word ≡ Ok g → Filing (record d { rhs_pairs = d.rhs_pairs ++ pair_of [] row word ∷ [] }) g
-value_filed d f g row word keeps filing e =
+pub rhs_value_filed : (d : Data) (f g : Filed) (row word : List ℕ) → KeepsIn sections.Rhs f → Filing d f → with_rhs f row word ≡ Ok g → Filing (record d { rhs_pairs = d.rhs_pairs ++ pair_of [] row word ∷ [] }) g
+rhs_value_filed d f g row word keeps filing e =
     let ok = rhs_ok f g row word e in
     let h : Filed = record f { rhs = with_term ok.row ok.value f.rhs } in
     let filed : Filing (record d { rhs_pairs = d.rhs_pairs ++ pair_of [] row word ∷ [] }) h = record {
@@ -44,7 +44,9 @@ value_filed d f g row word keeps filing e =
       free = filing.free;
       constraints = filing.constraints;
       kinds = filing.kinds;
+      first = filing.first;
       names = filing.names;
+      last = filing.last;
       columns = filing.columns;
       current = filing.current;
       idle = filing.idle;
@@ -69,7 +71,9 @@ set_line d g fields is filing at = record {
   free = filing.free;
   constraints = filing.constraints;
   kinds = filing.kinds;
+  first = filing.first;
   names = filing.names;
+  last = filing.last;
   columns = filing.columns;
   current = filing.current;
   idle = filing.idle;
@@ -89,14 +93,14 @@ rhs_line_filed d f g (_ ∷ _ ∷ []) keeps filing e = cc
 rhs_line_filed d f g (set ∷ row ∷ word ∷ []) keeps filing e =
     let named = chosen_ok (same_name set (codes "RHS")) cause.NotBuilt _ g e in
     let after = with_rhs_kept f g sections.Rhs row word keeps named.1 in
-    set_line _ g (set ∷ row ∷ word ∷ []) (ap Some (name_is set (codes "RHS") named.0)) (value_filed d f g row word keeps filing named.1) after.1
+    set_line _ g (set ∷ row ∷ word ∷ []) (ap Some (name_is set (codes "RHS") named.0)) (rhs_value_filed d f g row word keeps filing named.1) after.1
 rhs_line_filed d f g (_ ∷ _ ∷ _ ∷ _ ∷ []) keeps filing e = cc
 rhs_line_filed d f g (set ∷ row ∷ word ∷ second ∷ other ∷ []) keeps filing e =
     let named = chosen_ok (same_name set (codes "RHS")) cause.NotBuilt _ g e in
     let first = bind_ok (with_rhs f row word) (λ h. with_rhs h second other) g named.1 in
     let between = with_rhs_kept f first.0 sections.Rhs row word keeps first.1 in
     let after = with_rhs_kept first.0 g sections.Rhs second other between first.2 in
-    let two = value_filed _ first.0 g second other between (value_filed d f first.0 row word keeps filing first.1) first.2 in
+    let two = rhs_value_filed _ first.0 g second other between (rhs_value_filed d f first.0 row word keeps filing first.1) first.2 in
     let whole : Filing (record d { rhs_pairs = d.rhs_pairs ++ pair_of [] row word ∷ pair_of [] second other ∷ [] }) g =
     subst (λ (pairs : List Pair). Filing (record d { rhs_pairs = pairs }) g) (append_assoc d.rhs_pairs (pair_of [] row word ∷ []) (pair_of [] second other ∷ [])) two in
     set_line _ g (set ∷ row ∷ word ∷ second ∷ other ∷ []) (ap Some (name_is set (codes "RHS") named.0)) whole after.1
@@ -135,11 +139,13 @@ entered : (d : Data) (f : Filed) (next : Section) (has_columns : Bool) → Filin
     Filing (record d { section = section_word next }) (record f { section = next; has_columns = has_columns })
 entered d f next has_columns filing still = record {
   section = refl;
-  early = λ before. let early = filing.early (still before) in record { columns = early.columns; current = early.current; pairs = early.pairs; entries = early.entries; rhs = early.rhs; rhs_pairs = early.rhs_pairs };
+  early = λ before. let early = filing.early (still before) in record { columns = early.columns; current = early.current; named = early.named; pairs = early.pairs; entries = early.entries; rhs = early.rhs; rhs_pairs = early.rhs_pairs };
   free = filing.free;
   constraints = filing.constraints;
   kinds = filing.kinds;
+  first = filing.first;
   names = filing.names;
+  last = filing.last;
   columns = filing.columns;
   current = filing.current;
   idle = filing.idle;
@@ -240,7 +246,7 @@ rhs_data lines number fields at =
     (data_more (codes "RHS") lines line (rw at refl)) (data_same (codes "RANGES") lines line (rw at refl)) (data_same (codes "BOUNDS") lines line (rw at refl))
     ∙ ap (λ pairs. record (data_on lines) { rhs = before ++ fields ∷ []; rhs_pairs = pairs }) (flat_snoc set_pairs before fields)
 
-header_data : (lines : List TextLine) (number : ℕ) (fields : List (List ℕ)) → same_name (last_section [] lines) (codes "ENDATA") ≡ false →
+pub header_data : (lines : List TextLine) (number : ℕ) (fields : List (List ℕ)) → same_name (last_section [] lines) (codes "ENDATA") ≡ false →
     data_on (lines ++ record { number = number; header = true; fields = fields } ∷ []) ≡ record (data_on lines) { section = first_word fields }
 header_data lines number fields open_ =
     let line : TextLine = record { number = number; header = true; fields = fields } in
@@ -254,7 +260,7 @@ row_line_by d f g kind name None none filing at e =
     subst (λ (word : List ℕ). Filing (record d { rows = d.rows ++ (word ∷ name ∷ []) ∷ [] }) g) (sym (name_is kind (codes "N") ok.0)) (subst (Filing (record d { rows = d.rows ++ (codes "N" ∷ name ∷ []) ∷ [] })) ok.1 (objective_filed d f name filing at none))
 row_line_by d f g kind name (Some held) there filing at e =
     let ok = constraint_ok f g kind name e in
-    subst (λ (word : List ℕ). Filing (record d { rows = d.rows ++ (word ∷ name ∷ []) ∷ [] }) g) (sym (name_is kind (codes "L") ok.0)) (subst (Filing (record d { rows = d.rows ++ (codes "L" ∷ name ∷ []) ∷ [] })) ok.3 (constraint_filed d f name filing at))
+    subst (λ (word : List ℕ). Filing (record d { rows = d.rows ++ (word ∷ name ∷ []) ∷ [] }) g) (sym (name_is kind (codes "L") ok.0)) (subst (Filing (record d { rows = d.rows ++ (codes "L" ∷ name ∷ []) ∷ [] })) ok.3 (constraint_filed d f held name filing at there))
 
 row_line_filed : (d : Data) (f g : Filed) (fields : List (List ℕ)) → Filing d f → f.section ≡ sections.Rows → row_line f fields ≡ Ok g → Filing (record d { rows = d.rows ++ fields ∷ [] }) g
 unfolding row_line
@@ -298,11 +304,13 @@ step_filed lines f g line keeps filing e = filed_by lines f g line.number line.h
 pub none_filed : Filing (data_on []) nothing_filed
 none_filed = record {
   section = refl;
-  early = λ before. record { columns = refl; current = refl; pairs = refl; entries = refl; rhs = refl; rhs_pairs = refl };
+  early = λ before. record { columns = refl; current = refl; named = refl; pairs = refl; entries = refl; rhs = refl; rhs_pairs = refl };
   free = refl;
   constraints = refl;
   kinds = refl;
+  first = λ none. refl;
   names = refl;
+  last = λ name is. cc;
   columns = All-nil (AgreesWhole [] None []);
   current = λ name is. cc;
   idle = λ none. (refl, refl);

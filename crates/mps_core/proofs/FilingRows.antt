@@ -26,11 +26,13 @@ objective_filed d f name filing at none =
     let line : List (List ℕ) = codes "N" ∷ name ∷ [] in
     record {
       section = filing.section;
-      early = λ before. record { columns = early.columns; current = early.current; pairs = early.pairs; entries = early.entries; rhs = early.rhs; rhs_pairs = early.rhs_pairs };
+      early = λ before. record { columns = early.columns; current = early.current; named = early.named; pairs = early.pairs; entries = early.entries; rhs = early.rhs; rhs_pairs = early.rhs_pairs };
       free = flat_snoc free_name d.rows line ∙ ap (λ front. front ++ name ∷ []) (filing.free ∙ ap option_to_list none);
       constraints = flat_snoc constraint_name d.rows line ∙ append-nil (flat_map constraint_name d.rows) ∙ filing.constraints;
       kinds = flat_snoc constraint_kind d.rows line ∙ append-nil (flat_map constraint_kind d.rows) ∙ filing.kinds;
+      first = λ gone. cc;
       names = filing.names;
+      last = λ other is. absurd (cc (early.current, is));
       columns = all_none (AgreesWhole d.pairs (Some name) f.rows) f.columns early.columns;
       current = λ other is. absurd (cc (early.current, is));
       idle = filing.idle;
@@ -42,18 +44,20 @@ objective_filed d f name filing at none =
       bounds = filing.bounds;
     }
 
-pub constraint_filed : (d : Data) (f : Filed) (name : List ℕ) → Filing d f → f.section ≡ sections.Rows →
+pub constraint_filed : (d : Data) (f : Filed) (held name : List ℕ) → Filing d f → f.section ≡ sections.Rows → f.objective ≡ Some held →
     Filing (record d { rows = d.rows ++ (codes "L" ∷ name ∷ []) ∷ [] }) (record f { rows = f.rows ++ name ∷ [] })
-constraint_filed d f name filing at =
+constraint_filed d f held name filing at there =
     let early : IsEarly d f = filing.early (ap (λ section. nat_lt (rank section) 3) at) in
     let line : List (List ℕ) = codes "L" ∷ name ∷ [] in
     record {
       section = filing.section;
-      early = λ before. record { columns = early.columns; current = early.current; pairs = early.pairs; entries = early.entries; rhs = early.rhs; rhs_pairs = early.rhs_pairs };
+      early = λ before. record { columns = early.columns; current = early.current; named = early.named; pairs = early.pairs; entries = early.entries; rhs = early.rhs; rhs_pairs = early.rhs_pairs };
       free = flat_snoc free_name d.rows line ∙ append-nil (flat_map free_name d.rows) ∙ filing.free;
       constraints = flat_snoc constraint_name d.rows line ∙ ap (λ front. front ++ name ∷ []) filing.constraints;
       kinds = flat_snoc constraint_kind d.rows line ∙ ap (λ front. front ++ Less ∷ []) filing.kinds ∙ sym (map-append (λ (row : List ℕ). Less) f.rows (name ∷ []));
+      first = λ gone. absurd (cc (gone, there));
       names = filing.names;
+      last = λ other is. absurd (cc (early.current, is));
       columns = all_none (AgreesWhole d.pairs f.objective (f.rows ++ name ∷ [])) f.columns early.columns;
       current = λ other is. absurd (cc (early.current, is));
       idle = filing.idle;

@@ -12,3 +12,6 @@ pub mod FilingColumns
 pub mod FilingValues
 pub mod FilingLines
 pub mod MeansLemmas
+pub mod FitLemmas
+pub mod FitLines
+pub mod Judged

@@ -119,9 +119,13 @@ fits_data section before fields =
 abbrev pub fits : List TextLine → TextLine → Bool
 fits before line = if line.header then fits_header before (last_section [] before) (first_word line.fields) else fits_data (last_section [] before) before line.fields
 
--- each of the lines fits those before it
+-- each of the lines fits those before it; some lines stand before them
+abbrev pub AllFitBehind : List TextLine → List TextLine → Type 0
+AllFitBehind before [] = Unit {0}
+AllFitBehind before (line ∷ lines) = (fits before line ≡ true) × AllFitBehind (before ++ line ∷ []) lines
+
 abbrev pub AllFit : List TextLine → Type 0
-AllFit lines = (before : List TextLine) (line : TextLine) (after : List TextLine) → lines ≡ before ++ line ∷ after → fits before line ≡ true
+AllFit lines = AllFitBehind [] lines
 
 -- The lines up to ENDATA fit, and ENDATA is there.
 pub record IsThinText (lines : List TextLine) : Type 0 where
