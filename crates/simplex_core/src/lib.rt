@@ -17,3 +17,6 @@ mod tableau;
 pub use outcome::Outcome;
 pub use solver::solve;
 pub use standard::Standard;
+
+#[cfg(test)]
+mod tests;
