@@ -1,5 +1,5 @@
 -- What shows that an outcome is right, with no word of how it was found.
-use Rattle.std.specs.Prelude.{◌≡◌, ℕ, ◌<◌, ◌≤◌, List, [], ◌∷◌, length}
+use Rattle.std.specs.Prelude.{◌≡◌, ℕ, ◌+◌, ◌*◌, ◌^◌, ◌<◌, ◌≤◌, List, [], ◌∷◌, length}
 use Rattle.rationals.specs.Rational.{ℚ, zero_ℚ, ◌-ℚ◌, ◌≤ℚ◌, ◌<ℚ◌}
 use Rattle.rationals.specs.Sums.{dot}
 use Rattle.rationals.specs.Sparse.{Entry, coefficient, product}
@@ -78,3 +78,7 @@ SolutionsAreCertified = (p : Program) (pivots : ℕ) → IsProgram p → IsCerti
 -- a program whose last columns, one for each row, are unit columns is never infeasible
 abbrev pub UnitColumnsAreFeasible : Type 0
 UnitColumnsAreFeasible = (p : Program) (y : List ℚ) → IsProgram p → EndsInUnits p → IsInfeasible p y → ⊥
+
+-- where twice as many pivots are allowed as there are sets of its columns and artificial columns, and one more for each row, the path is never cut off
+abbrev pub PivotsAreBounded : Type 0
+PivotsAreBounded = (p : Program) (pivots : ℕ) → IsProgram p → 2 * 2 ^ (p.columns + length p.rows) + length p.rows ≤ pivots → solution p pivots ≡ Cut_off → ⊥

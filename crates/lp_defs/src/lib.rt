@@ -1,7 +1,7 @@
 //! Linear programs in standard form, the path of the simplex method on them, and what is true of it.
 #![tactic(auto)]
 
-ghost use Rattle.lp_defs.specs.Certificates.{SolutionsAreCertified, UnitColumnsAreFeasible};
+ghost use Rattle.lp_defs.specs.Certificates.{PivotsAreBounded, SolutionsAreCertified, UnitColumnsAreFeasible};
 ghost use Rattle.lp_defs.specs.Trace.{NoBasisTwice, NoBasisTwiceOnPath};
 
 /// An optimum has a point and duals of equal value, an infeasible program multipliers that show it, an
@@ -23,4 +23,9 @@ pub fn no_basis_twice()
 /// Nor does a path.
 pub fn no_basis_twice_on_path()
     ensures { NoBasisTwiceOnPath }
+{}
+
+/// So a path has at most twice as many pivots as there are sets of columns, and one more for each row.
+pub fn pivots_are_bounded()
+    ensures { PivotsAreBounded }
 {}

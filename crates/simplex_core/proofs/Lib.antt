@@ -7,3 +7,4 @@ pub mod Counting
 pub mod Drives
 pub mod Solves
 pub mod Checks
+pub mod Columns

@@ -1,5 +1,5 @@
 -- From the parts of a solve to its answer.
-use Rattle.std.proofs.Common.{◌≡◌, ℕ, zero, suc, ◌+◌, ◌-◌, Bool, true, false, not, List, [], Result, Ok, Err, Some, length, refl, sym, ap, ap₂, ◌∙◌, subst, arith}
+use Rattle.std.proofs.Common.{◌≡◌, ℕ, zero, suc, ◌+◌, ◌-◌, ◌*◌, ◌^◌, ◌≤◌, Bool, true, false, not, List, [], Result, Ok, Err, Some, length, refl, sym, ap, ap₂, ◌∙◌, subst, arith}
 use Rattle.std.specs.Prelude.{IfOk}
 use Rattle.rationals.specs.Rational.{ℚ, zero_ℚ, ◌≤ℚ◌}
 use Rattle.rationals.specs.Passes.{Operation}
@@ -13,7 +13,7 @@ use Rattle.lp_defs.specs.Ends.{EndsWell, NoneAbove}
 use Rattle.lp_defs.specs.Basis.{IsUnits, point, ray}
 use Rattle.lp_defs.specs.Phases.{unit_rows, with_units, unit_costs, cost_line, priced, Driven, Driven_out, driven, first_duals, unit_duals}
 use Rattle.lp_defs.specs.Program.{Program, IsProgram, EndsInUnits}
-use Rattle.lp_defs.specs.Solution.{Solution, Optimum, Nowhere, Endless, counted, first_rows, first_cost, first_end, second_end, second, between, solution}
+use Rattle.lp_defs.specs.Solution.{Solution, Optimum, Nowhere, Endless, Cut_off, counted, first_rows, first_cost, first_end, second_end, second, between, solution}
 use Rattle.lp_defs.specs.Stages.{First, Driving, DrivenOut, Second}
 use Rattle.lp_defs.specs.Certificates.{IsCertified}
 use Rattle.lp_defs.specs.Placed.{BasicsDiffer}
@@ -23,6 +23,7 @@ use Rattle.lp_defs.proofs.Rays.{entering_falls}
 use Rattle.lp_defs.proofs.Ready.{apart_entering, first_begins, first_path, never_open, driving_begins, EndsDriven, driven_well, second_begins, second_path}
 use Rattle.lp_defs.proofs.Certified.{solutions_are_certified}
 use Rattle.lp_defs.proofs.Feasible.{unit_columns_are_feasible}
+use Rattle.lp_defs.proofs.Bound.{pivots_are_bounded}
 use Rattle.lp_defs.proofs.Same.{optimal_same, unbounded_same}
 use Rattle.simplex_core.specs.declared.tableau.End.{End}
 use Rattle.simplex_core.specs.declared.tableau.End.TheVariants as end
@@ -32,7 +33,7 @@ use Rattle.simplex_core.specs.declared.outcome.Outcome.{Outcome}
 use Rattle.simplex_core.specs.declared.outcome.Outcome.TheVariants as outcome
 use Rattle.simplex_core.specs.Reached.{Reached}
 use Rattle.simplex_core.specs.Drove.{Drove}
-use Rattle.simplex_core.specs.Told.{Tells, Shows, IsNotInfeasible}
+use Rattle.simplex_core.specs.Told.{Tells, Shows, IsNotInfeasible, IsNotPivotsEnded}
 
 -- an answer by another name
 pub renamed : (s z : Solution) (r : Result Outcome Memory) → z ≡ s → IfOk r (Tells s) → IfOk r (Tells z)
@@ -156,3 +157,14 @@ not_infeasible p (outcome.Passed k q) is u h = tt
 
 pub feasible : (p : Program) (pivots : ℕ) (o : Outcome) → IsProgram p → EndsInUnits p → Tells (solution p pivots) o → IsNotInfeasible o
 feasible p pivots o is u t = not_infeasible p o is u (shown p pivots o is t)
+
+-- ---- a path that may be long enough
+goes_on : (p : Program) (pivots : ℕ) (o : Outcome) → (solution p pivots ≡ Cut_off → ⊥) → Tells (solution p pivots) o → IsNotPivotsEnded o
+goes_on p pivots (outcome.Optimal x y) h t = tt
+goes_on p pivots (outcome.Infeasible y) h t = tt
+goes_on p pivots (outcome.Unbounded x d) h t = tt
+goes_on p pivots outcome.PivotsEnded h t = h t
+goes_on p pivots (outcome.Passed k q) h t = tt
+
+pub bounded : (p : Program) (pivots : ℕ) (o : Outcome) → IsProgram p → Tells (solution p pivots) o → 2 * 2 ^ (p.columns + length p.rows) + length p.rows ≤ pivots → IsNotPivotsEnded o
+bounded p pivots o is t h = goes_on p pivots o (pivots_are_bounded p pivots is h) t

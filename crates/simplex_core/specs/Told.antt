@@ -34,6 +34,13 @@ IsNotInfeasible (outcome.Unbounded point ray) = Unit {0}
 IsNotInfeasible outcome.PivotsEnded = Unit {0}
 IsNotInfeasible (outcome.Passed k o) = Unit {0}
 
+abbrev pub IsNotPivotsEnded : Outcome → Type 0
+IsNotPivotsEnded (outcome.Optimal point duals) = Unit {0}
+IsNotPivotsEnded (outcome.Infeasible duals) = Unit {0}
+IsNotPivotsEnded (outcome.Unbounded point ray) = Unit {0}
+IsNotPivotsEnded outcome.PivotsEnded = ⊥
+IsNotPivotsEnded (outcome.Passed k o) = Unit {0}
+
 -- the outcome at a fault
 abbrev pub TellsFault : FormFault → ℕ → Result Outcome Memory → Type 0
 TellsFault f pivot (Ok (outcome.Optimal point duals)) = ⊥

@@ -1,11 +1,11 @@
 //! Solves a program.
-ghost use Rattle.std.specs.Prelude.{◌≡◌, ◌≤◌, ◌-◌, length, IfOk};
+ghost use Rattle.std.specs.Prelude.{◌≡◌, ◌≤◌, ◌+◌, ◌-◌, ◌*◌, ◌^◌, length, IfOk};
 ghost use Rattle.lp_defs.specs.Path.{Done, path};
 ghost use Rattle.lp_defs.specs.Phases.{driven};
 ghost use Rattle.lp_defs.specs.Program.{EndsInUnits};
 ghost use Rattle.lp_defs.specs.Solution.{first_end, between, second, second_end, solution};
 ghost use Rattle.lp_defs.specs.Stages.{First, Driving, DrivenOut, Second};
-ghost use Rattle.simplex_core.specs.Told.{Tells, TellsFault, Shows, IsNotInfeasible};
+ghost use Rattle.simplex_core.specs.Told.{Tells, TellsFault, Shows, IsNotInfeasible, IsNotPivotsEnded};
 
 use crate::drive::{Driven, drive};
 use crate::duals::{first_duals, unit_duals};
@@ -184,11 +184,13 @@ fn answer(alloc: Global, program: &Standard, pivots: u64) -> Result<Outcome, Mem
 /// objective row counts to the pivot before it, and so do the duals of phase one.
 ///
 /// All pivots are counted together. `PivotsEnded` comes exactly where the path has more of them than
-/// `pivots`, and no operation up to the last of these passes.
+/// `pivots`, and no operation up to the last of these passes. A path never has more than twice as many
+/// pivots as there are sets of columns and artificial columns, and one more for each row.
 pub fn solve(alloc: Global, program: &Standard, pivots: u64) -> Result<Outcome, Memory>
     ensures exact { IfOk result (Tells (solution program.now pivots)) }
     ensures certified { IfOk result (Shows program.now) }
     ensures feasible { EndsInUnits program.now → IfOk result IsNotInfeasible }
+    ensures bounded { 2 * 2 ^ (program.now.columns + length program.now.rows) + length program.now.rows ≤ pivots → IfOk result IsNotPivotsEnded }
 {
     let _columns = program.columns();
     let outcome = answer(alloc, program, pivots)?;

@@ -1,4 +1,4 @@
-use Rattle.simplex_core.proofs.Solves.{shown, feasible}
+use Rattle.simplex_core.proofs.Solves.{shown, feasible, bounded}
 use Rattle.simplex_core.proofs.solver.solve.Goals as goal
 
 pub returns-clause-certified : goal.returns-clause-certified
@@ -6,3 +6,6 @@ returns-clause-certified c = shown c.args.program.now c.args.pivots c.in_ok-outc
 
 pub returns-clause-feasible : goal.returns-clause-feasible
 returns-clause-feasible c = λ u. feasible c.args.program.now c.args.pivots c.in_ok-outcome.outcome c.columns-columns.ensures.is_program u c.in_ok-outcome.ensures
+
+pub returns-clause-bounded : goal.returns-clause-bounded
+returns-clause-bounded c = λ h. bounded c.args.program.now c.args.pivots c.in_ok-outcome.outcome c.columns-columns.ensures.is_program c.in_ok-outcome.ensures h

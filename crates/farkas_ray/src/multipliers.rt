@@ -1,0 +1,74 @@
+//! Column sums and values of multipliers.
+ghost use Rattle.std.specs.Prelude.{◌≡◌, length, true, false, Ok, MatchResult, MatchOption, IfOk};
+ghost use Rattle.rationals.specs.Rational.{zero_ℚ};
+ghost use Rattle.lp_defs.specs.Certificates.{IsInfeasible};
+ghost use Rattle.farkas_ray.specs.Sums.{column_from, columns_from, value_from, ray_walk};
+ghost use Rattle.farkas_ray.specs.Halts.{HaltedBy};
+
+use crate::halted::Halted;
+use frac128::{Form, Frac, Passed};
+use simplex_core::{Standard, is_above_zero};
+use std::alloc::Global;
+
+/// The products of a column's entries and the multipliers, added by row.
+fn column_sum(rows: &[Form], duals: &[Frac], column: u64) -> Result<Frac, Passed>
+    requires { length duals.now ≡ length rows.now }
+    ensures { result ≡ column_from zero_ℚ rows.now duals.now column }
+{
+    let mut sum = Frac::zero();
+    for row in 0..rows.len() {
+        let product = rows[row].get(column).mul(duals[row])?;
+        sum = sum.add(product)?;
+    }
+    Ok(sum)
+}
+
+/// Whether no column sum is above 0; all are computed, in order.
+fn has_good_sums(rows: &[Form], duals: &[Frac], columns: u64) -> Result<bool, Passed>
+    requires { length duals.now ≡ length rows.now }
+    ensures { result ≡ columns_from rows.now duals.now 0 columns true }
+{
+    let mut is_good = true;
+    for column in 0..columns {
+        let sum = column_sum(rows, duals, column)?;
+        is_good = is_good && !is_above_zero(sum);
+    }
+    Ok(is_good)
+}
+
+/// The products of the multipliers and the right sides, added by row.
+fn value(duals: &[Frac], right: &[Frac]) -> Result<Frac, Passed>
+    requires { length duals.now ≡ length right.now }
+    ensures { result ≡ value_from zero_ℚ duals.now right.now }
+{
+    let mut sum = Frac::zero();
+    for row in 0..duals.len() {
+        let product = duals[row].mul(right[row])?;
+        sum = sum.add(product)?;
+    }
+    Ok(sum)
+}
+
+/// The multipliers, where no column sum of theirs is above 0 and their value is: no point meets all rows
+/// then (Farkas' lemma).
+///
+/// The operations are those of the column sums, by column and then by row, each an entry times a multiplier
+/// and its addition to the sum so far, and then those of the value, by row, each a multiplier times a right
+/// side and its addition. The first of them that passes 128 bits ends the call.
+pub fn ray(
+    alloc: Global,
+    program: &Standard,
+    duals: &[Frac],
+) -> Result<Option<Vec<Frac>>, Halted>
+    requires { length duals.now ≡ length program.now.rows }
+    ensures exact { MatchResult result (λ found. MatchOption found (ray_walk program.now duals.now ≡ Ok false) (λ multipliers. (ray_walk program.now duals.now ≡ Ok true) × (multipliers.items ≡ duals.now))) (HaltedBy (ray_walk program.now duals.now)) }
+    ensures certified { IfOk result (λ found. MatchOption found (IsInfeasible program.now duals.now → ⊥) (λ multipliers. IsInfeasible program.now multipliers.items)) }
+{
+    let is_good = has_good_sums(program.rows(), duals, program.columns())?;
+    let value = value(duals, program.right())?;
+    if is_good && is_above_zero(value) {
+        Ok(Some(duals.to_vec(alloc)?))
+    } else {
+        Ok(None)
+    }
+}
