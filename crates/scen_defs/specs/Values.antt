@@ -13,6 +13,11 @@ abbrev pub at : List At → ℕ → ℕ → ℚ
 at [] n i = zero_ℚ
 at (a ∷ values) n i = pick (eqb a.node n && eqb a.index i) a.value (at values n i)
 
+-- it stands at (n, i)
+pub record IsAt (n i : ℕ) (a : At) : Type 0 where
+  pub node : a.node ≡ n
+  pub index : a.index ≡ i
+
 -- it stands before (n, i): at an earlier node, or there at a smaller index
 pub record IsBefore (n i : ℕ) (a : At) : Type 0 where
   pub node : a.node ≤ n

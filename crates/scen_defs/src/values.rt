@@ -1,7 +1,7 @@
 // Numbers at nodes: points and multipliers.
-ghost use Rattle.std.specs.Prelude.{◌≡◌, ◌≢◌, [], ◌∷◌, ◌++◌, OnOk, OnErr};
+ghost use Rattle.std.specs.Prelude.{◌≡◌, ◌≢◌, ◌↔◌, IsTrue, [], ◌∷◌, ◌++◌, OnOk, OnErr};
 ghost use Rattle.rationals.specs.Rational.{zero_ℚ};
-ghost use Rattle.scen_defs.specs.Values.{EndsBefore};
+ghost use Rattle.scen_defs.specs.Values.{at, IsAt, IsBefore, EndsBefore, Rises};
 
 use frac128::{Frac, Memory};
 use std::alloc::Global;
@@ -43,6 +43,55 @@ impl Model for Values {
     ghost invariant = { λ v. AreValues v.items.items };
 }
 
+/// Whether a number stands before a node and an index.
+fn is_before(item: Value, node: u64, index: u64) -> bool
+    ensures { IsTrue result ↔ IsBefore node index item }
+{
+    let place = item.node as u64;
+    place < node || (place == node && (item.index as u64) < index)
+}
+
+/// Whether a number stands at a node and an index.
+fn stands_at(item: Value, node: u64, index: u64) -> bool
+    ensures { IsTrue result ↔ IsAt node index item }
+{
+    item.node as u64 == node && item.index as u64 == index
+}
+
+/// Whether all numbers stand before a node and an index.
+fn end_before(items: &[Value], node: u32, index: u32) -> bool
+    requires { Rises items.now }
+    ensures { IsTrue result ↔ EndsBefore items.now node index }
+{
+    let count = items.len();
+    if count == 0 {
+        return true;
+    }
+    let last = items[count - 1];
+    is_before(last, node as u64, index as u64)
+}
+
+/// The number at a node and an index, 0 where there is none: by halving.
+fn value_in(items: &[Value], node: u64, index: u64) -> Frac
+    requires { Rises items.now }
+    ensures { result ≡ at items.now node index }
+{
+    let mut low = 0;
+    let mut high = items.len();
+    'search: while low < high {
+        let middle = low + (high - low) / 2;
+        let item = items[middle];
+        if is_before(item, node, index) {
+            low = middle + 1;
+        } else if stands_at(item, node, index) {
+            return item.value;
+        } else {
+            high = middle;
+        }
+    }
+    Frac::zero()
+}
+
 impl Values {
     /// No numbers.
     pub fn empty(alloc: Global) -> Values
@@ -62,6 +111,20 @@ impl Values {
     {
         self.items.push(Value { node, index, value })?;
         Ok(())
+    }
+
+    /// Whether all numbers stand before this node and index, so that one may be pushed there.
+    pub fn ends_before(&self, node: u32, index: u32) -> bool
+        ensures { IsTrue result ↔ EndsBefore self.now node index }
+    {
+        end_before(&self.items, node, index)
+    }
+
+    /// The number at a node and an index, 0 where there is none.
+    pub fn get(&self, node: u64, index: u64) -> Frac
+        ensures { result ≡ at self.now node index }
+    {
+        value_in(&self.items, node, index)
     }
 
     /// The numbers in their order.

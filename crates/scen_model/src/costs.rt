@@ -6,18 +6,17 @@ ghost use Rattle.scen_defs.specs.Program.{content, scenarios_content, view_of};
 ghost use Rattle.scen_model.specs.Answers.{Answers};
 ghost use Rattle.scen_model.specs.Walks.{product_from, cost_step, costs_walk, cost_walk};
 
-use crate::look::value_at;
 use crate::totals::{total, totals};
 use frac128::{Frac, Passed, Term};
-use scen_defs::{Halt, Place, Program, Scenario, Value, Values};
+use scen_defs::{Halt, Place, Program, Scenario, Values};
 
 /// The cost of a node's values, column by column.
-fn node_cost(costs: &[Term], values: &[Value], node: u64) -> Result<Frac, Passed>
+fn node_cost(costs: &[Term], values: &Values, node: u64) -> Result<Frac, Passed>
     ensures { result ≡ product_from (at values.now node) zero_ℚ costs.now }
 {
     let mut sum = Frac::zero();
     for term in costs {
-        let product = term.value.mul(value_at(values, node, term.column))?;
+        let product = term.value.mul(values.get(node, term.column))?;
         sum = sum.add(product)?;
     }
     Ok(sum)
@@ -27,7 +26,7 @@ fn node_cost(costs: &[Term], values: &[Value], node: u64) -> Result<Frac, Passed
 fn add_node(
     scenarios: &[Scenario],
     costs: &[Term],
-    values: &[Value],
+    values: &Values,
     node: u64,
     sum: Frac,
 ) -> Result<Frac, Passed>
@@ -40,7 +39,7 @@ fn add_node(
 }
 
 /// The total times the node's cost, added up by node.
-fn add_nodes(program: &Program, values: &[Value]) -> Result<Frac, Passed>
+fn add_nodes(program: &Program, values: &Values) -> Result<Frac, Passed>
     ensures { result ≡ costs_walk (view_of (content program.now)) (at values.now) }
 {
     let mut sum = Frac::zero();
@@ -54,7 +53,7 @@ fn add_nodes(program: &Program, values: &[Value]) -> Result<Frac, Passed>
 }
 
 /// The totals by node, and then the costs of the nodes.
-pub(crate) fn cost_of(program: &Program, values: &[Value]) -> Result<Frac, Passed>
+pub(crate) fn cost_of(program: &Program, values: &Values) -> Result<Frac, Passed>
     ensures { result ≡ cost_walk (view_of (content program.now)) (at values.now) }
 {
     totals(program)?;
@@ -68,7 +67,7 @@ pub(crate) fn cost_of(program: &Program, values: &[Value]) -> Result<Frac, Passe
 pub fn cost(program: &Program, policy: &Values) -> Result<Frac, Halt>
     ensures { Answers (cost_walk (view_of (content program.now)) (at policy.now)) result }
 {
-    match cost_of(program, policy.items()) {
+    match cost_of(program, policy) {
         Ok(cost) => Ok(cost),
         Err(passed) => Err(Halt::Passed(Place::Check, passed)),
     }

@@ -9,27 +9,26 @@ ghost use Rattle.scen_model.specs.Answers.{AnswersOption};
 ghost use Rattle.scen_model.specs.Walks.{costs_of, rows_from, all_rows, less_from, less_all, reduced_walk, bound_step, columns_step, all_columns, dual_by, dual_walk};
 
 use crate::ends::add_worth;
-use crate::look::value_at;
 use crate::stop::Stop;
 use crate::totals::{total, totals};
 use crate::tree::{Costs, cost_at, is_above, stage};
 use frac128::{Frac, Passed};
-use scen_defs::{Halt, NodeRow, Place, Program, Value, Values};
+use scen_defs::{Halt, NodeRow, Place, Program, Values};
 
 /// The sum, and row by row the multiplier times the end that it uses.
-fn add_rows(rows: &[NodeRow], values: &[Value], node: u64, start: Frac) -> Result<Frac, Stop>
+fn add_rows(rows: &[NodeRow], values: &Values, node: u64, start: Frac) -> Result<Frac, Stop>
     ensures { result ≡ rows_from (at values.now node) start rows.now }
 {
     let mut sum = start;
     for row in rows {
-        let multiplier = value_at(values, node, row.row as u64);
+        let multiplier = values.get(node, row.row as u64);
         sum = add_worth(row.low, row.high, multiplier, sum)?;
     }
     Ok(sum)
 }
 
 /// The rows of all nodes.
-fn add_all_rows(program: &Program, values: &[Value]) -> Result<Frac, Stop>
+fn add_all_rows(program: &Program, values: &Values) -> Result<Frac, Stop>
     ensures { result ≡ all_rows (view_of (content program.now)) (at values.now) }
 {
     let mut sum = Frac::zero();
@@ -44,7 +43,7 @@ fn add_all_rows(program: &Program, values: &[Value]) -> Result<Frac, Stop>
 /// What is left of a number, row by row, less the entry of a column times the multiplier.
 fn less_rows(
     rows: &[NodeRow],
-    values: &[Value],
+    values: &Values,
     node: u64,
     column: u64,
     start: Frac,
@@ -53,7 +52,7 @@ fn less_rows(
 {
     let mut rest = start;
     for row in rows {
-        let multiplier = value_at(values, node, row.row as u64);
+        let multiplier = values.get(node, row.row as u64);
         let product = row.entries.get(column).mul(multiplier)?;
         rest = rest.sub(product)?;
     }
@@ -64,7 +63,7 @@ fn less_rows(
 fn less_node(
     program: &Program,
     rows: &[NodeRow],
-    values: &[Value],
+    values: &Values,
     top: u64,
     node: u64,
     column: u64,
@@ -82,7 +81,7 @@ fn less_node(
 /// The same over all nodes.
 fn less_below(
     program: &Program,
-    values: &[Value],
+    values: &Values,
     top: u64,
     column: u64,
     start: Frac,
@@ -102,7 +101,7 @@ fn less_below(
 fn reduced(
     program: &Program,
     costs: Costs,
-    values: &[Value],
+    values: &Values,
     node: u64,
     column: u64,
 ) -> Result<Frac, Passed>
@@ -117,7 +116,7 @@ fn reduced(
 fn add_column(
     program: &Program,
     costs: Costs,
-    values: &[Value],
+    values: &Values,
     node: u64,
     column: u64,
     lower: Option<Frac>,
@@ -134,7 +133,7 @@ fn add_column(
 fn add_columns(
     program: &Program,
     costs: Costs,
-    values: &[Value],
+    values: &Values,
     node: u64,
     start: Frac,
 ) -> Result<Frac, Stop>
@@ -165,7 +164,7 @@ fn add_columns(
 fn add_all_columns(
     program: &Program,
     costs: Costs,
-    values: &[Value],
+    values: &Values,
     start: Frac,
 ) -> Result<Frac, Stop>
     ensures { result ≡ all_columns (costs_of costs (view_of (content program.now))) (view_of (content program.now)) (at values.now) start }
@@ -180,7 +179,7 @@ fn add_all_columns(
 }
 
 /// The totals, then the rows, then the columns.
-fn value_by(program: &Program, costs: Costs, values: &[Value]) -> Result<Frac, Stop>
+fn value_by(program: &Program, costs: Costs, values: &Values) -> Result<Frac, Stop>
     ensures { result ≡ dual_by (costs_of costs (view_of (content program.now))) (view_of (content program.now)) (at values.now) }
 {
     totals(program)?;
@@ -199,14 +198,14 @@ fn value_by(program: &Program, costs: Costs, values: &[Value]) -> Result<Frac, S
 pub fn dual_value(program: &Program, dual: &Values) -> Result<Option<Frac>, Halt>
     ensures { AnswersOption (dual_walk (view_of (content program.now)) (at dual.now)) result }
 {
-    answer(value_by(program, Costs::Own, dual.items()))
+    answer(value_by(program, Costs::Own, dual))
 }
 
 /// What multipliers are worth where all costs are 0; else as `dual_value`.
 pub fn zero_value(program: &Program, ray: &Values) -> Result<Option<Frac>, Halt>
     ensures { AnswersOption (dual_walk (without_costs (view_of (content program.now))) (at ray.now)) result }
 {
-    answer(value_by(program, Costs::Zero, ray.items()))
+    answer(value_by(program, Costs::Zero, ray))
 }
 
 fn answer(value: Result<Frac, Stop>) -> Result<Option<Frac>, Halt>

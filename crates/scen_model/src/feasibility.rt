@@ -9,11 +9,10 @@ ghost use Rattle.scen_model.specs.Walks.{product_from, end_of, is_between, test,
 
 use crate::costs::cost_of;
 use crate::ends::is_at_most;
-use crate::look::value_at;
 use crate::stop::Stop;
 use crate::tree::{home, stage};
 use frac128::{Frac, Passed, Term};
-use scen_defs::{Halt, NodeRow, Place, Program, Value, Values};
+use scen_defs::{Halt, NodeRow, Place, Program, Values};
 
 /// Which ends of intervals count.
 #[derive(Clone, Copy)]
@@ -64,12 +63,12 @@ fn test_number(ends: Ends, low: Option<Frac>, high: Option<Frac>, number: Frac) 
 }
 
 /// The sum of entry times value along the path of a node.
-fn row_sum(program: &Program, entries: &[Term], values: &[Value], node: u64) -> Result<Frac, Passed>
+fn row_sum(program: &Program, entries: &[Term], values: &Values, node: u64) -> Result<Frac, Passed>
     ensures { result ≡ product_from (along (view_of (content program.now)) (at values.now) node) zero_ℚ entries.now }
 {
     let mut sum = Frac::zero();
     for term in entries {
-        let value = value_at(values, home(program, node, term.column), term.column);
+        let value = values.get(home(program, node, term.column), term.column);
         let product = term.value.mul(value)?;
         sum = sum.add(product)?;
     }
@@ -81,7 +80,7 @@ fn test_rows(
     program: &Program,
     ends: Ends,
     rows: &[NodeRow],
-    values: &[Value],
+    values: &Values,
     node: u64,
 ) -> Result<(), Stop>
     ensures { result ≡ rows_test (end_of ends) (along (view_of (content program.now)) (at values.now) node) rows.now }
@@ -94,7 +93,7 @@ fn test_rows(
 }
 
 /// The rows of all nodes.
-fn test_all_rows(program: &Program, ends: Ends, values: &[Value]) -> Result<(), Stop>
+fn test_all_rows(program: &Program, ends: Ends, values: &Values) -> Result<(), Stop>
     ensures { result ≡ all_rows_test (end_of ends) (view_of (content program.now)) (at values.now) }
 {
     for (place, slot) in program.nodes.iter().enumerate() {
@@ -106,13 +105,13 @@ fn test_all_rows(program: &Program, ends: Ends, values: &[Value]) -> Result<(), 
 }
 
 /// The bounds of the columns of a node's stage.
-fn test_bounds(program: &Program, ends: Ends, values: &[Value], node: u64) -> Result<(), Stop>
+fn test_bounds(program: &Program, ends: Ends, values: &Values, node: u64) -> Result<(), Stop>
     ensures { result ≡ bounds_test (end_of ends) (view_of (content program.now)) (at values.now) node }
 {
     let stage = stage(program, node);
     for (place, column) in program.columns.iter().enumerate() {
         if column.stage == stage {
-            let value = value_at(values, node, place as u64);
+            let value = values.get(node, place as u64);
             test_number(ends, column.lower, column.upper, value)?;
         }
     }
@@ -120,7 +119,7 @@ fn test_bounds(program: &Program, ends: Ends, values: &[Value], node: u64) -> Re
 }
 
 /// The bounds of all nodes.
-fn test_all_bounds(program: &Program, ends: Ends, values: &[Value]) -> Result<(), Stop>
+fn test_all_bounds(program: &Program, ends: Ends, values: &Values) -> Result<(), Stop>
     ensures { result ≡ all_bounds_test (end_of ends) (view_of (content program.now)) (at values.now) }
 {
     for (place, slot) in program.nodes.iter().enumerate() {
@@ -132,7 +131,7 @@ fn test_all_bounds(program: &Program, ends: Ends, values: &[Value]) -> Result<()
 }
 
 /// All bounds, and then all rows.
-fn test_all(program: &Program, ends: Ends, values: &[Value]) -> Result<(), Stop>
+fn test_all(program: &Program, ends: Ends, values: &Values) -> Result<(), Stop>
     ensures { result ≡ meets_walk (end_of ends) (view_of (content program.now)) (at values.now) }
 {
     test_all_bounds(program, ends, values)?;
@@ -140,7 +139,7 @@ fn test_all(program: &Program, ends: Ends, values: &[Value]) -> Result<(), Stop>
 }
 
 /// The bounds and rows with zero ends, and then the cost.
-fn test_direction(program: &Program, values: &[Value]) -> Result<(), Stop>
+fn test_direction(program: &Program, values: &Values) -> Result<(), Stop>
     ensures { result ≡ direction_walk (view_of (content program.now)) (at values.now) }
 {
     test_all(program, Ends::Zero, values)?;
@@ -155,7 +154,7 @@ fn test_direction(program: &Program, values: &[Value]) -> Result<(), Stop>
 pub fn feasible(program: &Program, policy: &Values) -> Result<bool, Halt>
     ensures { AnswersTest (feasible_walk (view_of (content program.now)) (at policy.now)) result }
 {
-    answer(test_all(program, Ends::Own, policy.items()))
+    answer(test_all(program, Ends::Own, policy))
 }
 
 /// Whether a direction is feasible where each finite interval end and bound is 0, and its cost below 0.
@@ -165,7 +164,7 @@ pub fn feasible(program: &Program, policy: &Values) -> Result<bool, Halt>
 pub fn is_direction(program: &Program, direction: &Values) -> Result<bool, Halt>
     ensures { AnswersTest (direction_walk (view_of (content program.now)) (at direction.now)) result }
 {
-    answer(test_direction(program, direction.items()))
+    answer(test_direction(program, direction))
 }
 
 fn answer(tested: Result<(), Stop>) -> Result<bool, Halt>

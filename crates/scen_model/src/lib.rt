@@ -8,7 +8,6 @@ mod ends;
 mod feasibility;
 mod fitting;
 mod laws;
-mod look;
 mod stop;
 mod totals;
 mod tree;

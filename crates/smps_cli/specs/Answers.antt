@@ -7,6 +7,7 @@ use Rattle.smps_cli.specs.declared.status.FileKind.TheVariants.{Core}
 use Rattle.smps_cli.specs.declared.status.Status.{Status}
 use Rattle.smps_cli.specs.declared.status.Status.TheVariants.{Done, SomeOpen, Words, Refused, TooLong, ReadFault, WriteFault, Memory}
 use Rattle.smps_cli.specs.Lines.{status_line}
+use Rattle.smps_cli.specs.Printed.{PrintsTrueReport}
 use Rattle.smps_cli.specs.Words.{core_name}
 
 -- a file has at most so many bytes
@@ -15,8 +16,8 @@ file_limit = 8388608
 
 -- What the bytes of a core file may come to.
 abbrev pub MayBeSolved : List ℕ → Status → List ℕ → Type 0
-MayBeSolved bytes Done output = Unit {0}
-MayBeSolved bytes SomeOpen output = Unit {0}
+MayBeSolved bytes Done output = PrintsTrueReport bytes output Done
+MayBeSolved bytes SomeOpen output = PrintsTrueReport bytes output SomeOpen
 MayBeSolved bytes (Refused file line cause) output = (file ≡ Core) × (output ≡ status_line (Refused file line cause))
 MayBeSolved bytes Words output = ⊥
 MayBeSolved bytes (TooLong file) output = ⊥

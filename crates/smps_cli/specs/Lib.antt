@@ -1,4 +1,5 @@
 pub mod Lines
 pub mod Words
 pub mod Findings
+pub mod Printed
 pub mod Answers

@@ -7,4 +7,4 @@ use Rattle.scen_model.specs.Walks.{dual_walk}
 use Rattle.scen_model.proofs.duals.zero_value.Goals as goal
 
 pub returns : goal.returns
-returns c = subst (λ walk. AnswersOption walk c.answer.result) (c.value_by.ensures ∙ ap (λ y. dual_walk (without_costs (view_of (content c.args.program.now))) (at y)) c.items.ensures) c.answer.ensures
+returns c = subst (λ walk. AnswersOption walk c.answer.result) c.value_by.ensures c.answer.ensures

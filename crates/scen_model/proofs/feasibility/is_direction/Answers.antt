@@ -6,4 +6,4 @@ use Rattle.scen_model.specs.Walks.{direction_walk}
 use Rattle.scen_model.proofs.feasibility.is_direction.Goals as goal
 
 pub returns : goal.returns
-returns c = subst (λ walk. AnswersTest walk c.answer.result) (c.test_direction.ensures ∙ ap (λ d. direction_walk (view_of (content c.args.program.now)) (at d)) c.items.ensures) c.answer.ensures
+returns c = subst (λ walk. AnswersTest walk c.answer.result) c.test_direction.ensures c.answer.ensures
