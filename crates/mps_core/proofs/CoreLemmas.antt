@@ -18,7 +18,7 @@ use Rattle.mps_core.specs.declared.section.Section.TheVariants as sections
 use Rattle.mps_core.specs.Core.{row_names, column_names, IsCore, IsThin}
 use Rattle.mps_core.specs.Filed.{Filed}
 use Rattle.mps_core.specs.Finished.{IsFinished, IsCoreOf}
-use Rattle.mps_core.specs.Kept.{IsColumn, Keeps}
+use Rattle.mps_core.proofs.Kept.{IsColumn, Keeps}
 use Rattle.mps_core.specs.Number.{is_below_zero, is_negative}
 use Rattle.mps_core.specs.Rows.{or_zero, row_def, row_defs}
 use Rattle.mps_core.specs.Section.{rank}

@@ -1,10 +1,8 @@
 -- Lists of different names.
-use Rattle.std.proofs.Common.{◌≡◌, ◌≢◌, ◌∙◌, ◌++◌, ◌+◌, ◌<◌, ap, length, length-append, get_or, ℕ, Bool, true, false, List, [], ◌∷◌, Option, Some, None, is_some, refl, sym, append_assoc, append-nil, arith, if◌then◌else◌}
+use Rattle.std.proofs.Common.{◌≡◌, ◌∙◌, ◌++◌, ◌+◌, ◌<◌, ap, length, get_or, ℕ, Bool, true, false, List, [], ◌∷◌, Option, Some, is_some, refl, sym, append_assoc, append-nil, if◌then◌else◌}
 use Rattle.std.specs.Cmp.Lexicographic.{same_text}
-use Rattle.std.proofs.lemmas.List.{get_or_append_left}
-use Rattle.std.proofs.Math.Seq.{get_or-append_seam}
 use Rattle.smps_words.specs.Names.{same_name, place_from, place_of, IsNumbered}
-use Rattle.smps_words.proofs.NumberedNames.{same_name_refl, place_kept}
+use Rattle.smps_words.proofs.NumberedNames.{same_name_refl}
 use Rattle.mps_core.specs.Stated.{distinct}
 
 abbrev pub new_name : List (List ℕ) → List ℕ → List (List ℕ)

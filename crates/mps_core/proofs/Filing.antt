@@ -1,14 +1,13 @@
 -- What is filed is what the lines state.
-use Rattle.std.proofs.Common.{◌≡◌, ◌<◌, ◌&&◌, not, ℕ, Bool, true, false, List, [], Option, Some, None, map, flat_map, length, get_or, is_some, nat_lt}
+use Rattle.std.proofs.Common.{◌≡◌, ◌<◌, ℕ, true, false, List, [], Option, Some, None, map, flat_map, length, get_or, is_some, nat_lt}
 use Rattle.std.specs.Prelude.{All, codes}
 use Rattle.std.specs.List.{AllByRecursion}
 use Rattle.std.specs.Option.{option_to_list, unwrap_or}
 use Rattle.rationals.specs.Rational.{ℚ, zero_ℚ}
 use Rattle.rationals.specs.Sparse.{Entry, coefficient}
-use Rattle.rationals.specs.Forms.{find, is_zero}
+use Rattle.rationals.specs.Forms.{find}
 use Rattle.smps_words.specs.Line.{TextLine}
 use Rattle.smps_words.specs.Names.{place_of}
-use Rattle.smps_words.specs.declared.row_kind.RowKind.{RowKind}
 use Rattle.smps_words.specs.declared.row_kind.RowKind.TheVariants.{Less}
 use Rattle.mps_core.specs.declared.parts.ColumnDef.{ColumnDef}
 use Rattle.mps_core.specs.declared.section.Section.{Section}
@@ -16,7 +15,7 @@ use Rattle.mps_core.specs.declared.section.Section.TheVariants as sections
 use Rattle.mps_core.specs.Filed.{Filed}
 use Rattle.mps_core.specs.Lines.{last_section, data_of}
 use Rattle.mps_core.specs.Section.{rank}
-use Rattle.mps_core.specs.Stated.{free_name, constraint_name, constraint_kind, Pair, columns_named, entry_pairs, distinct, number_in, value_on, set_on, set_pairs}
+use Rattle.mps_core.specs.Stated.{free_name, constraint_name, constraint_kind, Pair, columns_named, entry_pairs, distinct, value_on, set_on, set_pairs}
 use Rattle.mps_core.specs.Thin.{last_of, count_entries}
 
 -- the word that begins a section

@@ -1,33 +1,25 @@
 -- One more line of COLUMNS.
-use Rattle.std.proofs.Common.{◌≡◌, ◌≢◌, ◌∙◌, ◌++◌, ◌+◌, ◌&&◌, ◌<◌, ◌==◌, ap, map, flat_map, length, length-append, get_or, ℕ, Bool, true, false, List, [], ◌∷◌, Option, Some, None, Result, Ok, not, is_some, refl, sym, subst, append-nil, append_assoc, nat_lt, arith, if◌then◌else◌}
-use Rattle.std.specs.Prelude.{All}
-use Rattle.std.specs.Option.{option_to_list, option_map, unwrap_or}
-use Rattle.std.proofs.lemmas.Bool.Decides.{nat_tests}
-use Rattle.std.proofs.lemmas.List.{map-append, get_or-map, length-map, get_or_append_left}
+use Rattle.std.proofs.Common.{◌≡◌, ◌∙◌, ◌++◌, ◌+◌, ◌<◌, ap, length, length-append, get_or, ℕ, true, false, List, [], ◌∷◌, Option, Some, None, is_some, refl, sym, subst, append-nil, nat_lt, arith, if◌then◌else◌}
+use Rattle.std.specs.Option.{option_to_list, unwrap_or}
+use Rattle.std.proofs.lemmas.List.{get_or-map, length-map, get_or_append_left}
 use Rattle.std.proofs.lemmas.List.Elements.{All-push}
 use Rattle.std.proofs.Math.Seq.{get_or-append_seam}
 use Rattle.rationals.specs.Rational.{ℚ, zero_ℚ}
 use Rattle.rationals.specs.Sparse.{Entry, Ascending}
-use Rattle.rationals.specs.Forms.{find, pick, is_zero}
-use Rattle.frac128.specs.Numbers.{read_number}
+use Rattle.rationals.specs.Forms.{find}
 use Rattle.smps_words.specs.Names.{same_name, place_of, IsNumbered}
-use Rattle.smps_words.proofs.NumberedNames.{same_name_refl, place_of_right}
 use Rattle.mps_core.specs.declared.parts.ColumnDef.{ColumnDef}
-use Rattle.mps_core.specs.declared.place.RowPlace.{RowPlace}
-use Rattle.mps_core.specs.declared.place.RowPlace.TheVariants as places
 use Rattle.mps_core.specs.declared.section.Section.TheVariants as sections
 use Rattle.mps_core.specs.Core.{column_names}
 use Rattle.mps_core.specs.Filed.{Filed}
-use Rattle.mps_core.specs.Kept.{Keeps}
+use Rattle.mps_core.proofs.Kept.{Keeps}
 use Rattle.mps_core.specs.Section.{rank}
-use Rattle.mps_core.specs.Stated.{Pair, distinct, number_in, value_on}
-use Rattle.mps_core.specs.Step.{column_def, closed, closed_at, is_named, place_in}
-use Rattle.mps_core.specs.Terms.{with_term}
+use Rattle.mps_core.specs.Stated.{Pair}
+use Rattle.mps_core.specs.Step.{column_def, closed, closed_at}
 use Rattle.mps_core.specs.Thin.{last_of, counts, count_entries}
-use Rattle.mps_core.proofs.DistinctLemmas.{new_name, distinct_snoc, name_is, name_differs, one_place, nowhere, absent_before, last_found}
-use Rattle.mps_core.proofs.Filing.{Data, Agrees, AgreesWhole, IsEarly, Filing}
-use Rattle.mps_core.proofs.StepOk.{counted}
-use Rattle.mps_core.proofs.ValueLemmas.{other_column, other_row, first_value, find_with, coefficient_is}
+use Rattle.mps_core.proofs.DistinctLemmas.{new_name, distinct_snoc, name_differs, one_place, absent_before, last_found}
+use Rattle.mps_core.proofs.Filing.{Data, Agrees, AgreesWhole, Filing}
+use Rattle.mps_core.proofs.ValueLemmas.{other_column, coefficient_is}
 
 -- ---- a column is whole
 

@@ -1,30 +1,27 @@
 -- Lines of RHS, headers, and whole texts.
-use Rattle.std.proofs.Common.{◌⊎◌, inl, inr, ◌≡◌, ◌≢◌, ◌∙◌, ◌++◌, ◌<◌, ◌==◌, ◌||◌, ap, flat_map, length, get_or, ℕ, Bool, true, false, List, [], ◌∷◌, Option, Some, None, Result, Ok, Err, not, is_some, refl, sym, subst, append_assoc, append-nil, nat_lt, arith, if◌then◌else◌}
-use Rattle.std.specs.Prelude.{All, codes}
+use Rattle.std.proofs.Common.{◌≡◌, ◌∙◌, ◌++◌, ◌==◌, ap, flat_map, ℕ, Bool, true, false, List, [], ◌∷◌, Option, Some, None, Ok, Err, is_some, refl, sym, subst, append_assoc, append-nil, nat_lt, arith, if◌then◌else◌}
+use Rattle.std.specs.Prelude.{codes}
 use Rattle.std.specs.List.{AllByRecursion}
 use Rattle.std.proofs.lemmas.Bool.Decides.{nat_tests}
 use Rattle.std.proofs.lemmas.List.Elements.{All-nil}
-use Rattle.rationals.specs.Forms.{find}
 use Rattle.smps_words.specs.Line.{TextLine}
 use Rattle.smps_words.specs.Names.{same_name}
-use Rattle.smps_words.proofs.NumberedNames.{same_name_refl}
-use Rattle.mps_core.specs.declared.cause.Cause.{Cause}
 use Rattle.mps_core.specs.declared.cause.Cause.TheVariants as cause
 use Rattle.mps_core.specs.declared.section.Section.{Section}
 use Rattle.mps_core.specs.declared.section.Section.TheVariants as sections
 use Rattle.mps_core.specs.Filed.{Filed, nothing_filed}
-use Rattle.mps_core.specs.Kept.{Keeps}
+use Rattle.mps_core.proofs.Kept.{Keeps}
 use Rattle.mps_core.specs.Lines.{first_word, section_behind, last_section, fields_in, data_in, data_of}
 use Rattle.mps_core.specs.Section.{section_of, rank}
-use Rattle.mps_core.specs.Stated.{Pair, column_name, column_pairs, pairs_after, set_on, set_pairs, value_on}
-use Rattle.mps_core.specs.Step.{◌>>=◌, closed, objective_line, constraint_line, row_line, column_line, with_rhs, rhs_line, enter, header_word, header_line, data_line, step}
+use Rattle.mps_core.specs.Stated.{Pair, column_name, column_pairs, set_on, set_pairs}
+use Rattle.mps_core.specs.Step.{closed, objective_line, constraint_line, row_line, with_rhs, rhs_line, enter, header_line, data_line, step}
 use Rattle.mps_core.specs.Terms.{with_term}
 use Rattle.mps_core.proofs.DistinctLemmas.{name_is}
-use Rattle.mps_core.proofs.Filing.{section_word, Data, data_on, AgreesWhole, IsEarly, Filing}
+use Rattle.mps_core.proofs.Filing.{section_word, Data, data_on, AgreesWhole, Filing}
 use Rattle.mps_core.proofs.FilingColumns.{closed_filed}
 use Rattle.mps_core.proofs.FilingRows.{flat_snoc, objective_filed, constraint_filed}
 use Rattle.mps_core.proofs.FilingValues.{pair_of, number_is, by_place, with_line, column_line_filed}
-use Rattle.mps_core.proofs.KeptLemmas.{KeepsIn, with_rhs_kept, closed_kept, closed_same}
+use Rattle.mps_core.proofs.KeptLemmas.{KeepsIn, with_rhs_kept}
 use Rattle.mps_core.proofs.StepOk.{bind_ok, ok_is, chosen_ok, objective_ok, constraint_ok, rhs_ok, header_ok}
 use Rattle.mps_core.proofs.ValueLemmas.{find_with}
 
@@ -218,9 +215,6 @@ either_same false x = refl
 
 abbrev pub data_text : ℕ → List (List ℕ) → TextLine
 data_text number fields = record { number = number; header = false; fields = fields }
-
-
-
 
 row_data : (lines : List TextLine) (number : ℕ) (fields : List (List ℕ)) → last_section [] lines ≡ codes "ROWS" → data_on (lines ++ data_text number fields ∷ []) ≡ record (data_on lines) { rows = data_of (codes "ROWS") lines ++ fields ∷ [] }
 row_data lines number fields at =

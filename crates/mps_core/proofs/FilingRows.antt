@@ -1,5 +1,5 @@
 -- One more line of ROWS.
-use Rattle.std.proofs.Common.{◌≡◌, ◌∙◌, ◌++◌, ap, map, flat_map, length, ℕ, Bool, true, false, List, [], ◌∷◌, Option, Some, None, is_some, refl, sym, subst, append-nil, append_assoc, nat_lt}
+use Rattle.std.proofs.Common.{◌≡◌, ◌∙◌, ◌++◌, ap, flat_map, ℕ, List, [], ◌∷◌, Some, None, refl, sym, subst, append-nil, nat_lt}
 use Rattle.std.specs.Prelude.{All, codes}
 use Rattle.std.specs.Option.{option_to_list}
 use Rattle.std.proofs.lemmas.Grind.{flat_map-append}

@@ -1,5 +1,5 @@
 -- The pairs on a line of COLUMNS.
-use Rattle.std.proofs.Common.{◌⊎◌, inl, inr, ◌≡◌, ◌≢◌, ◌∙◌, ◌++◌, ◌+◌, ◌&&◌, ◌<◌, ◌==◌, ap, length, get_or, ℕ, Bool, true, false, List, [], ◌∷◌, Option, Some, None, Result, Ok, Err, not, is_some, refl, sym, subst, append_assoc, nat_lt, arith, if◌then◌else◌}
+use Rattle.std.proofs.Common.{◌⊎◌, inl, inr, ◌≡◌, ◌∙◌, ◌++◌, ◌+◌, ◌<◌, ◌==◌, ap, length, get_or, ℕ, Bool, true, false, List, [], ◌∷◌, Option, Some, None, Result, Ok, Err, not, is_some, refl, sym, subst, append_assoc, arith, if◌then◌else◌}
 use Rattle.std.specs.Prelude.{codes}
 use Rattle.std.specs.Option.{option_map}
 use Rattle.std.proofs.lemmas.Bool.Decides.{nat_tests}
@@ -10,24 +10,22 @@ use Rattle.frac128.specs.Numbers.{read_number}
 use Rattle.frac128.specs.declared.text.NumFault.{NumFault}
 use Rattle.smps_words.specs.Names.{same_name, place_of, IsNumbered}
 use Rattle.smps_words.proofs.NumberedNames.{same_name_refl, place_of_right}
-use Rattle.mps_core.specs.declared.cause.Cause.{Cause}
 use Rattle.mps_core.specs.declared.cause.Cause.TheVariants as cause
 use Rattle.mps_core.specs.declared.place.RowPlace.{RowPlace}
 use Rattle.mps_core.specs.declared.place.RowPlace.TheVariants as places
 use Rattle.mps_core.specs.declared.section.Section.TheVariants as sections
 use Rattle.mps_core.specs.Filed.{Filed}
-use Rattle.mps_core.specs.Kept.{Keeps}
+use Rattle.mps_core.proofs.Kept.{Keeps}
 use Rattle.mps_core.specs.Number.{number_of, number_or_cause}
-use Rattle.mps_core.specs.Stated.{Pair, column_name, column_pairs, pairs_after, number_in, number_or_zero, value_on}
-use Rattle.mps_core.specs.Step.{◌>>=◌, closed, is_named, place_in, with_column, with_value_at, with_value, column_line}
+use Rattle.mps_core.specs.Stated.{Pair, column_name, column_pairs, number_in, number_or_zero, value_on}
+use Rattle.mps_core.specs.Step.{closed, is_named, place_in, with_column, with_value_at, with_value, column_line}
 use Rattle.mps_core.specs.Terms.{with_term}
-use Rattle.mps_core.specs.Thin.{counts}
 use Rattle.mps_core.proofs.DistinctLemmas.{name_is, name_differs, one_place, nowhere}
 use Rattle.mps_core.proofs.Filing.{Data, Agrees, Filing}
 use Rattle.mps_core.proofs.FilingColumns.{closed_filed, opened_filed, again_filed, Adds, pair_filed}
-use Rattle.mps_core.proofs.KeptLemmas.{KeepsIn, column_kept, value_kept, closed_kept, closed_none, closed_same}
+use Rattle.mps_core.proofs.KeptLemmas.{KeepsIn, column_kept, value_kept, closed_none, closed_same}
 use Rattle.mps_core.proofs.StepOk.{bind_ok, unless_ok, counted, IsNewColumn, column_ok, cost_ok, IsEntry, entry_ok, value_ok}
-use Rattle.mps_core.proofs.ValueLemmas.{other_column, other_row, first_value, find_with}
+use Rattle.mps_core.proofs.ValueLemmas.{other_row, first_value, find_with}
 
 -- ---- names and numbers
 

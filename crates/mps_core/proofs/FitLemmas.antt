@@ -1,8 +1,7 @@
 -- A line is taken exactly where it fits the lines before it.
-use Rattle.std.proofs.Common.{◌⊎◌, inl, inr, ◌≡◌, ◌≢◌, ◌∙◌, ◌++◌, ◌+◌, ◌<◌, ◌==◌, ◌||◌, ◌&&◌, ap, flat_map, length, get_or, ℕ, Bool, true, false, List, [], ◌∷◌, Option, Some, None, Result, Ok, Err, not, is_some, refl, sym, subst, append_assoc, nat_lt, arith, if◌then◌else◌}
+use Rattle.std.proofs.Common.{◌≡◌, ◌∙◌, ◌++◌, ◌||◌, ◌&&◌, ap, flat_map, length, ℕ, Bool, true, false, List, [], ◌∷◌, Option, Some, None, Result, Ok, Err, not, is_some, refl, sym, nat_lt, if◌then◌else◌}
 use Rattle.std.specs.Prelude.{codes, is_ok}
 use Rattle.std.specs.Option.{option_map, option_to_list}
-use Rattle.std.proofs.lemmas.Bool.Decides.{nat_tests}
 use Rattle.rationals.specs.Rational.{ℚ}
 use Rattle.rationals.specs.Forms.{find, is_zero}
 use Rattle.frac128.specs.Numbers.{read_number}
@@ -14,18 +13,16 @@ use Rattle.mps_core.specs.declared.cause.Cause.{Cause}
 use Rattle.mps_core.specs.declared.cause.Cause.TheVariants as cause
 use Rattle.mps_core.specs.declared.place.RowPlace.{RowPlace}
 use Rattle.mps_core.specs.declared.place.RowPlace.TheVariants as places
-use Rattle.mps_core.specs.declared.section.Section.{Section}
 use Rattle.mps_core.specs.declared.section.Section.TheVariants as sections
 use Rattle.mps_core.specs.Filed.{Filed}
-use Rattle.mps_core.specs.Kept.{Keeps}
+use Rattle.mps_core.proofs.Kept.{Keeps}
 use Rattle.mps_core.specs.Lines.{data_of}
-use Rattle.mps_core.specs.Number.{number_of, number_or_cause, is_negative}
-use Rattle.mps_core.specs.Section.{section_of, rank}
-use Rattle.mps_core.specs.Stated.{free_name, free_rows, constraints, columns, Pair, pairs_after, columns_named, entry_pairs, number_in, number_or_zero, value_on}
-use Rattle.mps_core.specs.Step.{◌>>=◌, needs, most_rows, most_columns, most_entries, is_named, place_in, objective_line, constraint_line, row_line, with_column, with_cost, with_entry, with_value_at, with_value, column_line, with_rhs, rhs_line, enter, header_word}
-use Rattle.mps_core.specs.Thin.{is_nothing, fits_header, is_row, fits_row, last_of, fits_name, is_number, counts, count_entries, fits_pair, fits_column, fits_value, fits_rhs, rhs_pairs}
+use Rattle.mps_core.specs.Number.{number_of, number_or_cause}
+use Rattle.mps_core.specs.Stated.{free_name, free_rows, constraints, Pair, columns_named, entry_pairs, number_in, number_or_zero, value_on}
+use Rattle.mps_core.specs.Step.{◌>>=◌, needs, most_rows, most_columns, most_entries, is_named, place_in, objective_line, constraint_line, row_line, with_column, with_cost, with_entry, with_value_at, with_value, column_line}
+use Rattle.mps_core.specs.Thin.{is_nothing, is_row, fits_row, last_of, fits_name, is_number, counts, count_entries, fits_pair, fits_column}
 use Rattle.mps_core.proofs.DistinctLemmas.{name_is}
-use Rattle.mps_core.proofs.Filing.{section_word, Data, data_on, Agrees, Filing}
+use Rattle.mps_core.proofs.Filing.{Data, data_on, Agrees, Filing}
 use Rattle.mps_core.proofs.FilingValues.{pair_of, objective_is, constraint_is, InColumn, column_filed, value_filed}
 use Rattle.mps_core.proofs.KeptLemmas.{KeepsIn}
 

@@ -1,8 +1,6 @@
 -- Lines of RHS, headers and all lines are taken exactly where they fit the lines before them.
-use Rattle.std.proofs.Common.{◌⊎◌, inl, inr, ◌≡◌, ◌≢◌, ◌∙◌, ◌++◌, ◌<◌, ◌||◌, ◌&&◌, ap, flat_map, length, get_or, ℕ, Bool, true, false, List, [], ◌∷◌, Option, Some, None, Result, Ok, Err, not, is_some, refl, sym, subst, nat_lt, if◌then◌else◌}
+use Rattle.std.proofs.Common.{◌≡◌, ◌∙◌, ◌++◌, ◌||◌, ◌&&◌, ap, ℕ, Bool, true, false, List, [], ◌∷◌, Option, Some, None, Result, Ok, Err, not, is_some, refl, sym, nat_lt, if◌then◌else◌}
 use Rattle.std.specs.Prelude.{codes, is_ok}
-use Rattle.std.proofs.lemmas.Bool.Decides.{nat_tests}
-use Rattle.rationals.specs.Rational.{ℚ}
 use Rattle.rationals.specs.Forms.{find}
 use Rattle.frac128.specs.Numbers.{read_number}
 use Rattle.smps_words.specs.Line.{TextLine}
@@ -13,19 +11,19 @@ use Rattle.mps_core.specs.declared.cause.Cause.TheVariants as cause
 use Rattle.mps_core.specs.declared.section.Section.{Section}
 use Rattle.mps_core.specs.declared.section.Section.TheVariants as sections
 use Rattle.mps_core.specs.Filed.{Filed}
-use Rattle.mps_core.specs.Kept.{Keeps}
+use Rattle.mps_core.proofs.Kept.{Keeps}
 use Rattle.mps_core.specs.Lines.{first_word, last_section, data_of}
 use Rattle.mps_core.specs.Number.{number_of, is_negative}
-use Rattle.mps_core.specs.Section.{section_of, rank}
-use Rattle.mps_core.specs.Stated.{constraints, Pair, columns_named, number_in, value_on}
-use Rattle.mps_core.specs.Step.{◌>>=◌, needs, closed, with_column, with_value, column_line, with_rhs, rhs_line, enter, header_word, header_line, data_line, step}
+use Rattle.mps_core.specs.Section.{rank}
+use Rattle.mps_core.specs.Stated.{constraints, columns_named, value_on}
+use Rattle.mps_core.specs.Step.{◌>>=◌, needs, with_column, with_value, column_line, with_rhs, rhs_line, enter, header_word, header_line, data_line, step}
 use Rattle.mps_core.specs.Thin.{is_nothing, fits_header, is_number, fits_value, fits_rhs, rhs_pairs, fits_data, fits}
 use Rattle.mps_core.proofs.Filing.{section_word, Data, data_on, Filing}
 use Rattle.mps_core.proofs.FilingLines.{not_end, section_of_is, last_snoc, step_filed, header_data, rhs_value_filed}
-use Rattle.mps_core.proofs.FilingValues.{pair_of, InColumn, column_filed, value_filed, number_is}
-use Rattle.mps_core.proofs.FitLemmas.{and_true, seq, ok_if, unless_if, needs_fit, needs_some, number_fit, value_known, rows_there, row_line_fit, column_line_fit, Follows}
-use Rattle.mps_core.proofs.KeptLemmas.{KeepsIn, with_rhs_kept}
-use Rattle.mps_core.proofs.StepOk.{bind_ok, ok_is, unless_ok, chosen_ok, header_ok}
+use Rattle.mps_core.proofs.FilingValues.{pair_of, column_filed, value_filed}
+use Rattle.mps_core.proofs.FitLemmas.{and_true, seq, ok_if, needs_fit, needs_some, number_fit, value_known, rows_there, row_line_fit, column_line_fit, Follows}
+use Rattle.mps_core.proofs.KeptLemmas.{KeepsIn}
+use Rattle.mps_core.proofs.StepOk.{bind_ok, unless_ok, header_ok}
 
 -- ---- RHS
 

@@ -7,11 +7,11 @@ use Rattle.mps_core.specs.declared.cause.Refusal.{Refusal}
 use Rattle.mps_core.specs.declared.section.Section.{Section}
 use Rattle.mps_core.specs.declared.section.Section.TheVariants as sections
 use Rattle.mps_core.specs.Filed.{Filed, nothing_filed}
-use Rattle.mps_core.specs.Kept.{Keeps}
+use Rattle.mps_core.proofs.Kept.{Keeps}
 use Rattle.mps_core.specs.Lines.{last_section}
 use Rattle.mps_core.specs.Step.{step, is_end, on_line, read_from}
 use Rattle.mps_core.specs.Thin.{fits, AllFitBehind, AllFit, IsThinText, IsFirstUnfit, IsWithoutEnd}
-use Rattle.mps_core.proofs.Filing.{section_word, Data, data_on, Filing}
+use Rattle.mps_core.proofs.Filing.{section_word, data_on, Filing}
 use Rattle.mps_core.proofs.FilingLines.{none_filed, step_filed}
 use Rattle.mps_core.proofs.FitLemmas.{Follows}
 use Rattle.mps_core.proofs.FitLines.{step_fit, step_follows}

@@ -20,7 +20,7 @@ use Rattle.mps_core.specs.declared.section.Section.{Section}
 use Rattle.mps_core.specs.declared.section.Section.TheVariants as sections
 use Rattle.mps_core.specs.Core.{column_names}
 use Rattle.mps_core.specs.Filed.{Filed, nothing_filed}
-use Rattle.mps_core.specs.Kept.{IsColumn, IsTerms, Keeps}
+use Rattle.mps_core.proofs.Kept.{IsColumn, IsTerms, Keeps}
 use Rattle.mps_core.specs.Number.{is_negative}
 use Rattle.mps_core.specs.Section.{rank}
 use Rattle.mps_core.specs.Terms.{with_term}

@@ -1,3 +1,4 @@
+pub mod Kept
 pub mod TermLemmas
 pub mod StepLemmas
 pub mod StepOk
@@ -15,3 +16,4 @@ pub mod MeansLemmas
 pub mod FitLemmas
 pub mod FitLines
 pub mod Judged
+pub mod ReadLemmas

@@ -1,5 +1,5 @@
 -- The core of what is filed is what the lines mean.
-use Rattle.std.proofs.Common.{◌≡◌, ◌∙◌, ◌++◌, ◌+◌, ◌<◌, ◌||◌, ap, map, flat_map, length, get_or, suc, zero, ℕ, Bool, true, false, List, [], ◌∷◌, Option, Some, None, not, refl, sym, subst, append_assoc, append-nil, arith, if◌then◌else◌}
+use Rattle.std.proofs.Common.{◌≡◌, ◌∙◌, ◌++◌, ◌+◌, ◌<◌, ◌||◌, ap, map, flat_map, length, get_or, suc, ℕ, Bool, true, false, List, [], ◌∷◌, Option, Some, None, refl, sym, subst, append_assoc, append-nil, arith}
 use Rattle.std.specs.Prelude.{All, codes}
 use Rattle.std.specs.List.{AllByRecursion}
 use Rattle.std.specs.Option.{option_to_list, unwrap_or}
@@ -13,15 +13,15 @@ use Rattle.smps_words.specs.declared.row_kind.RowKind.TheVariants.{Less}
 use Rattle.mps_core.specs.declared.core.Core.{Core}
 use Rattle.mps_core.specs.declared.parts.ColumnDef.{ColumnDef}
 use Rattle.mps_core.specs.declared.parts.RowDef.{RowDef}
-use Rattle.mps_core.specs.Bounds.{Bounds, bound_on, of_first_set, bounds_after, bounds_in}
+use Rattle.mps_core.specs.Bounds.{bound_on, of_first_set, bounds_after, bounds_in}
 use Rattle.mps_core.specs.Core.{row_names, column_names}
 use Rattle.mps_core.specs.Filed.{Filed}
 use Rattle.mps_core.specs.Finished.{IsFinished, IsCoreOf}
-use Rattle.mps_core.specs.Kept.{IsColumn, Keeps}
+use Rattle.mps_core.proofs.Kept.{IsColumn, Keeps}
 use Rattle.mps_core.specs.Lines.{section_behind, last_section, fields_in, data_in, data_of}
 use Rattle.mps_core.specs.Means.{IsStatedColumn, IsStatedRow, Means}
 use Rattle.mps_core.specs.Rows.{or_zero, row_def, row_defs}
-use Rattle.mps_core.specs.Stated.{Pair, value_on, set_on, set_pairs, same_set, used_set, pairs_of_set, pairs_used, rhs_in, rhs_set_in}
+use Rattle.mps_core.specs.Stated.{Pair, value_on, set_on, set_pairs, same_set, used_set, pairs_of_set, pairs_used}
 use Rattle.mps_core.proofs.CoreLemmas.{row_names_are}
 use Rattle.mps_core.proofs.Filing.{AgreesWhole, data_on, Filing}
 use Rattle.mps_core.proofs.FilingLines.{made_same}

@@ -1,11 +1,11 @@
 -- Values on field pairs, and terms.
-use Rattle.std.proofs.Common.{◌≡◌, ◌≢◌, ◌∙◌, ◌++◌, ◌&&◌, ◌<◌, ◌≤◌, ◌==◌, eqb, pos, ap, ℕ, suc, Bool, true, false, List, [], ◌∷◌, Option, Some, None, refl, sym, nat_lt, if◌then◌else◌, arith}
+use Rattle.std.proofs.Common.{◌≡◌, ◌∙◌, ◌++◌, ◌&&◌, ◌<◌, ◌==◌, eqb, pos, ap, ℕ, suc, Bool, true, false, List, [], ◌∷◌, Option, Some, None, refl, sym, nat_lt, if◌then◌else◌, arith}
 use Rattle.std.specs.Option.{unwrap_or}
-use Rattle.std.proofs.lemmas.Bool.{ne_eqb, eq-eqb}
+use Rattle.std.proofs.lemmas.Bool.{ne_eqb}
 use Rattle.std.specs.Cmp.{signed_Decides}
 use Rattle.std.proofs.lemmas.Bool.Decides.{nat_tests}
 use Rattle.rationals.specs.Rational.{ℚ, zero_ℚ, ◌+ℚ◌, add_zero_ℚ, zero_add_ℚ}
-use Rattle.rationals.specs.Sparse.{Entry, Ascending, Ascending-weaker, coefficient, value_if}
+use Rattle.rationals.specs.Sparse.{Entry, Ascending, coefficient, value_if}
 use Rattle.rationals.specs.Forms.{find, pick, put_unless, is_zero}
 use Rattle.rationals.proofs.Lowest.{zero_from_num}
 use Rattle.smps_words.specs.Names.{same_name}

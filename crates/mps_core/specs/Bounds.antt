@@ -1,5 +1,5 @@
 -- What the lines of BOUNDS state: kind, optional set name, column, value.
-use Rattle.std.specs.Prelude.{ℕ, pos, ◌^◌, Bool, List, [], ◌∷◌, ◌++◌, Option, Some, None, ◌||◌, not, codes, flat_map, filter, if◌then◌else◌}
+use Rattle.std.specs.Prelude.{ℕ, pos, ◌^◌, Bool, List, [], ◌∷◌, Option, Some, None, ◌||◌, not, codes, flat_map, filter, if◌then◌else◌}
 use Rattle.std.specs.Ordering.{is_gt}
 use Rattle.rationals.specs.Rational.{ℚ, zero_ℚ, neg_ℚ, ◌÷◌}
 use Rattle.rationals.specs.Order.{compare}

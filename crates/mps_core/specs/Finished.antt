@@ -1,8 +1,5 @@
 -- The core that the lines of a whole text give.
-use Rattle.std.specs.Prelude.{◌≡◌, ◌≤◌, true, [], Some, Result, Ok, Err, is_some, length, codes}
-use Rattle.mps_core.specs.declared.cause.Refusal.{Refusal}
-use Rattle.mps_core.specs.declared.cause.ReadFail.{ReadFail}
-use Rattle.mps_core.specs.declared.cause.ReadFail.TheVariants as fail
+use Rattle.std.specs.Prelude.{◌≡◌, ◌≤◌, true, [], Some, is_some, length, codes}
 use Rattle.mps_core.specs.declared.core.Core.{Core}
 use Rattle.mps_core.specs.Core.{column_names}
 use Rattle.mps_core.specs.Filed.{Filed}
@@ -23,9 +20,3 @@ pub record IsCoreOf (f : Filed) (core : Core) : Type 0 where
   pub rhs_set : core.rhs_set ≡ codes "RHS"
   pub rows : core.rows.items ≡ row_defs f.rhs 0 f.rows
   pub columns : core.columns.items ≡ f.columns
-
--- The core has what the text files, or the text is refused at that line with that cause, unless memory ran out.
-abbrev pub ReadsCore : Result Core ReadFail → Result Filed Refusal → Type 0
-ReadsCore (Ok core) given = (f : Filed) × (given ≡ Ok f) × IsCoreOf f core
-ReadsCore (Err fail.Memory) given = Unit {0}
-ReadsCore (Err (fail.Refused refusal)) given = given ≡ Err refusal

@@ -6,7 +6,6 @@ pub mod Step
 pub mod View
 pub mod Rows
 pub mod Core
-pub mod Kept
 pub mod Finished
 pub mod Cause
 pub mod Lines

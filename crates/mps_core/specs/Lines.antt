@@ -1,5 +1,5 @@
 -- The lines of a section: a line belongs to the section of the last header up to it, and nothing comes behind ENDATA.
-use Rattle.std.specs.Prelude.{ℕ, Bool, List, [], ◌∷◌, ◌++◌, ◌||◌, not, codes, if◌then◌else◌}
+use Rattle.std.specs.Prelude.{ℕ, List, [], ◌∷◌, ◌++◌, ◌||◌, not, codes, if◌then◌else◌}
 use Rattle.smps_words.specs.Line.{TextLine}
 use Rattle.smps_words.specs.Names.{same_name}
 

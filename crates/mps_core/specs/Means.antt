@@ -6,7 +6,7 @@ use Rattle.smps_words.specs.Line.{TextLine, reading_of}
 use Rattle.mps_core.specs.declared.core.Core.{Core}
 use Rattle.mps_core.specs.declared.parts.ColumnDef.{ColumnDef}
 use Rattle.mps_core.specs.declared.parts.RowDef.{RowDef}
-use Rattle.mps_core.specs.Bounds.{Bounds, bounds_in}
+use Rattle.mps_core.specs.Bounds.{bounds_in}
 use Rattle.mps_core.specs.Core.{row_names, column_names}
 use Rattle.mps_core.specs.Stated.{free_rows, constraints, constraint_kinds, columns, entry_in, rhs_in, range_in, rhs_set_in}
 

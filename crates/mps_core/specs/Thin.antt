@@ -1,13 +1,11 @@
 -- The forms of core files that are read now: each line up to ENDATA fits the lines before it.
 use Rattle.std.specs.Prelude.{◌≡◌, ◌≢◌, ℕ, ◌+◌, Bool, true, false, List, [], ◌∷◌, ◌++◌, Option, Some, None, Result, Ok, Err, ◌&&◌, ◌||◌, ◌⊎◌, not, is_some, is_ok, nat_lt, length, codes, flat_map, if◌then◌else◌}
-use Rattle.rationals.specs.Rational.{ℚ}
 use Rattle.rationals.specs.Forms.{is_zero}
 use Rattle.frac128.specs.Numbers.{read_number}
 use Rattle.smps_words.specs.Line.{TextLine, reading_of}
 use Rattle.smps_words.specs.Names.{same_name, place_of}
 use Rattle.mps_core.specs.declared.cause.ReadFail.{ReadFail}
 use Rattle.mps_core.specs.declared.cause.ReadFail.TheVariants as fail
-use Rattle.mps_core.specs.declared.core.Core.{Core}
 use Rattle.mps_core.specs.Lines.{first_word, last_section, data_of}
 use Rattle.mps_core.specs.Number.{is_negative}
 use Rattle.mps_core.specs.Stated.{free_rows, constraints, Pair, pairs_after, columns_named, columns, entry_pairs, number_in, value_on, set_pairs}

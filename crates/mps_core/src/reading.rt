@@ -1,7 +1,8 @@
 //! Reading a whole text.
 ghost use Rattle.std.specs.Prelude.{◌≡◌, ◌<◌, ◌-◌, ◌^◌, length, IfOk};
 ghost use Rattle.mps_core.specs.Core.{IsCore, IsThin};
-ghost use Rattle.mps_core.specs.Finished.{ReadsCore};
+ghost use Rattle.mps_core.specs.Means.{TextMeans};
+ghost use Rattle.mps_core.specs.Thin.{IsReadWhereThin};
 ghost use Rattle.mps_core.specs.View.{Reads};
 ghost use Rattle.mps_core.specs.Step.{filed_text};
 
@@ -20,9 +21,13 @@ use std::alloc::Global;
 /// that isn't so.
 pub fn read_core(alloc: Global, text: &[u8]) -> Result<Core, ReadFail>
     requires { length text.now < 2 ^ 32 - 1 }
-    ensures reads { ReadsCore result (filed_text text.now) }
+    // The core is the one that the lines mean, and is of the forms that are read now.
+    ensures means { IfOk result (TextMeans text.now) }
     ensures core { IfOk result IsCore }
     ensures thin { IfOk result IsThin }
+
+    // A text is read exactly where it is of these forms; else the first line is named that isn't.
+    ensures forms { IsReadWhereThin text.now result }
 {
     let draft = file_text(alloc, text)?;
     match Core::of(alloc, draft) {
