@@ -1,0 +1,2 @@
+pub mod ThinLemmas
+pub mod PrintLemmas

@@ -7,7 +7,7 @@ use Rattle.smps_cli.specs.declared.status.FileKind.TheVariants.{Core}
 use Rattle.smps_cli.specs.declared.status.Status.{Status}
 use Rattle.smps_cli.specs.declared.status.Status.TheVariants.{Done, SomeOpen, Words, Refused, TooLong, ReadFault, WriteFault, Memory}
 use Rattle.smps_cli.specs.Lines.{status_line}
-use Rattle.smps_cli.specs.Printed.{PrintsTrueReport}
+use Rattle.smps_cli.specs.Printed.{PrintsTrueReport, IsRefusedAt}
 use Rattle.smps_cli.specs.Words.{core_name}
 
 -- a file has at most so many bytes
@@ -18,7 +18,7 @@ file_limit = 8388608
 abbrev pub MayBeSolved : List ℕ → Status → List ℕ → Type 0
 MayBeSolved bytes Done output = PrintsTrueReport bytes output Done
 MayBeSolved bytes SomeOpen output = PrintsTrueReport bytes output SomeOpen
-MayBeSolved bytes (Refused file line cause) output = (file ≡ Core) × (output ≡ status_line (Refused file line cause))
+MayBeSolved bytes (Refused file line cause) output = (file ≡ Core) × IsRefusedAt bytes line cause × (output ≡ status_line (Refused file line cause))
 MayBeSolved bytes Words output = ⊥
 MayBeSolved bytes (TooLong file) output = ⊥
 MayBeSolved bytes (ReadFault file) output = ⊥

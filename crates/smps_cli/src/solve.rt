@@ -1,6 +1,10 @@
 //! The command `solve` on a core file alone.
-ghost use Rattle.std.specs.Prelude.{◌≡◌, ◌≤◌, IfOk, length};
+ghost use Rattle.std.specs.Prelude.{◌≡◌, ◌≤◌, IfOk, Ok, length};
+ghost use Rattle.mps_core.specs.Core.{IsCore, IsThin};
 ghost use Rattle.scen_defs.specs.Fits.{ListsHaveNames};
+ghost use Rattle.scen_defs.specs.Program.{content};
+ghost use Rattle.smps_build.specs.Single.{single_walk, BuildFaultOf};
+ghost use Rattle.smps_cli.specs.Printed.{PrintsReportOf};
 ghost use Rattle.smps_cli.specs.Answers.{MayBeSolved, file_limit};
 ghost use Rattle.report_text.specs.Text.{report_text};
 ghost use Rattle.smps_cli.specs.Findings.{command_status};
@@ -9,7 +13,7 @@ ghost use Rattle.smps_cli.specs.Lines.{status_line};
 use crate::answer::{Answer, one_line};
 use crate::status::{FileKind, Status};
 use frac128::Memory;
-use mps_core::{Cause, ReadFail, read_core};
+use mps_core::{Cause, Core, ReadFail, read_core};
 use one_period::{StandardFault, solve_program};
 use report_text::print_report;
 use scen_defs::{Finding, Program, Report};
@@ -24,22 +28,48 @@ pub(crate) fn solved(alloc: Global, text: &[u8]) -> Result<Answer, Memory>
     requires { length text.now ≤ file_limit }
     ensures { IfOk result (λ answer. MayBeSolved text.now answer.status answer.output.items) }
 {
-    let core = match read_core(alloc, text) {
-        Ok(core) => core,
-        Err(ReadFail::Refused(refusal)) => {
-            return refused(alloc, refusal.line, refusal.cause);
-        }
-        Err(ReadFail::Memory) => return Err(Memory),
-    };
-    let program = match single(alloc, &core) {
-        Ok(program) => program,
-        Err(BuildFault::Memory) => return Err(Memory),
-        Err(BuildFault::Limit | BuildFault::Passed(_)) => return refused(alloc, 0, Cause::NotBuilt),
-    };
+    match read_core(alloc, text) {
+        Ok(core) => solved_core(alloc, &core),
+        Err(ReadFail::Refused(refusal)) => refused(alloc, refusal.line, refusal.cause),
+        Err(ReadFail::Memory) => Err(Memory),
+    }
+}
+
+/// The answer for a core.
+fn solved_core(alloc: Global, core: &Core) -> Result<Answer, Memory>
+    requires kept { IsCore core.now }
+    requires thin { IsThin core.now }
+    ensures { IfOk result (λ answer. PrintsReportOf core.now answer.output.items answer.status) }
+{
+    let program = program_of(alloc, core)?;
     match solve_program(alloc, &program, PIVOTS) {
         Ok(report) => printed(alloc, &program, &report),
-        Err(StandardFault::NotBuilt) => refused(alloc, 0, Cause::NotBuilt),
+        Err(StandardFault::NotBuilt) => unreachable!(),
         Err(StandardFault::Memory) => Err(Memory),
+    }
+}
+
+/// The program of a core. No operation of its intervals passes, since no row has a range.
+fn program_of(alloc: Global, core: &Core) -> Result<Program, Memory>
+    requires { IsThin core.now }
+    ensures { IfOk result (λ program. single_walk core.now ≡ Ok (content program)) }
+{
+    match single(alloc, core) {
+        Ok(program) => Ok(program),
+        Err(fault) => Err(wanting(core, fault)),
+    }
+}
+
+/// Only want of memory keeps a core without ranges from its program.
+fn wanting(core: &Core, fault: BuildFault) -> Memory
+    requires thin { IsThin core.now }
+    requires fault { BuildFaultOf (single_walk core.now) fault }
+{
+    let _rows = core.rows.len();
+    match fault {
+        BuildFault::Memory => Memory,
+        BuildFault::Limit => unreachable!(),
+        BuildFault::Passed(_passed) => unreachable!(),
     }
 }
 
@@ -53,8 +83,7 @@ fn refused(alloc: Global, line: u32, cause: Cause) -> Result<Answer, Memory>
 /// The answer that prints a report.
 fn printed(alloc: Global, program: &Program, report: &Report) -> Result<Answer, Memory>
     requires { ListsHaveNames program.now report.now }
-    ensures status { IfOk result (λ answer. answer.status ≡ command_status report.now.finding) }
-    ensures text { IfOk result (λ answer. answer.output.items ≡ report_text program.now report.now) }
+    ensures { IfOk result (λ answer. (answer.output.items ≡ report_text program.now report.now) × (answer.status ≡ command_status report.now.finding)) }
 {
     let mut output = Vec::new(alloc);
     print_report(alloc, program, report, &mut output)?;
