@@ -1,5 +1,5 @@
 -- The walks give the sums and the value, and so decide.
-use Rattle.std.proofs.Common.{◌≡◌, ℕ, zero, suc, ◌+◌, ◌<◌, ◌≤◌, ◌&&◌, not, Bool, true, false, List, [], ◌∷◌, Ok, Err, eqb, length, refl, sym, ap, ap₂, ◌∙◌, subst, arith, eqb-true}
+use Rattle.std.proofs.Common.{◌≡◌, ℕ, zero, suc, add-one, ◌+◌, ◌-◌, ◌<◌, ◌≤◌, ◌&&◌, not, Bool, true, false, List, [], ◌∷◌, Ok, Err, eqb, length, refl, sym, ap, ap₂, ◌∙◌, subst, arith, eqb-true}
 use Rattle.std.proofs.lemmas.Bool.{false≢true, eqb-false}
 use Rattle.rationals.specs.declared.Op.TheVariants.{Add}
 use Rattle.rationals.specs.Rational.{ℚ, zero_ℚ, one_ℚ, ◌+ℚ◌, ◌*ℚ◌, neg_ℚ, ◌≤ℚ◌, ◌<ℚ◌, not_le_of_lt_ℚ, zero_add_ℚ, by_eqs, terms}
@@ -121,3 +121,17 @@ none_shows p y e h =
     let g : k.good ≡ true = good_to p.rows y 0 p.columns true k.good k.sums refl (λ c l u. h.sums c (omega arith)) in
     let a : is_above_zero k.value ≡ true = above_to k.value (subst (λ (x : ℚ). zero_ℚ <ℚ x) (sym k.is) h.above) in
     false≢true (sym k.both_are ∙ join k.good (is_above_zero k.value) g a)
+
+-- ---- one more column
+at_column : (rows : List (List Entry)) (y : List ℚ) (c n : ℕ) (good : Bool) (whole : Walk Bool) → c < n → columns_from rows y c (n - c) good ≡ whole → columns_from rows y c (suc (n - (c + 1))) good ≡ whole
+at_column rows y c n good whole h w = let k : n - c ≡ suc (n - (c + 1)) = omega arith in subst (λ (m : ℕ). columns_from rows y c m good ≡ whole) k w
+
+pub next_column : (rows : List (List Entry)) (y : List ℚ) (c n : ℕ) (good new : Bool) (r : Walk ℚ) (s : ℚ) (whole : Walk Bool) → c < n → r ≡ column_from zero_ℚ rows y c → r ≡ Ok s → new ≡ good && not (is_above_zero s) → columns_from rows y c (n - c) good ≡ whole → columns_from rows y (c + 1) (n - (c + 1)) new ≡ whole
+next_column rows y c n good new r s whole h k e g w =
+    ap₂ (λ (j : ℕ) (b : Bool). columns_from rows y j (n - (c + 1)) b) (add-one c) g
+    ∙ sym (ap (λ (x : Walk ℚ). then_walk x (λ v. columns_from rows y (suc c) (n - (c + 1)) (good && not (is_above_zero v)))) (sym k ∙ e))
+    ∙ at_column rows y c n good whole h w
+
+pub stop_column : (rows : List (List Entry)) (y : List ℚ) (c n : ℕ) (good : Bool) (r : Walk ℚ) (o : Operation) (whole : Walk Bool) → c < n → r ≡ column_from zero_ℚ rows y c → r ≡ Err o → columns_from rows y c (n - c) good ≡ whole → whole ≡ Err o
+stop_column rows y c n good r o whole h k e w =
+    sym (at_column rows y c n good whole h w) ∙ ap (λ (x : Walk ℚ). then_walk x (λ v. columns_from rows y (suc c) (n - (c + 1)) (good && not (is_above_zero v)))) (sym k ∙ e)

@@ -1,6 +1,7 @@
 //! Column sums and values of multipliers.
-ghost use Rattle.std.specs.Prelude.{◌≡◌, length, true, false, Ok, MatchResult, MatchOption, IfOk};
+ghost use Rattle.std.specs.Prelude.{◌≡◌, ◌&&◌, not, length, true, false, Ok, MatchResult, MatchOption, IfOk};
 ghost use Rattle.rationals.specs.Rational.{zero_ℚ};
+ghost use Rattle.lp_defs.specs.Tests.{is_above_zero};
 ghost use Rattle.lp_defs.specs.Certificates.{IsInfeasible};
 ghost use Rattle.farkas_ray.specs.Sums.{column_from, columns_from, value_from, ray_walk};
 ghost use Rattle.farkas_ray.specs.Halts.{HaltedBy};
@@ -23,6 +24,12 @@ fn column_sum(rows: &[Form], duals: &[Frac], column: u64) -> Result<Frac, Passed
     Ok(sum)
 }
 
+fn is_still_good(is_good: bool, sum: Frac) -> bool
+    ensures { result ≡ is_good && not (is_above_zero sum) }
+{
+    is_good && !is_above_zero(sum)
+}
+
 /// Whether no column sum is above 0; all are computed, in order.
 fn has_good_sums(rows: &[Form], duals: &[Frac], columns: u64) -> Result<bool, Passed>
     requires { length duals.now ≡ length rows.now }
@@ -31,7 +38,7 @@ fn has_good_sums(rows: &[Form], duals: &[Frac], columns: u64) -> Result<bool, Pa
     let mut is_good = true;
     for column in 0..columns {
         let sum = column_sum(rows, duals, column)?;
-        is_good = is_good && !is_above_zero(sum);
+        is_good = is_still_good(is_good, sum);
     }
     Ok(is_good)
 }
@@ -49,25 +56,31 @@ fn value(duals: &[Frac], right: &[Frac]) -> Result<Frac, Passed>
     Ok(sum)
 }
 
+/// Whether no column sum is above 0 and the value is.
+fn is_ray(program: &Standard, duals: &[Frac]) -> Result<bool, Passed>
+    requires { length duals.now ≡ length program.now.rows }
+    ensures { result ≡ ray_walk program.now duals.now }
+{
+    let has_good_sums = has_good_sums(program.rows(), duals, program.columns())?;
+    let value = value(duals, program.right())?;
+    Ok(has_good_sums && is_above_zero(value))
+}
+
 /// The multipliers, where no column sum of theirs is above 0 and their value is: no point meets all rows
 /// then (Farkas' lemma).
 ///
 /// The operations are those of the column sums, by column and then by row, each an entry times a multiplier
 /// and its addition to the sum so far, and then those of the value, by row, each a multiplier times a right
 /// side and its addition. The first of them that passes 128 bits ends the call.
-pub fn ray(
-    alloc: Global,
-    program: &Standard,
-    duals: &[Frac],
-) -> Result<Option<Vec<Frac>>, Halted>
+pub fn ray(alloc: Global, program: &Standard, duals: &[Frac]) -> Result<Option<Vec<Frac>>, Halted>
     requires { length duals.now ≡ length program.now.rows }
     ensures exact { MatchResult result (λ found. MatchOption found (ray_walk program.now duals.now ≡ Ok false) (λ multipliers. (ray_walk program.now duals.now ≡ Ok true) × (multipliers.items ≡ duals.now))) (HaltedBy (ray_walk program.now duals.now)) }
     ensures certified { IfOk result (λ found. MatchOption found (IsInfeasible program.now duals.now → ⊥) (λ multipliers. IsInfeasible program.now multipliers.items)) }
 {
-    let is_good = has_good_sums(program.rows(), duals, program.columns())?;
-    let value = value(duals, program.right())?;
-    if is_good && is_above_zero(value) {
-        Ok(Some(duals.to_vec(alloc)?))
+    let is_shown = is_ray(program, duals)?;
+    if is_shown {
+        let multipliers = duals.to_vec(alloc)?;
+        Ok(Some(multipliers))
     } else {
         Ok(None)
     }

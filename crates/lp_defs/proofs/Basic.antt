@@ -17,13 +17,13 @@ use Rattle.lp_defs.specs.Lines.{Line, value_at, cleared, divided}
 use Rattle.lp_defs.specs.Path.{Row, Tableau, Done, Open, entering, path, pivoted, row_at, cleared_row, cleared_rows}
 use Rattle.lp_defs.specs.Linear.{Holds, AllLines, AllRows, Solves, Less, Times, IsTied}
 use Rattle.lp_defs.specs.Stages.{Three, HasRisen}
-use Rattle.lp_defs.specs.Ends.{IsChosen, EndsWell, unit, IsPoint, begin}
+use Rattle.lp_defs.specs.Ends.{IsChosen, EndsWell, unit, IsPoint}
 use Rattle.lp_defs.specs.Basis.{IsUnits, IsBasic, IsBelow, point}
 use Rattle.lp_defs.proofs.Linear.{cleared_is, divided_is}
 use Rattle.lp_defs.proofs.Rows.{Each, Pivots, pivots, all_insert, all_uninsert, put_back, tied_pivot}
 use Rattle.lp_defs.proofs.Rising.{cleared_rises, divided_rises}
 use Rattle.lp_defs.proofs.Choice.{all_weaker, Keeps, path_keeps}
-use Rattle.lp_defs.proofs.Best.{start_tied, tied_keeps, cost_is}
+use Rattle.lp_defs.proofs.Best.{tied_keeps, cost_is}
 
 -- ---- the entry of a column is the form's value at that column
 past_unit : (m j : ℕ) (f : List Entry) → j < m → Ascending m f → product f (unit j) ≡ zero_ℚ

@@ -12,7 +12,7 @@ use Rattle.lp_defs.specs.Path.{Candidate}
 use Rattle.lp_defs.specs.Lines.{Line, value_at}
 use Rattle.lp_defs.specs.Path.{Row, Tableau, Ending, Done, Open, entering, path, pivoted, row_at}
 use Rattle.lp_defs.specs.Linear.{Holds, AllLines, Solves, values, rights, Combines, Prices, IsTied}
-use Rattle.lp_defs.specs.Ends.{IsChosen, EndsWell, unit, IsPoint, begin}
+use Rattle.lp_defs.specs.Ends.{IsChosen, EndsWell, unit, IsPoint}
 use Rattle.lp_defs.proofs.Rows.{pivots, tied_pivot}
 use Rattle.lp_defs.proofs.Choice.{all_weaker, Keeps, path_keeps}
 
@@ -34,13 +34,6 @@ start_spans (r ∷ rows) = (
   (one_ℚ ∷ [], record { entries = λ x. by_ring (product r.line.entries x ∷ []) (search terms depth 40) tt; right = by_ring (r.line.right ∷ []) (search terms depth 40) tt }),
   all_weaker (Spans rows) (Spans (r ∷ rows)) rows (one_more r rows) (start_spans rows),
 )
-
-pub start_tied : (cost : List Entry) (rows : List Row) → IsTied cost rows (begin cost rows)
-start_tied cost rows = record {
-  spans = start_spans rows;
-  prices = ([], record { entries = λ x. by_ring (product cost x ∷ []) (search terms depth 40) tt; right = by_ring [] (search terms depth 40) tt });
-  back = λ x s. s;
-}
 
 pub tied_keeps : (n : ℕ) (cost : List Entry) (rows : List Row) → Keeps (IsTied cost rows) n
 tied_keeps n cost rows t u j c h e m q = tied_pivot cost rows j c.index t u (pivots j c.index t u q) m.within (ne_of_gt_ℚ m.above) h

@@ -15,14 +15,14 @@ use Rattle.lp_defs.specs.Path.{Row, Tableau, Ending, Done, Open, TooLong, Stoppe
 use Rattle.lp_defs.specs.Linear.{AllRows, values, rights}
 use Rattle.lp_defs.specs.Ends.{unit, EndsWell, IsPoint, IsDualOf}
 use Rattle.lp_defs.specs.Basis.{IsUnits, IsRayOf, point, ray}
-use Rattle.lp_defs.specs.Phases.{unit_rows, with_units, unit_costs, cost_line, priced, Driven, Driven_out, Driven_long, Driven_stop, driven, first_duals, unit_duals, start_duals}
+use Rattle.lp_defs.specs.Phases.{unit_rows, with_units, unit_costs, cost_line, priced, Driven, Driven_out, Driven_long, Driven_stop, driven, first_duals, unit_duals}
 use Rattle.lp_defs.specs.Program.{Program, IsProgram}
 use Rattle.lp_defs.specs.Solution.{Solution, counted, first_rows, first_cost, first_end, second_end, second, between, solution, Nowhere, Passes}
 use Rattle.lp_defs.specs.Certificates.{IsNonnegative, IsFeasible, IsDual, IsOptimal, IsInfeasible, IsRay, IsUnbounded, IsCertified, SolutionsAreCertified, column_of, reduced_cost}
 use Rattle.lp_defs.specs.Stages.{all_columns, First, Second}
 use Rattle.lp_defs.proofs.Basic.{value_is, point_of, entering_below}
 use Rattle.lp_defs.proofs.Rays.{ray_of}
-use Rattle.lp_defs.proofs.Phases.{duals_of}
+use Rattle.lp_defs.proofs.Phases.{start_duals, duals_of}
 use Rattle.lp_defs.proofs.Starts.{units_of, units_at_end, length_with_units, free_at_units, meets_of, stays_of, column_is, right_is, costs_rise, costs_below, cost_is_one}
 use Rattle.lp_defs.proofs.Settled.{point_ends, ray_ends}
 use Rattle.lp_defs.proofs.Ready.{first_units, first_begins, first_path, driving_begins, EndsDriven, driven_well, second_begins, second_path}

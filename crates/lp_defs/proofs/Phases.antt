@@ -13,7 +13,7 @@ use Rattle.lp_defs.specs.Path.{Row, Tableau, entering, pivoted, row_at}
 use Rattle.lp_defs.specs.Linear.{AllLines, AllRows, Less, Combines, Prices, IsTied, Solves, values, rights}
 use Rattle.lp_defs.specs.Ends.{EndsWell, IsDualOf, unit}
 use Rattle.lp_defs.specs.Basis.{IsUnits, IsBasic}
-use Rattle.lp_defs.specs.Phases.{priced, cost_line, start_duals}
+use Rattle.lp_defs.specs.Phases.{priced, cost_line}
 use Rattle.lp_defs.proofs.Linear.{cleared_is}
 use Rattle.lp_defs.proofs.Rows.{less_prices, pivots, tied_pivot}
 use Rattle.lp_defs.proofs.Rising.{cleared_rises}
@@ -94,6 +94,11 @@ priced_start cost rows rs o hc hr hu hf hs back e =
         feasible = hf;
       },
     )
+
+-- cost less reduced cost, at the columns that were basic at the start
+abbrev pub start_duals : List Entry → List Row → Line → List ℚ
+start_duals cost [] objective = []
+start_duals cost (r ∷ rows) objective = (value_at cost r.basic -ℚ value_at objective.entries r.basic) ∷ start_duals cost rows objective
 
 duals_are : (cost : List Entry) (all rows : List Row) (y : List ℚ) (o : Line) → Ascending 0 cost → Ascending 0 o.entries → ((x : ℕ → ℚ) → product o.entries x ≡ product cost x -ℚ dot y (values all x)) → start_duals cost rows o ≡ reads y all rows
 duals_are cost all [] y o c r p = refl

@@ -15,7 +15,7 @@ use Rattle.lp_defs.specs.Stages.{Three}
 use Rattle.lp_defs.specs.Ends.{NoneAbove, unit, IsPoint}
 use Rattle.lp_defs.specs.Basis.{IsUnits, IsBasic, point, ray, IsRayOf}
 use Rattle.lp_defs.proofs.Choice.{path_keeps}
-use Rattle.lp_defs.proofs.Best.{start_tied, cost_is, none_enters, tied_keeps}
+use Rattle.lp_defs.proofs.Best.{cost_is, none_enters, tied_keeps}
 use Rattle.lp_defs.proofs.Basic.{value_is, point_is, point_solves, entering_below, Both, both_keep, three_keep}
 
 -- ---- the entering column's reduced cost

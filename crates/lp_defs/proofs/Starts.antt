@@ -10,7 +10,7 @@ use Rattle.rationals.specs.Forms.{EndsBelow}
 use Rattle.lp_defs.specs.Lines.{Line, value_at}
 use Rattle.lp_defs.specs.Path.{Row, Tableau}
 use Rattle.lp_defs.specs.Linear.{Holds, AllLines, AllRows, Solves, values, rights}
-use Rattle.lp_defs.specs.Ends.{unit, IsPoint, begin}
+use Rattle.lp_defs.specs.Ends.{unit, IsPoint}
 use Rattle.lp_defs.specs.Basis.{IsUnits, IsBasic, IsBelow}
 use Rattle.lp_defs.specs.Program.{Program, IsProgram, IsFormBelow, AllFormsBelow, NoneNegative, EndsInUnit, AllEndInUnits}
 use Rattle.lp_defs.specs.Phases.{unit_rows, with_units, unit_costs}

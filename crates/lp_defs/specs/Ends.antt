@@ -44,6 +44,3 @@ pub record IsDualOf (n : ℕ) (cost : List Entry) (rows : List Row) (y : List �
 -- a point that is no more than 0 nowhere, and 0 from column n on
 abbrev pub IsPoint : ℕ → (ℕ → ℚ) → Type 0
 IsPoint n x = (j : ℕ) → (zero_ℚ ≤ℚ x j) × ((j < n → ⊥) → x j ≡ zero_ℚ)
-
-abbrev pub begin : List Entry → List Row → Tableau
-begin cost rows = record { rows = rows; objective = record { entries = cost; right = zero_ℚ } }

@@ -12,3 +12,4 @@ pub mod Certificates
 pub mod Solution
 pub mod Placed
 pub mod Stages
+pub mod Meaning

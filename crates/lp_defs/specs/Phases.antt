@@ -1,6 +1,6 @@
 -- The parts of a solve: artificial columns, the objective row that a phase begins with, and the pivots on artificial columns that are left.
 use Rattle.std.specs.Prelude.{ℕ, zero, suc, Bool, true, false, ◌+◌, ◌&&◌, not, ltb, List, [], ◌∷◌, ◌++◌, Option, Some, None, Ok, Err}
-use Rattle.rationals.specs.Rational.{ℚ, zero_ℚ, one_ℚ, ◌-ℚ◌, neg_ℚ}
+use Rattle.rationals.specs.Rational.{ℚ, zero_ℚ, one_ℚ, neg_ℚ}
 use Rattle.rationals.specs.Passes.{Operation, then_walk, sub_walk}
 use Rattle.rationals.specs.Sparse.{Entry}
 use Rattle.lp_defs.specs.Tests.{is_zero}
@@ -75,8 +75,3 @@ first_duals j (suc m) objective done = then_walk (sub_walk one_ℚ (value_at obj
 abbrev pub unit_duals : ℕ → ℕ → Line → List ℚ
 unit_duals j zero objective = []
 unit_duals j (suc m) objective = neg_ℚ (value_at objective.entries j) ∷ unit_duals (suc j) m objective
-
--- cost less reduced cost, at the columns that were basic at the start
-abbrev pub start_duals : List Entry → List Row → Line → List ℚ
-start_duals cost [] objective = []
-start_duals cost (r ∷ rows) objective = (value_at cost r.basic -ℚ value_at objective.entries r.basic) ∷ start_duals cost rows objective

@@ -2,12 +2,19 @@
 #![tactic(auto)]
 
 ghost use Rattle.lp_defs.specs.Certificates.{PivotsAreBounded, SolutionsAreCertified, UnitColumnsAreFeasible};
+ghost use Rattle.lp_defs.specs.Meaning.{CertificatesHold};
 ghost use Rattle.lp_defs.specs.Trace.{NoBasisTwice, NoBasisTwiceOnPath};
 
 /// An optimum has a point and duals of equal value, an infeasible program multipliers that show it, an
 /// unbounded one a point and a ray.
 pub fn solutions_are_certified()
     ensures { SolutionsAreCertified }
+{}
+
+/// No point costs less than an optimal one, an infeasible program has no point, and along a ray each step
+/// leads to a point at a lower cost.
+pub fn certificates_hold()
+    ensures { CertificatesHold }
 {}
 
 /// A program whose rows end in unit columns has a point.

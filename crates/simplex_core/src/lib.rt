@@ -15,7 +15,7 @@ mod start;
 mod tableau;
 
 pub use outcome::Outcome;
-pub use sign::{is_above_zero, is_below_zero, is_zero};
+pub use sign::is_above_zero;
 pub use solver::solve;
 pub use standard::Standard;
 

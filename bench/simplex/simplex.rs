@@ -1,0 +1,282 @@
+// The two-phase path with Bland's rule in Rust, by the steps of `simplex_core` and with its row
+// representation: sparse rows that merge into a spare buffer, which is swapped in.
+use crate::fraction::{Frac, Passed, Term};
+use std::cmp::Ordering;
+use std::mem;
+
+struct Line {
+    entries: Vec<Term>,
+    right: Frac,
+}
+
+struct Row {
+    basic: u64,
+    line: Line,
+}
+
+struct Work {
+    zero: Frac,
+    spare: Vec<Term>,
+    pivots: u64,
+    /// Entries of the rows that were updated and of those that were taken away.
+    merged: u64,
+}
+
+struct Tableau {
+    rows: Vec<Row>,
+    objective: Line,
+    work: Work,
+}
+
+pub struct Program {
+    pub columns: u64,
+    pub rows: Vec<Vec<Term>>,
+    pub right: Vec<Frac>,
+    pub cost: Vec<Term>,
+}
+
+pub enum Outcome {
+    Optimal { point: Vec<Term>, duals: Vec<Frac> },
+    Infeasible { duals: Vec<Frac> },
+    Unbounded { point: Vec<Term>, ray: Vec<Term> },
+}
+
+pub fn whole(n: i128) -> Frac {
+    Frac::new(n, 1).unwrap()
+}
+
+fn find(entries: &[Term], column: u64, zero: Frac) -> Frac {
+    for term in entries {
+        if term.column == column {
+            return term.value;
+        }
+    }
+    zero
+}
+
+fn less(factor: Frac, from: Frac, times: Frac) -> Result<Frac, Passed> {
+    from.sub(factor.mul(times)?)
+}
+
+fn push(done: &mut Vec<Term>, column: u64, value: Frac) {
+    if !value.is_zero() {
+        done.push(Term { column, value });
+    }
+}
+
+fn subtract_terms(
+    factor: Frac,
+    row: &[Term],
+    pivot: &[Term],
+    done: &mut Vec<Term>,
+    zero: Frac,
+) -> Result<(), Passed> {
+    let (mut i, mut j) = (0, 0);
+    while i < row.len() && j < pivot.len() {
+        let (x, y) = (row[i], pivot[j]);
+        if x.column < y.column {
+            done.push(x);
+            i += 1;
+        } else if y.column < x.column {
+            push(done, y.column, less(factor, zero, y.value)?);
+            j += 1;
+        } else {
+            push(done, x.column, less(factor, x.value, y.value)?);
+            i += 1;
+            j += 1;
+        }
+    }
+    done.extend_from_slice(&row[i..]);
+    while j < pivot.len() {
+        let y = pivot[j];
+        push(done, y.column, less(factor, zero, y.value)?);
+        j += 1;
+    }
+    Ok(())
+}
+
+impl Line {
+    fn divide(&mut self, by: Frac) -> Result<(), Passed> {
+        for term in &mut self.entries {
+            term.value = term.value.div(by)?;
+        }
+        self.right = self.right.div(by)?;
+        Ok(())
+    }
+
+    fn subtract(
+        &mut self,
+        factor: Frac,
+        other: &Line,
+        work: &mut Work,
+    ) -> Result<(), Passed> {
+        if factor.is_zero() {
+            return Ok(());
+        }
+        work.merged += (self.entries.len() + other.entries.len()) as u64;
+        work.spare.clear();
+        subtract_terms(factor, &self.entries, &other.entries, &mut work.spare, work.zero)?;
+        self.right = less(factor, self.right, other.right)?;
+        mem::swap(&mut self.entries, &mut work.spare);
+        Ok(())
+    }
+
+    fn clear(&mut self, column: u64, pivot: &Line, work: &mut Work) -> Result<(), Passed> {
+        let factor = find(&self.entries, column, work.zero);
+        self.subtract(factor, pivot, work)
+    }
+}
+
+enum End {
+    Done,
+    Open(u64),
+}
+
+impl Tableau {
+    fn price(&mut self, cost: &[Term]) -> Result<(), Passed> {
+        let zero = self.work.zero;
+        let mut objective = Line { entries: cost.to_vec(), right: zero };
+        for row in &self.rows {
+            let factor = find(cost, row.basic, zero);
+            objective.subtract(factor, &row.line, &mut self.work)?;
+        }
+        self.objective = objective;
+        Ok(())
+    }
+
+    fn pivot(&mut self, column: u64, index: usize) -> Result<(), Passed> {
+        let mut pivot = self.rows.remove(index).line;
+        pivot.divide(find(&pivot.entries, column, self.work.zero))?;
+        for row in &mut self.rows {
+            row.line.clear(column, &pivot, &mut self.work)?;
+        }
+        self.objective.clear(column, &pivot, &mut self.work)?;
+        self.rows.insert(index, Row { basic: column, line: pivot });
+        self.work.pivots += 1;
+        Ok(())
+    }
+
+    fn leave(&self, column: u64) -> Result<Option<usize>, Passed> {
+        let mut best: Option<(usize, Frac, u64)> = None;
+        for (index, row) in self.rows.iter().enumerate() {
+            let value = find(&row.line.entries, column, self.work.zero);
+            if value.num() > 0 {
+                let ratio = row.line.right.div(value)?;
+                let is_better = match best {
+                    None => true,
+                    Some((_, held, basic)) => match ratio.cmp(&held) {
+                        Ordering::Less => true,
+                        Ordering::Equal => row.basic < basic,
+                        Ordering::Greater => false,
+                    },
+                };
+                if is_better {
+                    best = Some((index, ratio, row.basic));
+                }
+            }
+        }
+        Ok(best.map(|(index, _, _)| index))
+    }
+
+    fn follow(&mut self, columns: u64) -> Result<End, Passed> {
+        loop {
+            let enters = |term: &&Term| term.value.num() < 0 && term.column < columns;
+            let Some(term) = self.objective.entries.iter().find(enters) else {
+                return Ok(End::Done);
+            };
+            let column = term.column;
+            match self.leave(column)? {
+                None => return Ok(End::Open(column)),
+                Some(index) => self.pivot(column, index)?,
+            }
+        }
+    }
+
+    fn drive(&mut self, columns: u64) -> Result<(), Passed> {
+        for index in 0..self.rows.len() {
+            let row = &self.rows[index];
+            if row.basic >= columns {
+                let column = row.line.entries.iter().map(|t| t.column).find(|&c| c < columns);
+                if let Some(column) = column {
+                    self.pivot(column, index)?;
+                }
+            }
+        }
+        Ok(())
+    }
+
+    fn point(&self) -> Vec<Term> {
+        let mut terms: Vec<Term> = Vec::new();
+        for row in &self.rows {
+            place(&mut terms, row.basic, row.line.right);
+        }
+        terms
+    }
+
+    fn negative(&self, entries: &[Term], column: u64) -> Result<Frac, Passed> {
+        self.work.zero.sub(find(entries, column, self.work.zero))
+    }
+
+    fn ray(&self, column: u64) -> Result<Vec<Term>, Passed> {
+        let mut terms = vec![Term { column, value: whole(1) }];
+        for row in &self.rows {
+            place(&mut terms, row.basic, self.negative(&row.line.entries, column)?);
+        }
+        Ok(terms)
+    }
+}
+
+fn place(terms: &mut Vec<Term>, column: u64, value: Frac) {
+    if !value.is_zero() {
+        let at = terms.iter().position(|t| t.column >= column).unwrap_or(terms.len());
+        terms.insert(at, Term { column, value });
+    }
+}
+
+pub fn solve(program: &Program) -> (Result<Outcome, Passed>, u64, u64) {
+    let columns = program.columns;
+    let count = program.rows.len() as u64;
+    let one = whole(1);
+    let mut rows = Vec::new();
+    for (index, form) in program.rows.iter().enumerate() {
+        let column = columns + index as u64;
+        let mut entries = form.clone();
+        entries.push(Term { column, value: one });
+        rows.push(Row { basic: column, line: Line { entries, right: program.right[index] } });
+    }
+    let cost: Vec<Term> =
+        (columns..columns + count).map(|column| Term { column, value: one }).collect();
+    let objective = Line { entries: Vec::new(), right: whole(0) };
+    let work = Work { zero: whole(0), spare: Vec::new(), pivots: 0, merged: 0 };
+    let mut tableau = Tableau { rows, objective, work };
+    let outcome = answer(program, &mut tableau, &cost);
+    (outcome, tableau.work.pivots, tableau.work.merged)
+}
+
+fn answer(program: &Program, tableau: &mut Tableau, cost: &[Term]) -> Result<Outcome, Passed> {
+    let columns = program.columns;
+    let artificial = columns..columns + program.rows.len() as u64;
+    tableau.price(cost)?;
+    tableau.follow(columns)?;
+    if tableau.objective.right.num() < 0 {
+        let mut duals = Vec::new();
+        for column in artificial {
+            duals.push(whole(1).sub(find(&tableau.objective.entries, column, whole(0)))?);
+        }
+        return Ok(Outcome::Infeasible { duals });
+    }
+    tableau.drive(columns)?;
+    tableau.price(&program.cost)?;
+    match tableau.follow(columns)? {
+        End::Done => {
+            let mut duals = Vec::new();
+            for column in artificial {
+                duals.push(tableau.negative(&tableau.objective.entries, column)?);
+            }
+            Ok(Outcome::Optimal { point: tableau.point(), duals })
+        }
+        End::Open(column) => {
+            Ok(Outcome::Unbounded { point: tableau.point(), ray: tableau.ray(column)? })
+        }
+    }
+}
