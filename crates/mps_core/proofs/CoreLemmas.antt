@@ -10,7 +10,7 @@ use Rattle.rationals.specs.Sparse.{Entry}
 use Rattle.rationals.specs.Forms.{find, pick, IsForm, EndsBelow}
 use Rattle.smps_words.specs.Names.{IsNumbered}
 use Rattle.smps_words.specs.declared.row_kind.RowKind.TheVariants.{Less}
-use Rattle.mps_core.specs.declared.core.Core.{Core}
+use Rattle.mps_core.specs.declared.program.Core.{Core}
 use Rattle.mps_core.specs.declared.parts.ColumnDef.{ColumnDef}
 use Rattle.mps_core.specs.declared.parts.RowDef.{RowDef}
 use Rattle.mps_core.specs.declared.section.Section.{Section}

@@ -10,7 +10,7 @@ use Rattle.rationals.specs.Forms.{find}
 use Rattle.smps_words.specs.Line.{TextLine}
 use Rattle.smps_words.specs.Names.{same_name}
 use Rattle.smps_words.specs.declared.row_kind.RowKind.TheVariants.{Less}
-use Rattle.mps_core.specs.declared.core.Core.{Core}
+use Rattle.mps_core.specs.declared.program.Core.{Core}
 use Rattle.mps_core.specs.declared.parts.ColumnDef.{ColumnDef}
 use Rattle.mps_core.specs.declared.parts.RowDef.{RowDef}
 use Rattle.mps_core.specs.Bounds.{bound_on, of_first_set, bounds_after, bounds_in}

@@ -5,7 +5,7 @@ use Rattle.smps_words.specs.Line.{TextLine, reading_of}
 use Rattle.mps_core.specs.declared.cause.ReadFail.{ReadFail}
 use Rattle.mps_core.specs.declared.cause.ReadFail.TheVariants as fail
 use Rattle.mps_core.specs.declared.cause.Refusal.{Refusal}
-use Rattle.mps_core.specs.declared.core.Core.{Core}
+use Rattle.mps_core.specs.declared.program.Core.{Core}
 use Rattle.mps_core.specs.declared.draft.Draft.{Draft}
 use Rattle.mps_core.specs.declared.section.Section.{Section}
 use Rattle.mps_core.specs.declared.section.Section.TheVariants as sections

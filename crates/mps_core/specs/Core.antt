@@ -6,7 +6,7 @@ use Rattle.smps_words.specs.Names.{IsNumbered}
 use Rattle.smps_words.specs.declared.row_kind.RowKind.TheVariants.{Less}
 use Rattle.mps_core.specs.declared.parts.RowDef.{RowDef}
 use Rattle.mps_core.specs.declared.parts.ColumnDef.{ColumnDef}
-use Rattle.mps_core.specs.declared.core.Core.{Core}
+use Rattle.mps_core.specs.declared.program.Core.{Core}
 
 -- the names of the constraints, in their order
 abbrev pub row_names : List RowDef → List (List ℕ)

@@ -1,6 +1,6 @@
 -- The core that the lines of a whole text give.
 use Rattle.std.specs.Prelude.{◌≡◌, ◌≤◌, true, [], Some, is_some, length, codes}
-use Rattle.mps_core.specs.declared.core.Core.{Core}
+use Rattle.mps_core.specs.declared.program.Core.{Core}
 use Rattle.mps_core.specs.Core.{column_names}
 use Rattle.mps_core.specs.Filed.{Filed}
 use Rattle.mps_core.specs.Rows.{row_defs}

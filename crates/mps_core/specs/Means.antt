@@ -3,7 +3,7 @@ use Rattle.std.specs.Prelude.{◌≡◌, ℕ, ◌<◌, List, [], ◌∷◌, map,
 use Rattle.rationals.specs.Sparse.{coefficient}
 use Rattle.rationals.specs.Forms.{IsForm, EndsBelow}
 use Rattle.smps_words.specs.Line.{TextLine, reading_of}
-use Rattle.mps_core.specs.declared.core.Core.{Core}
+use Rattle.mps_core.specs.declared.program.Core.{Core}
 use Rattle.mps_core.specs.declared.parts.ColumnDef.{ColumnDef}
 use Rattle.mps_core.specs.declared.parts.RowDef.{RowDef}
 use Rattle.mps_core.specs.Bounds.{bounds_in}

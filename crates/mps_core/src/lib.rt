@@ -2,11 +2,11 @@
 #![tactic(auto)]
 
 mod cause;
-mod core;
 mod draft;
 mod number;
 mod parts;
 mod place;
+mod program;
 mod reading;
 mod rows;
 mod section;
@@ -16,6 +16,6 @@ mod terms;
 mod tests;
 
 pub use cause::{Cause, ReadFail, Refusal};
-pub use core::Core;
 pub use parts::{ColumnDef, RowDef};
+pub use program::Core;
 pub use reading::read_core;

@@ -7,8 +7,8 @@ ghost use Rattle.mps_core.specs.View.{Reads};
 ghost use Rattle.mps_core.specs.Step.{filed_text};
 
 use crate::cause::{Cause, ReadFail, Refusal};
-use crate::core::Core;
 use crate::draft::Draft;
+use crate::program::Core;
 use crate::section::Section;
 use crate::stop::Stop;
 use smps_words::Lines;

@@ -1,6 +1,6 @@
 //! Texts and what reading them gives.
 use crate::cause::ReadFail;
-use crate::core::Core;
+use crate::program::Core;
 use crate::reading::read_core;
 use frac128::print;
 use std::alloc::Global;

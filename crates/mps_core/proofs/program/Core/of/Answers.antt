@@ -2,7 +2,7 @@
 use Rattle.std.proofs.Common.{◌∙◌, ap, sym, length, arith}
 use Rattle.mps_core.specs.Core.{row_names}
 use Rattle.mps_core.proofs.CoreLemmas.{row_names_are, row_count}
-use Rattle.mps_core.proofs.core.Core.of.Goals as goal
+use Rattle.mps_core.proofs.program.Core.of.Goals as goal
 
 pub invariant_of-result : goal.invariant_of-result
 invariant_of-result c = record {
