@@ -14,8 +14,9 @@ use Rattle.lp_defs.specs.Walks.{Walk, after_ok}
 use Rattle.rationals.specs.Sparse.{Entry, value_if, product, Ascending}
 use Rattle.lp_defs.specs.Path.{Candidate}
 use Rattle.lp_defs.specs.Lines.{Line, value_at, cleared, divided}
-use Rattle.lp_defs.specs.Path.{Row, Tableau, Best, Open, entering, path, pivoted, row_at, cleared_row, cleared_rows}
+use Rattle.lp_defs.specs.Path.{Row, Tableau, Done, Open, entering, path, pivoted, row_at, cleared_row, cleared_rows}
 use Rattle.lp_defs.specs.Linear.{Holds, AllLines, AllRows, Solves, Less, Times, IsTied}
+use Rattle.lp_defs.specs.Stages.{Three, HasRisen}
 use Rattle.lp_defs.specs.Ends.{IsChosen, EndsWell, unit, IsPoint, begin}
 use Rattle.lp_defs.specs.Basis.{IsUnits, IsBasic, IsBelow, point}
 use Rattle.lp_defs.proofs.Linear.{cleared_is, divided_is}
@@ -173,11 +174,7 @@ rows_rise j pivot (r ∷ rows) d all p h g e =
     lines_join P [] b h k = k
     lines_join P (r ∷ a) b h k = (h.0, lines_join P a b h.1 k)
 
-pub record HasRisen (u : Tableau) : Type 0 where
-  pub rows : AllLines (λ line. Ascending 0 line.entries) u.rows
-  pub objective : Ascending 0 u.objective.entries
-
-pivot_rises : (j i : ℕ) (t u : Tableau) → i < length t.rows → AllLines (λ line. Ascending 0 line.entries) t.rows → Ascending 0 t.objective.entries → pivoted j i t ≡ Ok u → HasRisen u
+pub pivot_rises : (j i : ℕ) (t u : Tableau) → i < length t.rows → AllLines (λ line. Ascending 0 line.entries) t.rows → Ascending 0 t.objective.entries → pivoted j i t ≡ Ok u → HasRisen u
 pivot_rises j i t u w h o e =
     let line : Line = (row_at t.rows i).line in
     let a = after_ok (divided (value_at line.entries j) line) (λ pivot. then_walk (cleared_rows j pivot (remove t.rows i) []) (λ rows. then_walk (cleared j pivot t.objective) (λ objective. Ok (record { rows = insert rows i (record { basic = j; line = pivot }); objective = objective })))) u e in
@@ -248,15 +245,17 @@ basic_driven j i t u h within ne z q =
     basic_pivot j i zero_ℚ t u h within ne (sym (ap (λ (w : ℚ). w *ℚ inv_ℚ a) z ∙ by_ring (inv_ℚ a ∷ []) (search terms depth 40) tt)) (le_refl_ℚ zero_ℚ)
     (all_weaker (λ line. zero_ℚ ≤ℚ line.right) (λ line. zero_ℚ <ℚ value_at line.entries j → zero_ℚ ≤ℚ line.right /ℚ value_at line.entries j) t.rows (λ line k p. mul_nonneg_ℚ line.right (inv_ℚ (value_at line.entries j)) k (inv_nonneg_ℚ p)) h.feasible) q
 
--- the basic columns stay below any number that the entering columns are below
+-- the basic columns stay below any number that the new one is below
+pub below_pivot : (all j i : ℕ) (t u : Tableau) → j < all → i < length t.rows → IsBelow all t → pivoted j i t ≡ Ok u → IsBelow all u
+below_pivot all j i t u l w h q =
+    let p : Pivots j i t u = pivots j i t u q in
+    let r : Row = row_at t.rows i in
+    let others : List Row = remove t.rows i in
+    let below = rows_uninsert (λ s. s.basic < all) others i r (subst (AllRows (λ s. s.basic < all)) (sym (put_back t.rows i w)) h) in
+    subst (AllRows (λ s. s.basic < all)) (sym p.rows) (rows_insert (λ s. s.basic < all) p.others i (record { basic = j; line = p.pivot }) (each_below all j p.pivot others p.others p.each below.0) l)
+
 pub below_keeps : (n all : ℕ) → n ≤ all → Keeps (IsBelow all) n
-below_keeps n all le t u j c h e m q =
-    let p : Pivots j c.index t u = pivots j c.index t u q in
-    let r : Row = row_at t.rows c.index in
-    let others : List Row = remove t.rows c.index in
-    let below = rows_uninsert (λ s. s.basic < all) others c.index r (subst (AllRows (λ s. s.basic < all)) (sym (put_back t.rows c.index m.within)) h) in
-    let l : j < n = entering_below n t.objective.entries j e in
-    subst (AllRows (λ s. s.basic < all)) (sym p.rows) (rows_insert (λ s. s.basic < all) p.others c.index (record { basic = j; line = p.pivot }) (each_below all j p.pivot others p.others p.each below.0) (omega arith))
+below_keeps n all le t u j c h e m q = below_pivot all j c.index t u (let l : j < n = entering_below n t.objective.entries j e in omega arith) m.within h q
 
 -- ---- the point
 product_point : (f : List Entry) (a : ℚ) (u v : ℕ → ℚ) → product f (λ c. a *ℚ u c +ℚ v c) ≡ a *ℚ product f u +ℚ product f v
@@ -314,9 +313,6 @@ Both cost rows t = IsTied cost rows t × IsBasic t
 
 pub both_keep : (n : ℕ) (cost : List Entry) (rows : List Row) → Keeps (Both cost rows) n
 both_keep n cost rows t u j c h e m q = (tied_keeps n cost rows t u j c h.0 e m q, basic_keeps n t u j c h.1 e m q)
-
-abbrev pub Three : ℕ → List Entry → List Row → Tableau → Type 0
-Three all cost rows t = IsTied cost rows t × IsBasic t × IsBelow all t
 
 pub three_keep : (n all : ℕ) (cost : List Entry) (rows : List Row) → n ≤ all → Keeps (Three all cost rows) n
 three_keep n all cost rows le t u j c h e m q = (tied_keeps n cost rows t u j c h.0 e m q, basic_keeps n t u j c h.1 e m q, below_keeps n all le t u j c h.2 e m q)

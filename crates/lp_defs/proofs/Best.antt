@@ -10,7 +10,7 @@ use Rattle.lp_defs.specs.Tests.{is_below_zero, is_below_zero_false}
 use Rattle.rationals.specs.Sparse.{Entry, value_if, product}
 use Rattle.lp_defs.specs.Path.{Candidate}
 use Rattle.lp_defs.specs.Lines.{Line, value_at}
-use Rattle.lp_defs.specs.Path.{Row, Tableau, Ending, Best, Open, entering, path, pivoted, row_at}
+use Rattle.lp_defs.specs.Path.{Row, Tableau, Ending, Done, Open, entering, path, pivoted, row_at}
 use Rattle.lp_defs.specs.Linear.{Holds, AllLines, Solves, values, rights, Combines, Prices, IsTied}
 use Rattle.lp_defs.specs.Ends.{IsChosen, EndsWell, unit, IsPoint, begin}
 use Rattle.lp_defs.proofs.Rows.{pivots, tied_pivot}

@@ -13,7 +13,7 @@ use Rattle.lp_defs.specs.Walks.{Walk, after_ok, div_walk_is}
 use Rattle.rationals.specs.Passes.{Operation, then_walk, div_walk}
 use Rattle.lp_defs.specs.Path.{Candidate}
 use Rattle.lp_defs.specs.Lines.{Line, value_at}
-use Rattle.lp_defs.specs.Path.{Row, Tableau, Ending, Best, Open, TooLong, Stopped, row_at, leaving, choose, is_better, has_above_zero, entering, pivoted, path, with_choice, with_value, at_limit}
+use Rattle.lp_defs.specs.Path.{Row, Tableau, Ending, Done, Open, TooLong, Stopped, row_at, leaving, choose, is_better, has_above_zero, entering, pivoted, path, with_choice, with_value, at_limit}
 use Rattle.lp_defs.specs.Linear.{AllLines, AllRows}
 use Rattle.lp_defs.specs.Ends.{IsChosen, NoneAbove, IsChoice, EndsWell}
 use Rattle.lp_defs.proofs.Rows.{all_join}
@@ -173,7 +173,7 @@ path_keeps P n f zero k t h = go (entering n t.objective.entries) refl
     last j true e m = tt
     last j false e m = (h, e, none_above j t.rows m)
 
-    go : (o : Option ℕ) → entering n t.objective.entries ≡ o → EndsWell P n (with_choice o (Best k t) (λ j. at_limit j t (has_above_zero j t.rows)))
+    go : (o : Option ℕ) → entering n t.objective.entries ≡ o → EndsWell P n (with_choice o (Done k t) (λ j. at_limit j t (has_above_zero j t.rows)))
     go None e = (h, e)
     go (Some j) e = last j (has_above_zero j t.rows) e refl
 path_keeps P n f (suc left) k t h = go (entering n t.objective.entries) refl (path_keeps P n f left (k + 1))
@@ -194,6 +194,6 @@ path_keeps P n f (suc left) k t h = go (entering n t.objective.entries) refl (pa
     leave j (Err p) e m ih = tt
 
     go : (o : Option ℕ) → entering n t.objective.entries ≡ o → ((u : Tableau) → P u → EndsWell P n (path n left (k + 1) u))
-        → EndsWell P n (with_choice o (Best k t) (λ j. with_value (leaving j t.rows 0 None) (Stopped (k + 1)) (λ o. with_choice o (Open j t) (λ c. with_value (pivoted j c.index t) (Stopped (k + 1)) (λ u. path n left (k + 1) u)))))
+        → EndsWell P n (with_choice o (Done k t) (λ j. with_value (leaving j t.rows 0 None) (Stopped (k + 1)) (λ o. with_choice o (Open j t) (λ c. with_value (pivoted j c.index t) (Stopped (k + 1)) (λ u. path n left (k + 1) u)))))
     go None e ih = (h, e)
     go (Some j) e ih = leave j (leaving j t.rows 0 None) e refl ih

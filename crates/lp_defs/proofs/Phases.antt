@@ -1,5 +1,5 @@
 -- The start of a phase, and the duals at its end.
-use Rattle.std.proofs.Common.{◌≡◌, ℕ, ◌<◌, List, [], ◌∷◌, ◌++◌, Option, None, Ok, refl, sym, ap, ap₂, ◌∙◌, subst}
+use Rattle.std.proofs.Common.{◌≡◌, ℕ, ◌<◌, length, List, [], ◌∷◌, ◌++◌, Option, None, Ok, refl, sym, ap, ap₂, ◌∙◌, subst}
 use Rattle.std.proofs.lemmas.List.{append-nil, append_assoc}
 use Rattle.rationals.specs.Passes.{then_walk}
 use Rattle.rationals.specs.Rational.{ℚ, zero_ℚ, one_ℚ, ◌+ℚ◌, ◌-ℚ◌, ◌*ℚ◌, neg_ℚ, ◌≤ℚ◌, by_ring, by_eqs, by_linear, terms}
@@ -9,21 +9,20 @@ use Rattle.rationals.specs.Sums.{dot, add_rows, scale_row}
 use Rattle.lp_defs.specs.Walks.{Walk, after_ok}
 use Rattle.rationals.specs.Sparse.{Entry, product, Ascending}
 use Rattle.lp_defs.specs.Lines.{Line, value_at, cleared_by}
-use Rattle.lp_defs.specs.Path.{Row, Tableau, entering}
-use Rattle.lp_defs.specs.Linear.{AllLines, AllRows, Less, Combines, Prices, IsTied, values, rights}
+use Rattle.lp_defs.specs.Path.{Row, Tableau, entering, pivoted, row_at}
+use Rattle.lp_defs.specs.Linear.{AllLines, AllRows, Less, Combines, Prices, IsTied, Solves, values, rights}
 use Rattle.lp_defs.specs.Ends.{EndsWell, IsDualOf, unit}
 use Rattle.lp_defs.specs.Basis.{IsUnits, IsBasic}
-use Rattle.lp_defs.specs.TwoPhases.{priced, cost_line}
-use Rattle.lp_defs.specs.Phases.{PricedStart, start_duals, DrivenKeeps}
+use Rattle.lp_defs.specs.Phases.{priced, cost_line, start_duals}
 use Rattle.lp_defs.proofs.Linear.{cleared_is}
 use Rattle.lp_defs.proofs.Rows.{less_prices, pivots, tied_pivot}
 use Rattle.lp_defs.proofs.Rising.{cleared_rises}
 use Rattle.lp_defs.proofs.Choice.{path_keeps}
-use Rattle.lp_defs.proofs.Best.{start_spans, none_enters}
+use Rattle.lp_defs.proofs.Best.{none_enters}
 use Rattle.lp_defs.proofs.Basic.{value_is, basic_driven, Both, both_keep}
 use Rattle.lp_defs.proofs.Rays.{reads, reads_same, values_long, rights_long, AsLong, unit_range}
 
-abbrev Spans : List Row → Line → Type 0
+abbrev pub Spans : List Row → Line → Type 0
 Spans rows line = (y : List ℚ) × Combines rows y line
 
 priced_step : (cost : List Entry) (r : Row) (rs : List Row) (line o : Line) → priced cost (r ∷ rs) line ≡ Ok o → (next : Line) × (cleared_by (value_at cost r.basic) r.line line ≡ Ok next) × (priced cost rs next ≡ Ok o)
@@ -46,15 +45,15 @@ rows_push : (P : Row → Type 0) (d : List Row) (r : Row) → AllRows P d → P 
 rows_push P [] r h k = (k, tt)
 rows_push P (x ∷ d) r h k = (h.0, rows_push P d r h.1 k)
 
-rows_map : (P Q : Row → Type 0) (rows : List Row) → ((r : Row) → P r → Q r) → AllRows P rows → AllRows Q rows
+pub rows_map : (P Q : Row → Type 0) (rows : List Row) → ((r : Row) → P r → Q r) → AllRows P rows → AllRows Q rows
 rows_map P Q [] f h = tt
 rows_map P Q (r ∷ rows) f h = (f r h.0, rows_map P Q rows f h.1)
 
-rows_zip : (P Q R : Row → Type 0) (rows : List Row) → ((r : Row) → P r → Q r → R r) → AllRows P rows → AllRows Q rows → AllRows R rows
+pub rows_zip : (P Q R : Row → Type 0) (rows : List Row) → ((r : Row) → P r → Q r → R r) → AllRows P rows → AllRows Q rows → AllRows R rows
 rows_zip P Q R [] f h k = tt
 rows_zip P Q R (r ∷ rows) f h k = (f r h.0 k.0, rows_zip P Q R rows f h.1 k.1)
 
-minus_zero : (f : ℚ) (line pivot new : Line) (x : ℕ → ℚ) (v : ℚ) → Less f line pivot new → product pivot.entries x ≡ zero_ℚ → product line.entries x ≡ v → product new.entries x ≡ v
+pub minus_zero : (f : ℚ) (line pivot new : Line) (x : ℕ → ℚ) (v : ℚ) → Less f line pivot new → product pivot.entries x ≡ zero_ℚ → product line.entries x ≡ v → product new.entries x ≡ v
 minus_zero f line pivot new x v l h k = by_eqs (product new.entries x ∷ product line.entries x ∷ product pivot.entries x ∷ f ∷ v ∷ []) (by_eq one_ℚ (l.entries x) (by_eq (neg_ℚ f) h (by_eq one_ℚ k done))) (search terms depth 40) tt
 
 minus_one : (f : ℚ) (line pivot new : Line) (x : ℕ → ℚ) → Less f line pivot new → product pivot.entries x ≡ one_ℚ → product line.entries x ≡ f → product new.entries x ≡ zero_ℚ
@@ -81,15 +80,17 @@ costs_at : (cost : List Entry) (rows : List Row) → Ascending 0 cost → AllRow
 costs_at cost [] h = tt
 costs_at cost (r ∷ rows) h = (value_is 0 r.basic cost h, costs_at cost rows h)
 
-pub priced_start : PricedStart
-priced_start cost rows o hc hr hu hf e =
-    let p = priced_prices cost rows rows [] (cost_line cost) o (record { entries = λ x. by_ring (product cost x ∷ []) (search terms depth 40) tt; right = by_ring [] (search terms depth 40) tt }) (start_spans rows) e in (
-      record { spans = start_spans rows; prices = p; back = λ x s. s },
+-- the tableau that a phase begins with is in order, and the program's: its rows are sums of the program's rows
+pub priced_start : (cost : List Entry) (rows rs : List Row) (o : Line) → Ascending 0 cost → AllLines (λ line. Ascending 0 line.entries) rs → IsUnits rs → AllLines (λ line. zero_ℚ ≤ℚ line.right) rs
+    → AllLines (Spans rows) rs → ((x : ℕ → ℚ) → Solves rs x → Solves rows x) → priced cost rs (cost_line cost) ≡ Ok o → Both cost rows (record { rows = rs; objective = o })
+priced_start cost rows rs o hc hr hu hf hs back e =
+    let p = priced_prices cost rows rs [] (cost_line cost) o (record { entries = λ x. by_ring (product cost x ∷ []) (search terms depth 40) tt; right = by_ring [] (search terms depth 40) tt }) hs e in (
+      record { spans = hs; prices = p; back = back },
       record {
         rows_rise = hr;
-        objective_rises = priced_rises cost rows (cost_line cost) o hc hr e;
+        objective_rises = priced_rises cost rs (cost_line cost) o hc hr e;
         units = hu;
-        priced = priced_zero cost [] rows (cost_line cost) o tt (costs_at cost rows hc) tt hu e;
+        priced = priced_zero cost [] rs (cost_line cost) o tt (costs_at cost rs hc) tt hu e;
         feasible = hf;
       },
     )
@@ -117,5 +118,6 @@ duals_of n cost rows t hc hu b e =
       worth = by_eqs (t.objective.right ∷ dot y (rights rows) ∷ []) (by_eq (neg_ℚ one_ℚ) b.0.prices.1.right done) (search terms depth 40) tt ∙ sym (same (rights rows) (rights_long rows));
     }
 
-pub driven_keeps : DrivenKeeps
-driven_keeps cost rows j i t u kt bt h ne z e = (tied_pivot cost rows j i t u (pivots j i t u e) h ne kt, basic_driven j i t u bt h ne z e)
+-- a pivot on any entry that isn't 0 of a row with right side 0 keeps the program and the order
+pub driven_keeps : (cost : List Entry) (rows : List Row) (j i : ℕ) (t u : Tableau) → Both cost rows t → i < length t.rows → (value_at (row_at t.rows i).line.entries j ≡ zero_ℚ → ⊥) → (row_at t.rows i).line.right ≡ zero_ℚ → pivoted j i t ≡ Ok u → Both cost rows u
+driven_keeps cost rows j i t u b h ne z e = (tied_pivot cost rows j i t u (pivots j i t u e) h ne b.0, basic_driven j i t u b.1 h ne z e)

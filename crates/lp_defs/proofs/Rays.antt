@@ -11,11 +11,12 @@ use Rattle.rationals.specs.Sparse.{Entry, value_if, product, Ascending}
 use Rattle.lp_defs.specs.Lines.{Line, value_at}
 use Rattle.lp_defs.specs.Path.{Row, Tableau, entering}
 use Rattle.lp_defs.specs.Linear.{Holds, AllLines, AllRows, Solves, values, rights, IsTied}
+use Rattle.lp_defs.specs.Stages.{Three}
 use Rattle.lp_defs.specs.Ends.{NoneAbove, unit, IsPoint}
 use Rattle.lp_defs.specs.Basis.{IsUnits, IsBasic, point, ray, IsRayOf}
 use Rattle.lp_defs.proofs.Choice.{path_keeps}
 use Rattle.lp_defs.proofs.Best.{start_tied, cost_is, none_enters, tied_keeps}
-use Rattle.lp_defs.proofs.Basic.{value_is, point_is, point_solves, entering_below, Both, both_keep, Three, three_keep}
+use Rattle.lp_defs.proofs.Basic.{value_is, point_is, point_solves, entering_below, Both, both_keep, three_keep}
 
 -- ---- the entering column's reduced cost
 entering_from : (n m j : ℕ) (f : List Entry) → Ascending m f → entering n f ≡ Some j → m ≤ j

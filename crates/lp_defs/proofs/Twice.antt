@@ -126,7 +126,7 @@ step_point n g s z c =
     zero_both x y a b d e f h p q r s t = by_eqs (x ∷ y ∷ a ∷ b ∷ d ∷ e ∷ f ∷ h ∷ []) (by_eq one_ℚ p (by_eq (neg_ℚ one_ℚ) q (by_eq one_ℚ r (by_eq b s (by_eq (neg_ℚ f) t done))))) (search terms depth 40) tt
 
 -- a basic column has its row's right side
-point_at : (rows : List Row) → IsUnits rows → AllRows (λ r. point rows r.basic ≡ r.line.right) rows
+pub point_at : (rows : List Row) → IsUnits rows → AllRows (λ r. point rows r.basic ≡ r.line.right) rows
 point_at [] u = tt
 point_at (r ∷ rows) u =
     let out : NotIn r.basic rows = apart_from r rows u.0 u.1 in

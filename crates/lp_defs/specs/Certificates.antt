@@ -73,4 +73,8 @@ IsCertified p Cut_off = Unit {0}
 IsCertified p (Passes k o) = Unit {0}
 
 abbrev pub SolutionsAreCertified : Type 0
-SolutionsAreCertified = (p : Program) (pivots : ℕ) → IsProgram p → EndsInUnits p → IsCertified p (solution p pivots)
+SolutionsAreCertified = (p : Program) (pivots : ℕ) → IsProgram p → IsCertified p (solution p pivots)
+
+-- a program whose last columns, one for each row, are unit columns is never infeasible
+abbrev pub UnitColumnsAreFeasible : Type 0
+UnitColumnsAreFeasible = (p : Program) (y : List ℚ) → IsProgram p → EndsInUnits p → IsInfeasible p y → ⊥

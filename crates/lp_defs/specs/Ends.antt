@@ -5,7 +5,7 @@ use Rattle.rationals.specs.Sums.{sum_ℚ, dot}
 use Rattle.rationals.specs.Sparse.{Entry, value_if, product}
 use Rattle.lp_defs.specs.Path.{Candidate}
 use Rattle.lp_defs.specs.Lines.{Line, value_at}
-use Rattle.lp_defs.specs.Path.{Row, Tableau, Ending, Best, Open, TooLong, Stopped, entering, path, row_at}
+use Rattle.lp_defs.specs.Path.{Row, Tableau, Ending, Done, Open, TooLong, Stopped, entering, path, row_at}
 use Rattle.lp_defs.specs.Linear.{Solves, AllLines, AllRows, values, rights}
 
 -- the row of a candidate has the least quotient
@@ -27,7 +27,7 @@ IsChoice j rows (Some c) = IsChosen j rows c
 
 -- what holds of the last tableau where the path ends by itself
 abbrev pub EndsWell : (Tableau → Type 0) → ℕ → Ending → Type 0
-EndsWell P n (Best k t) = P t × (entering n t.objective.entries ≡ None)
+EndsWell P n (Done k t) = P t × (entering n t.objective.entries ≡ None)
 EndsWell P n (Open j t) = P t × (entering n t.objective.entries ≡ Some j) × NoneAbove j t.rows
 EndsWell P n TooLong = Unit {0}
 EndsWell P n (Stopped k p) = Unit {0}

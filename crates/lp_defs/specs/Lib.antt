@@ -5,10 +5,10 @@ pub mod Path
 pub mod Linear
 pub mod Ends
 pub mod Basis
-pub mod TwoPhases
 pub mod Trace
 pub mod Phases
 pub mod Program
 pub mod Certificates
 pub mod Solution
 pub mod Placed
+pub mod Stages

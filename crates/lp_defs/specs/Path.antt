@@ -78,7 +78,7 @@ pivoted j i t = pivoted_by j i (row_at t.rows i).line (remove t.rows i) t.object
 -- ---- the path from a tableau on
 pub data Ending : Type 0 where
   -- after so many pivots
-  Best : ℕ → Tableau → Ending
+  Done : ℕ → Tableau → Ending
   -- no row bounds this column
   Open : ℕ → Tableau → Ending
   TooLong : Ending
@@ -100,9 +100,9 @@ at_limit j t false = Open j t
 
 -- columns below n may enter; `left` pivots are allowed, and k have been made
 abbrev pub path : ℕ → ℕ → ℕ → Tableau → Ending
-path n zero k t = with_choice (entering n t.objective.entries) (Best k t) (λ j. at_limit j t (has_above_zero j t.rows))
+path n zero k t = with_choice (entering n t.objective.entries) (Done k t) (λ j. at_limit j t (has_above_zero j t.rows))
 path n (suc left) k t =
-    with_choice (entering n t.objective.entries) (Best k t) (λ j.
+    with_choice (entering n t.objective.entries) (Done k t) (λ j.
     with_value (leaving j t.rows 0 None) (Stopped (k + 1)) (λ found.
     with_choice found (Open j t) (λ c.
     with_value (pivoted j c.index t) (Stopped (k + 1)) (λ next.

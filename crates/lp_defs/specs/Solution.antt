@@ -1,13 +1,15 @@
--- What the simplex method answers.
-use Rattle.std.specs.Prelude.{ℕ, zero, suc, ◌+◌, ◌-◌, length, List, [], ◌∷◌}
-use Rattle.rationals.specs.Rational.{ℚ, zero_ℚ, neg_ℚ}
+-- The whole path of a program: phase one, the pivots on artificial columns that are left, phase two.
+use Rattle.std.specs.Prelude.{ℕ, Bool, true, false, ◌+◌, ◌-◌, length, List, [], Ok, Err}
+use Rattle.rationals.specs.Rational.{ℚ}
 use Rattle.rationals.specs.Passes.{Operation}
 use Rattle.rationals.specs.Sparse.{Entry}
-use Rattle.lp_defs.specs.Lines.{Line, value_at}
+use Rattle.lp_defs.specs.Tests.{is_below_zero}
+use Rattle.lp_defs.specs.Walks.{Walk}
+use Rattle.lp_defs.specs.Lines.{Line}
 use Rattle.lp_defs.specs.Program.{Program}
-use Rattle.lp_defs.specs.Path.{Row, Ending, Best, Open, TooLong, Stopped, path}
-use Rattle.lp_defs.specs.Ends.{begin}
+use Rattle.lp_defs.specs.Path.{Row, Tableau, Ending, Done, Open, TooLong, Stopped, path}
 use Rattle.lp_defs.specs.Basis.{point, ray}
+use Rattle.lp_defs.specs.Phases.{unit_rows, with_units, unit_costs, cost_line, priced, Driven, Driven_out, Driven_long, Driven_stop, driven, first_duals, unit_duals}
 
 pub data Solution : Type 0 where
   -- a point and duals
@@ -21,24 +23,44 @@ pub data Solution : Type 0 where
   -- this operation, in this pivot
   Passes : ℕ → Operation → Solution
 
--- a row for each form, with its right side; the basic columns are j, j + 1 and so on
-abbrev pub unit_rows : ℕ → List (List Entry) → List ℚ → List Row
-unit_rows j [] right = []
-unit_rows j (f ∷ rows) [] = []
-unit_rows j (f ∷ rows) (b ∷ right) = record { basic = j; line = record { entries = f; right = b } } ∷ unit_rows (suc j) rows right
+-- what follows operations that count to pivot k
+abbrev pub counted : {A : Type 0} → ℕ → Walk A → (A → Solution) → Solution
+counted k (Ok a) go = go a
+counted k (Err p) go = Passes k p
 
--- the negative reduced costs of column j and the columns behind it, so many as given
-abbrev pub unit_duals : ℕ → ℕ → Line → List ℚ
-unit_duals j zero objective = []
-unit_duals j (suc m) objective = neg_ℚ (value_at objective.entries j) ∷ unit_duals (suc j) m objective
+-- the artificial columns are numbered after all others, by row
+abbrev pub first_rows : Program → List Row
+first_rows p = unit_rows p.columns (with_units p.columns p.rows) p.right
 
--- the answer at the end of a path that began with m unit columns from column j on
-abbrev pub ended : ℕ → ℕ → Ending → Solution
-ended j m (Best k t) = Optimum (point t.rows) (unit_duals j m t.objective)
-ended j m (Open c t) = Endless (point t.rows) (ray c t.rows)
-ended j m TooLong = Cut_off
-ended j m (Stopped k p) = Passes k p
+abbrev pub first_cost : Program → List Entry
+first_cost p = unit_costs p.columns (length p.rows)
 
--- the answer for a program whose last columns are unit columns: they are the first basis
+-- ---- phase two
+abbrev pub second_end : Program → Ending → Solution
+second_end p (Done k t) = Optimum (point t.rows) (unit_duals p.columns (length p.rows) t.objective)
+second_end p (Open j t) = Endless (point t.rows) (ray j t.rows)
+second_end p TooLong = Cut_off
+second_end p (Stopped k o) = Passes k o
+
+-- from a tableau behind k pivots
+abbrev pub second : Program → ℕ → ℕ → Tableau → Solution
+second p pivots k t = counted k (priced p.cost t.rows (cost_line p.cost)) (λ objective. second_end p (path p.columns (pivots - k) k (record { rows = t.rows; objective = objective })))
+
+abbrev pub between : Program → ℕ → Driven → Solution
+between p pivots (Driven_out k t) = second p pivots k t
+between p pivots Driven_long = Cut_off
+between p pivots (Driven_stop k o) = Passes k o
+
+-- ---- phase one: it minimises the sum of the artificial columns, which is the negative right side of its objective row
+abbrev pub first_end : Program → ℕ → Ending → Solution
+first_end p pivots (Done k t) = elim (is_below_zero t.objective.right) [
+  | true ↦ counted k (first_duals p.columns (length p.rows) t.objective []) Nowhere
+  | false ↦ between p pivots (driven p.columns (length t.rows) 0 (pivots - k) k t)
+]
+-- it never is: the sum is at least 0
+first_end p pivots (Open j t) = Cut_off
+first_end p pivots TooLong = Cut_off
+first_end p pivots (Stopped k o) = Passes k o
+
 abbrev pub solution : Program → ℕ → Solution
-solution p pivots = let first : ℕ = p.columns - length p.rows in ended first (length p.rows) (path p.columns pivots 0 (begin p.cost (unit_rows first p.rows p.right)))
+solution p pivots = counted 0 (priced (first_cost p) (first_rows p) (cost_line (first_cost p))) (λ objective. first_end p pivots (path p.columns pivots 0 (record { rows = first_rows p; objective = objective })))

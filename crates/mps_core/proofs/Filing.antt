@@ -1,6 +1,6 @@
 -- What is filed is what the lines state.
 use Rattle.std.proofs.Common.{◌≡◌, ◌<◌, ◌&&◌, not, ℕ, Bool, true, false, List, [], Option, Some, None, map, flat_map, length, get_or, is_some, nat_lt}
-use Rattle.std.specs.Prelude.{All, count_by, codes}
+use Rattle.std.specs.Prelude.{All, codes}
 use Rattle.std.specs.List.{AllByRecursion}
 use Rattle.std.specs.Option.{option_to_list, unwrap_or}
 use Rattle.rationals.specs.Rational.{ℚ, zero_ℚ}
@@ -17,6 +17,7 @@ use Rattle.mps_core.specs.Filed.{Filed}
 use Rattle.mps_core.specs.Lines.{last_section, data_of}
 use Rattle.mps_core.specs.Section.{rank}
 use Rattle.mps_core.specs.Stated.{free_name, constraint_name, constraint_kind, Pair, columns_named, entry_pairs, distinct, number_in, value_on, set_on, set_pairs}
+use Rattle.mps_core.specs.Thin.{last_of, count_entries}
 
 -- the word that begins a section
 abbrev pub section_word : Section → List ℕ
@@ -62,14 +63,11 @@ pub record AgreesWhole (pairs : List Pair) (objective : Option (List ℕ)) (rows
   pub cost : (row : List ℕ) → objective ≡ Some row → column.cost ≡ unwrap_or (value_on pairs column.name row) zero_ℚ
   pub entry : (row : ℕ) → row < length rows → coefficient column.entries row ≡ unwrap_or (value_on pairs column.name (get_or rows row [])) zero_ℚ
 
--- a pair that counts as an entry
-abbrev pub counts : List (List ℕ) → Pair → Bool
-counts rows pair = is_some (place_of rows pair.row) && not (is_zero (number_in pair.word))
-
 -- before COLUMNS nothing of a column or a right-hand side is there
 pub record IsEarly (d : Data) (f : Filed) : Type 0 where
   pub columns : f.columns ≡ []
   pub current : f.current ≡ None
+  pub named : d.named ≡ []
   pub pairs : d.pairs ≡ []
   pub entries : f.entries ≡ 0
   pub rhs : f.rhs ≡ []
@@ -81,14 +79,17 @@ pub record Filing (d : Data) (f : Filed) : Type 0 where
   pub free : flat_map free_name d.rows ≡ option_to_list f.objective
   pub constraints : flat_map constraint_name d.rows ≡ f.rows
   pub kinds : flat_map constraint_kind d.rows ≡ map (λ row. Less) f.rows
+  pub first : f.objective ≡ None → d.rows ≡ []
   pub names : distinct [] d.named ≡ f.names
+  -- the column that isn't whole is that of the last line
+  pub last : (name : List ℕ) → f.current ≡ Some name → last_of d.named ≡ Some name
   pub columns : All (AgreesWhole d.pairs f.objective f.rows) f.columns
   pub current : (name : List ℕ) → f.current ≡ Some name → Agrees d.pairs f.objective f.rows name f.cost f.terms
   -- without a column that isn't whole nothing is filed of one
   pub idle : f.current ≡ None → (f.cost ≡ None) × (f.terms ≡ [])
   -- a name that is no column has no pair
   pub fresh : (name row : List ℕ) → is_some (place_of f.names name) ≡ false → value_on d.pairs name row ≡ None
-  pub entries : f.entries ≡ count_by (counts f.rows) d.pairs
+  pub entries : f.entries ≡ count_entries f.rows d.pairs
   pub sets : AllByRecursion (λ fields. set_on fields ≡ Some (codes "RHS")) d.rhs
   pub rhs : (row : ℕ) → row < length f.rows → find f.rhs row ≡ value_on d.rhs_pairs [] (get_or f.rows row [])
   pub ranges : d.ranges ≡ []

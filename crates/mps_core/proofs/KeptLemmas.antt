@@ -40,6 +40,8 @@ nothing_kept = record {
   columns = All-nil (IsColumn 0);
   terms = record { rises = tt; within = tt };
   rhs = All-nil (λ (term : Entry). is_negative term.value ≡ false);
+  start = λ before. refl;
+  there = refl;
   objective = λ there. cc;
   whole = λ behind. cc;
 }
@@ -64,14 +66,16 @@ values_kept f cost terms entries rhs keeps is positive = record {
   columns = keeps.columns;
   terms = is;
   rhs = positive;
+  start = keeps.start;
+  there = keeps.there;
   objective = keeps.objective;
   whole = keeps.whole;
 }
 
 -- so may the section
-section_kept : (f : Filed) (section : Section) (has_columns : Bool) → Keeps f → (has_columns ≡ true → is_some f.objective ≡ true) →
+section_kept : (f : Filed) (section : Section) (has_columns : Bool) → Keeps f → (nat_lt (rank section) (rank sections.Rows) ≡ true → nat_lt (rank f.section) (rank sections.Rows) ≡ true) → has_columns ≡ nat_lt (rank sections.Rows) (rank section) → (has_columns ≡ true → is_some f.objective ≡ true) →
     (nat_lt (rank sections.Columns) (rank section) ≡ true → (f.current ≡ None) × (has_columns ≡ true)) → Keeps (record f { section = section; has_columns = has_columns })
-section_kept f section has_columns keeps objective whole = record {
+section_kept f section has_columns keeps early there objective whole = record {
   rows = keeps.rows;
   few_rows = keeps.few_rows;
   apart = keeps.apart;
@@ -82,14 +86,16 @@ section_kept f section has_columns keeps objective whole = record {
   columns = keeps.columns;
   terms = keeps.terms;
   rhs = keeps.rhs;
+  start = λ before. keeps.start (early before);
+  there = there;
   objective = objective;
   whole = whole;
 }
 
 -- ---- ROWS
 
-objective_kept : (f : Filed) (name : List ℕ) → Keeps f → f.rows ≡ [] → Keeps (record f { objective = Some name })
-objective_kept f name keeps empty = record {
+objective_kept : (f : Filed) (name : List ℕ) → Keeps f → f.section ≡ sections.Rows → f.rows ≡ [] → Keeps (record f { objective = Some name })
+objective_kept f name keeps at empty = record {
   rows = keeps.rows;
   few_rows = keeps.few_rows;
   apart = λ other is. rw empty refl;
@@ -100,6 +106,8 @@ objective_kept f name keeps empty = record {
   columns = keeps.columns;
   terms = keeps.terms;
   rhs = keeps.rhs;
+  start = λ before. let no : nat_lt 2 2 ≡ true = ap (λ section. nat_lt (rank section) 2) (sym at) ∙ before in cc;
+  there = keeps.there;
   objective = λ there. refl;
   whole = keeps.whole;
 }
@@ -143,6 +151,8 @@ constraint_kept f name keeps there none room =
       columns = All-weaker (IsColumn (length f.rows)) (IsColumn (length (f.rows ++ name ∷ []))) (λ column is. column_more (length f.rows) (length (f.rows ++ name ∷ [])) column more is) f.columns keeps.columns;
       terms = record { rises = keeps.terms.rises; within = within_more (length f.rows) (length (f.rows ++ name ∷ [])) f.terms more keeps.terms.within };
       rhs = keeps.rhs;
+      start = keeps.start;
+      there = keeps.there;
       objective = keeps.objective;
       whole = keeps.whole;
     }
@@ -165,6 +175,8 @@ closed_kept_at f (Some name) at keeps = record {
   columns = All-push (IsColumn (length f.rows)) f.columns (column_def name f.cost f.terms) keeps.columns (column_is (length f.rows) name f.cost f.terms keeps.terms);
   terms = record { rises = tt; within = tt };
   rhs = keeps.rhs;
+  start = keeps.start;
+  there = keeps.there;
   objective = keeps.objective;
   whole = λ behind. (refl, (keeps.whole behind).1);
 }
@@ -207,6 +219,8 @@ opened_kept h name keeps none at new room =
       columns = keeps.columns;
       terms = keeps.terms;
       rhs = keeps.rhs;
+      start = keeps.start;
+      there = keeps.there;
       objective = keeps.objective;
       whole = λ behind. let no : nat_lt 3 3 ≡ true = ap (λ section. nat_lt 3 (rank section)) (sym at) ∙ behind in cc;
     }
@@ -226,7 +240,7 @@ column_by f g name keeps (inr new) =
       at,
     )
 
-column_kept : (f g : Filed) (name : List ℕ) → KeepsIn sections.Columns f → with_column f name ≡ Ok g → KeepsIn sections.Columns g
+pub column_kept : (f g : Filed) (name : List ℕ) → KeepsIn sections.Columns f → with_column f name ≡ Ok g → KeepsIn sections.Columns g
 column_kept f g name keeps e = column_by f g name keeps (column_ok f g name e)
 
 -- the place of a constraint is below their number
@@ -250,7 +264,7 @@ value_by f g section name value (places.Constraint row) keeps at e =
     } in
     subst (KeepsIn section) ok.is (values_kept f f.cost _ _ f.rhs keeps.0 terms keeps.0.rhs, keeps.1)
 
-value_kept : (f g : Filed) (section : Section) (name word : List ℕ) → KeepsIn section f → with_value f name word ≡ Ok g → KeepsIn section g
+pub value_kept : (f g : Filed) (section : Section) (name word : List ℕ) → KeepsIn section f → with_value f name word ≡ Ok g → KeepsIn section g
 value_kept f g section name word keeps e =
     let ok = value_ok f g name word e in
     value_by f g section name ok.1 ok.0 keeps ok.2 ok.4
@@ -273,7 +287,7 @@ column_line_kept f g (_ ∷ _ ∷ _ ∷ _ ∷ _ ∷ _ ∷ _) keeps e = cc
 
 -- ---- RHS
 
-with_rhs_kept : (f g : Filed) (section : Section) (name word : List ℕ) → KeepsIn section f → with_rhs f name word ≡ Ok g → KeepsIn section g
+pub with_rhs_kept : (f g : Filed) (section : Section) (name word : List ℕ) → KeepsIn section f → with_rhs f name word ≡ Ok g → KeepsIn section g
 with_rhs_kept f g section name word keeps e =
     let ok = rhs_ok f g name word e in
     subst (KeepsIn section) ok.is (
@@ -298,45 +312,52 @@ rhs_line_kept f g section (_ ∷ _ ∷ _ ∷ _ ∷ _ ∷ _ ∷ _) keeps e = cc
 
 -- ---- lines
 
-row_line_by : (f g : Filed) (kind name : List ℕ) (objective : Option (List ℕ)) → f.objective ≡ objective → Keeps f → (if is_some objective then constraint_line f kind name else objective_line f kind name) ≡ Ok g → Keeps g
-row_line_by f g kind name None at keeps e = subst Keeps (objective_ok f g kind name e).1 (objective_kept f name keeps (keeps.first at))
-row_line_by f g kind name (Some held) at keeps e =
+row_line_by : (f g : Filed) (kind name : List ℕ) (objective : Option (List ℕ)) → f.objective ≡ objective → f.section ≡ sections.Rows → Keeps f → (if is_some objective then constraint_line f kind name else objective_line f kind name) ≡ Ok g → Keeps g
+row_line_by f g kind name None none at keeps e = subst Keeps (objective_ok f g kind name e).1 (objective_kept f name keeps at (keeps.first none))
+row_line_by f g kind name (Some held) there at keeps e =
     let ok = constraint_ok f g kind name e in
-    subst Keeps ok.3 (constraint_kept f name keeps (ap is_some at) ok.1 ok.2)
+    subst Keeps ok.3 (constraint_kept f name keeps (ap is_some there) ok.1 ok.2)
 
-row_line_kept : (f g : Filed) (fields : List (List ℕ)) → Keeps f → row_line f fields ≡ Ok g → Keeps g
+row_line_kept : (f g : Filed) (fields : List (List ℕ)) → f.section ≡ sections.Rows → Keeps f → row_line f fields ≡ Ok g → Keeps g
 unfolding row_line
-row_line_kept f g [] keeps e = cc
-row_line_kept f g (_ ∷ []) keeps e = cc
-row_line_kept f g (kind ∷ name ∷ []) keeps e = row_line_by f g kind name f.objective refl keeps e
-row_line_kept f g (_ ∷ _ ∷ _ ∷ _) keeps e = cc
+row_line_kept f g [] at keeps e = cc
+row_line_kept f g (_ ∷ []) at keeps e = cc
+row_line_kept f g (kind ∷ name ∷ []) at keeps e = row_line_by f g kind name f.objective refl at keeps e
+row_line_kept f g (_ ∷ _ ∷ _ ∷ _) at keeps e = cc
 
-left : (f g : Filed) (section : Section) → Keeps f → (if f.has_columns then Ok (record (closed f) { section = section }) else Err cause.NotBuilt) ≡ Ok g → Keeps g
-left f g section keeps e =
+left : (f g : Filed) (section : Section) → Keeps f → nat_lt (rank section) (rank sections.Rows) ≡ false → true ≡ nat_lt (rank sections.Rows) (rank section) → (if f.has_columns then Ok (record (closed f) { section = section }) else Err cause.NotBuilt) ≡ Ok g → Keeps g
+left f g section keeps late behind e =
     let ok = chosen_ok f.has_columns cause.NotBuilt (Ok (record (closed f) { section = section })) g e in
     let h : Filed = closed f in
     let same = closed_same f in
     let there : h.has_columns ≡ true = same.3 ∙ ok.0 in
-    subst Keeps (ok_is _ g ok.1) (section_kept h section h.has_columns (closed_kept f keeps) (closed_kept f keeps).objective (λ behind. (closed_none f, there)))
+    subst Keeps (ok_is _ g ok.1) (section_kept h section h.has_columns (closed_kept f keeps) (λ before. absurd (cc (before, late))) (there ∙ behind) (closed_kept f keeps).objective (λ after. (closed_none f, there)))
 
-enter_kept : (f g : Filed) (next : Section) → Keeps f → enter f next ≡ Ok g → Keeps g
-enter_kept f g sections.Start keeps e = subst Keeps (ok_is _ g e) (section_kept f sections.Start f.has_columns keeps keeps.objective (λ behind. cc))
-enter_kept f g sections.Name keeps e = subst Keeps (ok_is _ g e) (section_kept f sections.Name f.has_columns keeps keeps.objective (λ behind. cc))
-enter_kept f g sections.Rows keeps e = subst Keeps (ok_is _ g e) (section_kept f sections.Rows f.has_columns keeps keeps.objective (λ behind. cc))
-enter_kept f g sections.Columns keeps e =
+-- before ROWS or at it there was no COLUMNS
+still_early : (f : Filed) (next : Section) → Keeps f → nat_lt (rank f.section) (rank next) ≡ true → nat_lt 2 (rank next) ≡ false → f.has_columns ≡ nat_lt 2 (rank next)
+still_early f next keeps before early = let no : nat_lt 2 (rank f.section) ≡ false = grind (arith, nat_tests) in keeps.there ∙ no ∙ sym early
+
+early_before : (section next : Section) → nat_lt (rank section) (rank next) ≡ true → nat_lt (rank next) 2 ≡ true → nat_lt (rank section) 2 ≡ true
+early_before section next before early = grind (arith, nat_tests)
+
+enter_kept : (f g : Filed) (next : Section) → Keeps f → nat_lt (rank f.section) (rank next) ≡ true → enter f next ≡ Ok g → Keeps g
+enter_kept f g sections.Start keeps before e = subst Keeps (ok_is _ g e) (section_kept f sections.Start f.has_columns keeps (early_before f.section sections.Start before) (still_early f sections.Start keeps before refl) keeps.objective (λ behind. cc))
+enter_kept f g sections.Name keeps before e = subst Keeps (ok_is _ g e) (section_kept f sections.Name f.has_columns keeps (early_before f.section sections.Name before) (still_early f sections.Name keeps before refl) keeps.objective (λ behind. cc))
+enter_kept f g sections.Rows keeps before e = subst Keeps (ok_is _ g e) (section_kept f sections.Rows f.has_columns keeps (early_before f.section sections.Rows before) (still_early f sections.Rows keeps before refl) keeps.objective (λ behind. cc))
+enter_kept f g sections.Columns keeps before e =
     let ok = chosen_ok (is_some f.objective) cause.NotBuilt _ g e in
-    subst Keeps (ok_is _ g ok.1) (section_kept f sections.Columns true keeps (λ there. ok.0) (λ behind. cc))
-enter_kept f g sections.Rhs keeps e = left f g sections.Rhs keeps e
-enter_kept f g sections.End keeps e = left f g sections.End keeps e
+    subst Keeps (ok_is _ g ok.1) (section_kept f sections.Columns true keeps (λ early. cc) refl (λ there. ok.0) (λ behind. cc))
+enter_kept f g sections.Rhs keeps before e = left f g sections.Rhs keeps refl refl e
+enter_kept f g sections.End keeps before e = left f g sections.End keeps refl refl e
 
 header_kept : (f g : Filed) (fields : List (List ℕ)) → Keeps f → header_line f fields ≡ Ok g → Keeps g
 header_kept f g [] keeps e = cc
-header_kept f g (word ∷ rest) keeps e = let ok = header_ok f g word e in enter_kept f g ok.0 keeps ok.3
+header_kept f g (word ∷ rest) keeps e = let ok = header_ok f g word e in enter_kept f g ok.0 keeps ok.2 ok.3
 
 data_kept : (f g : Filed) (section : Section) (fields : List (List ℕ)) → f.section ≡ section → Keeps f → data_line section f fields ≡ Ok g → Keeps g
 data_kept f g sections.Start fields at keeps e = cc
 data_kept f g sections.Name fields at keeps e = cc
-data_kept f g sections.Rows fields at keeps e = row_line_kept f g fields keeps e
+data_kept f g sections.Rows fields at keeps e = row_line_kept f g fields at keeps e
 data_kept f g sections.Columns fields at keeps e = (column_line_kept f g fields (keeps, at) e).0
 data_kept f g sections.Rhs fields at keeps e = (rhs_line_kept f g f.section fields (keeps, refl) e).0
 data_kept f g sections.End fields at keeps e = cc

@@ -6,3 +6,12 @@ pub mod KeptLemmas
 pub mod CoreLemmas
 pub mod Filing
 pub mod ValueLemmas
+pub mod FilingRows
+pub mod DistinctLemmas
+pub mod FilingColumns
+pub mod FilingValues
+pub mod FilingLines
+pub mod MeansLemmas
+pub mod FitLemmas
+pub mod FitLines
+pub mod Judged

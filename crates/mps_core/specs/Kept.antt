@@ -39,7 +39,10 @@ pub record Keeps (f : Filed) : Type 0 where
   pub columns : All (IsColumn (length f.rows)) f.columns
   pub terms : IsTerms (length f.rows) f.terms
   pub rhs : All (λ term. is_negative term.value ≡ false) f.rhs
-  -- COLUMNS was there only after an objective
+  -- before ROWS there is no objective
+  pub start : nat_lt (rank f.section) (rank sections.Rows) ≡ true → f.objective ≡ None
+  -- COLUMNS was there from its header on, and only after an objective
+  pub there : f.has_columns ≡ nat_lt (rank sections.Rows) (rank f.section)
   pub objective : f.has_columns ≡ true → is_some f.objective ≡ true
   -- behind COLUMNS all columns are whole
   pub whole : nat_lt (rank sections.Columns) (rank f.section) ≡ true → (f.current ≡ None) × (f.has_columns ≡ true)

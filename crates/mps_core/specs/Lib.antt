@@ -13,3 +13,4 @@ pub mod Lines
 pub mod Stated
 pub mod Bounds
 pub mod Means
+pub mod Thin

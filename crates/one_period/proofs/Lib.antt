@@ -6,3 +6,4 @@ pub mod SolvedLemmas
 pub mod TreeLemmas
 pub mod FormMeaning
 pub mod Meaning
+pub mod TruthLemmas

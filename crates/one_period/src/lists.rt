@@ -15,6 +15,7 @@ pub(crate) fn point_values(alloc: Global, program: &Program, point: Form) -> Res
     requires { length program.now.columns.items < 2 ^ 32 }
     ensures values { IfOk result (λ values. values ≡ columns_below (length program.now.columns.items) point) }
     ensures names { IfOk result (HaveNames (length program.now.columns.items)) }
+    ensures form { IfOk result (λ _. IsForm point) }
 {
     let columns = program.columns.len() as u64;
     column_values(alloc, &point.into_terms(), columns)

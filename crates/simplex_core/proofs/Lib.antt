@@ -3,5 +3,7 @@ pub mod Pivots
 pub mod Paths
 pub mod Signs
 pub mod Follows
-pub mod Duals
+pub mod Counting
+pub mod Drives
 pub mod Solves
+pub mod Checks

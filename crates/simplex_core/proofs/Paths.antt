@@ -4,9 +4,9 @@ use Rattle.rationals.specs.Passes.{Operation}
 use Rattle.lp_defs.specs.Walks.{Walk}
 use Rattle.lp_defs.specs.Ends.{IsChosen}
 use Rattle.lp_defs.proofs.Choice.{leaving_is}
-use Rattle.lp_defs.specs.Path.{Row, Tableau, Candidate, Ending, Best, Open, Stopped, TooLong, entering, leaving, has_above_zero, pivoted, path}
+use Rattle.lp_defs.specs.Path.{Row, Tableau, Candidate, Ending, Done, Open, Stopped, TooLong, entering, leaving, has_above_zero, pivoted, path}
 
-pub best_is : (n l k : ℕ) (t : Tableau) → None ≡ entering n t.objective.entries → path n l k t ≡ Best k t
+pub best_is : (n l k : ℕ) (t : Tableau) → None ≡ entering n t.objective.entries → path n l k t ≡ Done k t
 best_is n zero k t e = rw (← e) refl
 best_is n (suc l) k t e = rw (← e) refl
 

@@ -22,7 +22,7 @@ pub carry : {A B C : Type 0} (v : Walk A) (w : Walk B) (r : Result C FormFault) 
 carry v w (Ok x) f new go h k = absurd k
 carry v w (Err e) f new go h k = subst (FaultOf v) (sym k) (ends v w f go h)
 
-row_is : (rows : List Row) (i : ℕ) (r : Row) → i < length rows → r ≡ get_or rows i r → row_at rows i ≡ r
+pub row_is : (rows : List Row) (i : ℕ) (r : Row) → i < length rows → r ≡ get_or rows i r → row_at rows i ≡ r
 row_is [] i r h e = absurd (omega arith)
 row_is (x ∷ xs) zero r h e = sym e
 row_is (x ∷ xs) (suc i) r h e = row_is xs i r (omega arith) e

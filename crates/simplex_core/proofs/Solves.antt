@@ -1,86 +1,142 @@
 -- From the parts of a solve to its answer.
-use Rattle.std.proofs.Common.{◌≡◌, ℕ, zero, suc, ◌+◌, ◌-◌, List, length, refl, sym, ap, ap₂, ◌∙◌, subst, arith}
-use Rattle.rationals.specs.Rational.{ℚ}
+use Rattle.std.proofs.Common.{◌≡◌, ℕ, zero, suc, ◌+◌, ◌-◌, Bool, true, false, not, List, [], Result, Ok, Err, Some, length, refl, sym, ap, ap₂, ◌∙◌, subst, arith}
+use Rattle.std.specs.Prelude.{IfOk}
+use Rattle.rationals.specs.Rational.{ℚ, zero_ℚ, ◌≤ℚ◌}
+use Rattle.rationals.specs.Passes.{Operation}
 use Rattle.rationals.specs.Sparse.{Entry, coefficient}
+use Rattle.frac128.specs.declared.memory.Memory.{Memory}
+use Rattle.lp_defs.specs.Tests.{is_below_zero, is_below_zero_false}
+use Rattle.lp_defs.specs.Walks.{Walk}
 use Rattle.lp_defs.specs.Lines.{Line}
-use Rattle.lp_defs.specs.Path.{Row, Tableau, Ending, Best, Open, path}
-use Rattle.lp_defs.specs.Ends.{begin}
-use Rattle.lp_defs.specs.Basis.{point, ray}
+use Rattle.lp_defs.specs.Path.{Row, Tableau, Ending, Done, Open, entering, path}
+use Rattle.lp_defs.specs.Ends.{EndsWell, NoneAbove}
+use Rattle.lp_defs.specs.Basis.{IsUnits, point, ray}
+use Rattle.lp_defs.specs.Phases.{unit_rows, with_units, unit_costs, cost_line, priced, Driven, Driven_out, driven, first_duals, unit_duals}
 use Rattle.lp_defs.specs.Program.{Program, IsProgram, EndsInUnits}
-use Rattle.lp_defs.specs.Solution.{Solution, Optimum, Endless, unit_rows, unit_duals, ended, solution}
+use Rattle.lp_defs.specs.Solution.{Solution, Optimum, Nowhere, Endless, counted, first_rows, first_cost, first_end, second_end, second, between, solution}
+use Rattle.lp_defs.specs.Stages.{First, Driving, DrivenOut, Second}
 use Rattle.lp_defs.specs.Certificates.{IsCertified}
 use Rattle.lp_defs.specs.Placed.{BasicsDiffer}
 use Rattle.lp_defs.specs.Trace.{NotIn}
-use Rattle.lp_defs.proofs.Certified.{basics_at, solutions_are_certified, optimal_same, unbounded_same}
+use Rattle.lp_defs.proofs.Placed.{basics_differ}
+use Rattle.lp_defs.proofs.Rays.{entering_falls}
+use Rattle.lp_defs.proofs.Ready.{apart_entering, first_begins, first_path, never_open, driving_begins, EndsDriven, driven_well, second_begins, second_path}
+use Rattle.lp_defs.proofs.Certified.{solutions_are_certified}
+use Rattle.lp_defs.proofs.Feasible.{unit_columns_are_feasible}
+use Rattle.lp_defs.proofs.Same.{optimal_same, unbounded_same}
 use Rattle.simplex_core.specs.declared.tableau.End.{End}
 use Rattle.simplex_core.specs.declared.tableau.End.TheVariants as end
+use Rattle.simplex_core.specs.declared.drive.Driven.{Driven as DriveEnd}
+use Rattle.simplex_core.specs.declared.drive.Driven.TheVariants as drive_end
 use Rattle.simplex_core.specs.declared.outcome.Outcome.{Outcome}
 use Rattle.simplex_core.specs.declared.outcome.Outcome.TheVariants as outcome
 use Rattle.simplex_core.specs.Reached.{Reached}
-use Rattle.simplex_core.specs.Told.{Tells, Shows}
+use Rattle.simplex_core.specs.Drove.{Drove}
+use Rattle.simplex_core.specs.Told.{Tells, Shows, IsNotInfeasible}
 
--- the path that a solve follows
-abbrev pub whole : Program → ℕ → Ending
-whole p pivots = path p.columns pivots 0 (begin p.cost (unit_rows (p.columns - length p.rows) p.rows p.right))
+-- an answer by another name
+pub renamed : (s z : Solution) (r : Result Outcome Memory) → z ≡ s → IfOk r (Tells s) → IfOk r (Tells z)
+renamed s z r e h = subst (λ (x : Solution). IfOk r (Tells x)) (sym e) h
 
--- what was read of the program, and the end of the path
-pub record Followed (p : Program) (pivots columns : ℕ) (forms : List (List Entry)) (end : End) (new : Tableau) : Type 0 where
-  pub columns_are : columns ≡ p.columns
-  pub forms_are : forms ≡ p.rows
-  pub reached : Reached (whole p pivots) end new
+-- ---- the ends of paths
+pub reached_done : (n columns l m last : ℕ) (t new : Tableau) (e : End) → columns ≡ n → e ≡ end.Done last → Reached (path columns l m t) e new → path n l m t ≡ Done last new
+reached_done n columns l m last t new e h k r = ap (λ (c : ℕ). path c l m t) (sym h) ∙ subst (λ (x : End). Reached (path columns l m t) x new) k r
 
-none_made : (n : ℕ) → n - 0 ≡ n
-none_made n = omega arith
+pub reached_open : (n columns l m j : ℕ) (t new : Tableau) (e : End) → columns ≡ n → e ≡ end.Open j → Reached (path columns l m t) e new → path n l m t ≡ Open j new
+reached_open n columns l m j t new e h k r = ap (λ (c : ℕ). path c l m t) (sym h) ∙ subst (λ (x : End). Reached (path columns l m t) x new) k r
 
-pub followed : (p : Program) (pivots columns : ℕ) (forms : List (List Entry)) (t : Tableau) (e : End) (new : Tableau) → columns ≡ p.columns → forms ≡ p.rows → t ≡ begin p.cost (unit_rows (columns - length forms) p.rows p.right)
-    → Reached (path columns (pivots - 0) 0 t) e new → Followed p pivots columns forms e new
-followed p pivots columns forms t e new h k m r = record {
-  columns_are = h;
-  forms_are = k;
-  reached = subst (λ (w : Ending). Reached w e new)
-      (ap (λ (n : ℕ). path columns n 0 t) (none_made pivots) ∙ ap (λ (u : Tableau). path columns pivots 0 u) m
-      ∙ ap₂ (λ (n : ℕ) (f : List (List Entry)). path n pivots 0 (begin p.cost (unit_rows (n - length f) p.rows p.right))) h k) r;
-}
+-- ---- phase two
+pub differ_done : (p : Program) (l m last : ℕ) (t new : Tableau) (rows : List Row) → Second p t → path p.columns l m t ≡ Done last new → rows ≡ new.rows → BasicsDiffer rows
+differ_done p l m last t new rows s e h = subst BasicsDiffer (sym h) (basics_differ new.rows (subst (EndsWell (Second p) p.columns) e (second_path p l m t s)).0.three.1.units)
 
-pub at_best : (p : Program) (pivots columns made : ℕ) (forms : List (List Entry)) (e : End) (new : Tableau) → e ≡ end.Best made → Followed p pivots columns forms e new → whole p pivots ≡ Best made new
-at_best p pivots columns made forms e new h f = subst (λ (x : End). Reached (whole p pivots) x new) h f.reached
+pub differ_open : (p : Program) (l m j : ℕ) (t new : Tableau) (rows : List Row) → Second p t → path p.columns l m t ≡ Open j new → rows ≡ new.rows → BasicsDiffer rows
+differ_open p l m j t new rows s e h = subst BasicsDiffer (sym h) (basics_differ new.rows (subst (EndsWell (Second p) p.columns) e (second_path p l m t s)).0.three.1.units)
 
-pub at_open : (p : Program) (pivots columns j : ℕ) (forms : List (List Entry)) (e : End) (new : Tableau) → e ≡ end.Open j → Followed p pivots columns forms e new → whole p pivots ≡ Open j new
-at_open p pivots columns j forms e new h f = subst (λ (x : End). Reached (whole p pivots) x new) h f.reached
+pub apart_open : (p : Program) (l m j : ℕ) (t new : Tableau) (rows : List Row) → Second p t → path p.columns l m t ≡ Open j new → rows ≡ new.rows → NotIn j rows
+apart_open p l m j t new rows s e h =
+    let w = subst (EndsWell (Second p) p.columns) e (second_path p l m t s) in
+    subst (NotIn j) (sym h) (apart_entering new.objective.entries j new.rows w.0.three.1.objective_rises (entering_falls p.columns 0 j new.objective.entries w.0.three.1.objective_rises w.1) w.0.three.1.priced)
 
-pub differ_at_best : (p : Program) (pivots made : ℕ) (new : Tableau) (rows : List Row) → IsProgram p → EndsInUnits p → whole p pivots ≡ Best made new → rows ≡ new.rows → BasicsDiffer rows
-differ_at_best p pivots made new rows is u e h = subst BasicsDiffer (sym h) ((basics_at p pivots is u).best made new e)
-
-pub differ_at_open : (p : Program) (pivots j : ℕ) (new : Tableau) (rows : List Row) → IsProgram p → EndsInUnits p → whole p pivots ≡ Open j new → rows ≡ new.rows → BasicsDiffer rows
-differ_at_open p pivots j new rows is u e h = subst BasicsDiffer (sym h) ((basics_at p pivots is u).open_differ j new e)
-
-pub apart_at_open : (p : Program) (pivots j : ℕ) (new : Tableau) (rows : List Row) → IsProgram p → EndsInUnits p → whole p pivots ≡ Open j new → rows ≡ new.rows → NotIn j rows
-apart_at_open p pivots j new rows is u e h = subst (NotIn j) (sym h) ((basics_at p pivots is u).open_apart j new e)
-
-pub tells_best : (p : Program) (pivots columns made : ℕ) (forms : List (List Entry)) (e : End) (new : Tableau) (rows : List Row) (objective : Line) (x : List Entry) (y : List ℚ) → Followed p pivots columns forms e new → e ≡ end.Best made → rows ≡ new.rows → objective ≡ new.objective
-    → ((c : ℕ) → coefficient x c ≡ point rows c) → y ≡ unit_duals (columns - length forms) (length forms) objective
-    → (v : ℕ → ℚ) × (solution p pivots ≡ Optimum v y) × ((c : ℕ) → coefficient x c ≡ v c)
-tells_best p pivots columns made forms e new rows objective x y f h r o px dy =
-    let q : whole p pivots ≡ Best made new = at_best p pivots columns made forms e new h f in
-    let d : y ≡ unit_duals (p.columns - length p.rows) (length p.rows) new.objective =
-    dy ∙ ap (λ (l : Line). unit_duals (columns - length forms) (length forms) l) o ∙ ap₂ (λ (n : ℕ) (g : List (List Entry)). unit_duals (n - length g) (length g) new.objective) f.columns_are f.forms_are in (
+pub tells_done : (p : Program) (l m last columns : ℕ) (t new : Tableau) (forms : List (List Entry)) (rows : List Row) (objective : Line) (x : List Entry) (y : List ℚ) → path p.columns l m t ≡ Done last new → columns ≡ p.columns → forms ≡ p.rows → rows ≡ new.rows → objective ≡ new.objective
+    → ((c : ℕ) → coefficient x c ≡ point rows c) → y ≡ unit_duals columns (length forms) objective
+    → (v : ℕ → ℚ) × (second_end p (path p.columns l m t) ≡ Optimum v y) × ((c : ℕ) → coefficient x c ≡ v c)
+tells_done p l m last columns t new forms rows objective x y e h k r o px dy =
+    let d : y ≡ unit_duals p.columns (length p.rows) new.objective =
+    dy ∙ ap (λ (z : Line). unit_duals columns (length forms) z) o ∙ ap₂ (λ (n : ℕ) (f : List (List Entry)). unit_duals n (length f) new.objective) h k in (
       point new.rows,
-      ap (ended (p.columns - length p.rows) (length p.rows)) q ∙ ap (λ (l : List ℚ). Optimum (point new.rows) l) (sym d),
-      λ c. px c ∙ ap (λ (l : List Row). point l c) r,
+      ap (second_end p) e ∙ ap (λ (z : List ℚ). Optimum (point new.rows) z) (sym d),
+      λ c. px c ∙ ap (λ (z : List Row). point z c) r,
     )
 
-pub tells_open : (p : Program) (pivots columns j : ℕ) (forms : List (List Entry)) (e : End) (new : Tableau) (rows again : List Row) (x d : List Entry) → Followed p pivots columns forms e new → e ≡ end.Open j → rows ≡ new.rows → again ≡ new.rows
-    → ((c : ℕ) → coefficient x c ≡ point rows c) → ((c : ℕ) → coefficient d c ≡ ray j again c)
-    → (v : ℕ → ℚ) × (w : ℕ → ℚ) × (solution p pivots ≡ Endless v w) × ((c : ℕ) → coefficient x c ≡ v c) × ((c : ℕ) → coefficient d c ≡ w c)
-tells_open p pivots columns j forms e new rows again x d f h r s px dx = (
+pub tells_open : (p : Program) (l m j : ℕ) (t new : Tableau) (rows again : List Row) (x d : List Entry) → path p.columns l m t ≡ Open j new → rows ≡ new.rows → again ≡ new.rows → ((c : ℕ) → coefficient x c ≡ point rows c) → ((c : ℕ) → coefficient d c ≡ ray j again c)
+    → (v : ℕ → ℚ) × (w : ℕ → ℚ) × (second_end p (path p.columns l m t) ≡ Endless v w) × ((c : ℕ) → coefficient x c ≡ v c) × ((c : ℕ) → coefficient d c ≡ w c)
+tells_open p l m j t new rows again x d e r s px dx = (
   point new.rows,
   ray j new.rows,
-  ap (ended (p.columns - length p.rows) (length p.rows)) (at_open p pivots columns j forms e new h f),
-  λ c. px c ∙ ap (λ (l : List Row). point l c) r,
-  λ c. dx c ∙ ap (λ (l : List Row). ray j l c) s,
+  ap (second_end p) e,
+  λ c. px c ∙ ap (λ (z : List Row). point z c) r,
+  λ c. dx c ∙ ap (λ (z : List Row). ray j z c) s,
 )
 
--- an outcome that tells a certified answer shows that it is right
+-- the objective row of a phase, as the code made it
+pub priced_is : (cost made : List Entry) (rows read : List Row) (o : Line) → made ≡ cost → read ≡ rows → priced made read (cost_line made) ≡ Ok o → priced cost rows (cost_line cost) ≡ Ok o
+priced_is cost made rows read o h k e = sym (ap₂ (λ (c : List Entry) (r : List Row). priced c r (cost_line c)) h k) ∙ e
+
+pub second_ready : (p : Program) (t u : Tableau) (o : Line) → IsProgram p → DrivenOut p t → priced p.cost t.rows (cost_line p.cost) ≡ Ok o → u ≡ record { rows = t.rows; objective = o } → Second p u
+second_ready p t u o is d e h = subst (Second p) (sym h) (second_begins p t o is d e)
+
+pub second_is : (p : Program) (pivots made : ℕ) (t u : Tableau) (o : Line) → priced p.cost t.rows (cost_line p.cost) ≡ Ok o → u ≡ record { rows = t.rows; objective = o } → second p pivots made t ≡ second_end p (path p.columns (pivots - made) made u)
+second_is p pivots made t u o e h =
+    ap (λ (w : Walk Line). counted made w (λ x. second_end p (path p.columns (pivots - made) made (record { rows = t.rows; objective = x })))) e
+    ∙ ap (λ (v : Tableau). second_end p (path p.columns (pivots - made) made v)) (sym h)
+
+-- ---- the pivots on artificial columns
+pub driven_is : (p : Program) (columns left made last : ℕ) (t new : Tableau) (e : DriveEnd) → columns ≡ p.columns → e ≡ drive_end.Out last → Drove (driven columns (length t.rows) 0 left made t) e new → driven p.columns (length t.rows) 0 left made t ≡ Driven_out last new
+driven_is p columns left made last t new e h k d = ap (λ (c : ℕ). driven c (length t.rows) 0 left made t) (sym h) ∙ subst (λ (x : DriveEnd). Drove (driven columns (length t.rows) 0 left made t) x new) k d
+
+pub driven_ready : (p : Program) (left made last : ℕ) (t new : Tableau) → Driving p t → driven p.columns (length t.rows) 0 left made t ≡ Driven_out last new → DrivenOut p new
+driven_ready p left made last t new d e = subst (EndsDriven p) e (driven_well p left made t d)
+
+-- ---- behind phase one
+pub driving_ready : (p : Program) (t : Tableau) (b : Bool) → First p t → b ≡ is_below_zero t.objective.right → b ≡ false → Driving p t
+driving_ready p t b h e k = driving_begins p t h (is_below_zero_false t.objective.right (sym e ∙ k))
+
+pub feasible_is : (p : Program) (pivots made : ℕ) (t : Tableau) (b : Bool) → b ≡ is_below_zero t.objective.right → b ≡ false → first_end p pivots (Done made t) ≡ between p pivots (driven p.columns (length t.rows) 0 (pivots - made) made t)
+feasible_is p pivots made t b e k =
+    ap (λ (x : Bool). elim x as (λ y. Solution) [ true ↦ counted made (first_duals p.columns (length p.rows) t.objective []) Nowhere | false ↦ between p pivots (driven p.columns (length t.rows) 0 (pivots - made) made t) ]) (sym e ∙ k)
+
+-- ---- phase one
+pub first_done : (p : Program) (l m last : ℕ) (t new : Tableau) → First p t → path p.columns l m t ≡ Done last new → First p new
+first_done p l m last t new h e = (subst (EndsWell (First p) p.columns) e (first_path p l m t h)).0
+
+pub first_open : (p : Program) (l m j : ℕ) (t new : Tableau) → First p t → path p.columns l m t ≡ Open j new → ⊥
+first_open p l m j t new h e =
+    let w = subst (EndsWell (First p) p.columns) e (first_path p l m t h) in
+    never_open p j new w.0 w.1 w.2
+
+pub none_made : (n : ℕ) → n - 0 ≡ n
+none_made n = omega arith
+
+pub from_start : (n columns pivots : ℕ) (t new : Tableau) (e : End) → Reached (path columns (pivots - 0) 0 t) e new → Reached (path columns pivots 0 t) e new
+from_start n columns pivots t new e r = subst (λ (l : ℕ). Reached (path columns l 0 t) e new) (none_made pivots) r
+
+-- ---- the start
+pub rows_are : (p : Program) (columns : ℕ) (forms : List (List Entry)) (right : List ℚ) (rows : List Row) → columns ≡ p.columns → forms ≡ p.rows → right ≡ p.right → rows ≡ unit_rows columns (with_units columns forms) right → rows ≡ first_rows p
+rows_are p columns forms right rows h k m e =
+    e ∙ ap₂ (λ (n : ℕ) (f : List (List Entry)). unit_rows n (with_units n f) right) h k ∙ ap (λ (r : List ℚ). unit_rows p.columns (with_units p.columns p.rows) r) m
+
+pub cost_is : (p : Program) (columns : ℕ) (forms : List (List Entry)) (cost : List Entry) → columns ≡ p.columns → forms ≡ p.rows → cost ≡ unit_costs columns (length forms) → cost ≡ first_cost p
+cost_is p columns forms cost h k e = e ∙ ap₂ (λ (n : ℕ) (f : List (List Entry)). unit_costs n (length f)) h k
+
+pub first_ready : (p : Program) (t : Tableau) (rows : List Row) (o : Line) → IsProgram p → rows ≡ first_rows p → priced (first_cost p) (first_rows p) (cost_line (first_cost p)) ≡ Ok o → t ≡ record { rows = rows; objective = o } → First p t
+first_ready p t rows o is h e k = subst (First p) (sym (k ∙ ap (λ (r : List Row). record { rows = r; objective = o }) h)) (first_begins p o is e)
+
+pub solution_is : (p : Program) (pivots : ℕ) (t : Tableau) (rows : List Row) (o : Line) → rows ≡ first_rows p → priced (first_cost p) (first_rows p) (cost_line (first_cost p)) ≡ Ok o → t ≡ record { rows = rows; objective = o } → solution p pivots ≡ first_end p pivots (path p.columns pivots 0 t)
+solution_is p pivots t rows o h e k =
+    ap (λ (w : Walk Line). counted 0 w (λ x. first_end p pivots (path p.columns pivots 0 (record { rows = first_rows p; objective = x })))) e
+    ∙ ap (λ (v : Tableau). first_end p pivots (path p.columns pivots 0 v)) (sym (k ∙ ap (λ (r : List Row). record { rows = r; objective = o }) h))
+
+-- ---- an outcome that tells a certified answer shows that it is right
 shows : (p : Program) (s : Solution) (o : Outcome) → IsCertified p s → Tells s o → Shows p o
 shows p s (outcome.Optimal x y) h t = optimal_same p t.0 (coefficient x) y.items t.2 (subst (IsCertified p) t.1 h)
 shows p s (outcome.Infeasible y) h t = subst (IsCertified p) t h
@@ -88,5 +144,15 @@ shows p s (outcome.Unbounded x d) h t = unbounded_same p t.0 (coefficient x) t.1
 shows p s outcome.PivotsEnded h t = tt
 shows p s (outcome.Passed k q) h t = tt
 
-pub shown : (p : Program) (pivots : ℕ) (o : Outcome) → IsProgram p → EndsInUnits p → Tells (solution p pivots) o → Shows p o
-shown p pivots o is u t = shows p (solution p pivots) o (solutions_are_certified p pivots is u) t
+pub shown : (p : Program) (pivots : ℕ) (o : Outcome) → IsProgram p → Tells (solution p pivots) o → Shows p o
+shown p pivots o is t = shows p (solution p pivots) o (solutions_are_certified p pivots is) t
+
+not_infeasible : (p : Program) (o : Outcome) → IsProgram p → EndsInUnits p → Shows p o → IsNotInfeasible o
+not_infeasible p (outcome.Optimal x y) is u h = tt
+not_infeasible p (outcome.Infeasible y) is u h = unit_columns_are_feasible p y.items is u h
+not_infeasible p (outcome.Unbounded x d) is u h = tt
+not_infeasible p outcome.PivotsEnded is u h = tt
+not_infeasible p (outcome.Passed k q) is u h = tt
+
+pub feasible : (p : Program) (pivots : ℕ) (o : Outcome) → IsProgram p → EndsInUnits p → Tells (solution p pivots) o → IsNotInfeasible o
+feasible p pivots o is u t = not_infeasible p o is u (shown p pivots o is t)

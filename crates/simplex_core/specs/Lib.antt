@@ -1,3 +1,5 @@
 pub mod Gives
 pub mod Reached
 pub mod Told
+pub mod Drove
+pub mod Checks

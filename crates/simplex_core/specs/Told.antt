@@ -1,7 +1,10 @@
 -- What an outcome tells of the answer, and what it shows of itself.
-use Rattle.std.specs.Prelude.{◌≡◌, ℕ}
+use Rattle.std.specs.Prelude.{◌≡◌, ℕ, Result, Ok, Err}
 use Rattle.rationals.specs.Rational.{ℚ}
 use Rattle.rationals.specs.Sparse.{coefficient}
+use Rattle.frac128.specs.declared.form.FormFault.{FormFault}
+use Rattle.frac128.specs.declared.form.FormFault.TheVariants as fault
+use Rattle.frac128.specs.declared.memory.Memory.{Memory}
 use Rattle.lp_defs.specs.Program.{Program}
 use Rattle.lp_defs.specs.Solution.{Solution, Optimum, Nowhere, Endless, Cut_off, Passes}
 use Rattle.lp_defs.specs.Certificates.{IsOptimal, IsInfeasible, IsUnbounded}
@@ -30,3 +33,12 @@ IsNotInfeasible (outcome.Infeasible duals) = ⊥
 IsNotInfeasible (outcome.Unbounded point ray) = Unit {0}
 IsNotInfeasible outcome.PivotsEnded = Unit {0}
 IsNotInfeasible (outcome.Passed k o) = Unit {0}
+
+-- the outcome at a fault
+abbrev pub TellsFault : FormFault → ℕ → Result Outcome Memory → Type 0
+TellsFault f pivot (Ok (outcome.Optimal point duals)) = ⊥
+TellsFault f pivot (Ok (outcome.Infeasible duals)) = ⊥
+TellsFault f pivot (Ok (outcome.Unbounded point ray)) = ⊥
+TellsFault f pivot (Ok outcome.PivotsEnded) = ⊥
+TellsFault f pivot (Ok (outcome.Passed k p)) = (f ≡ fault.Passed p) × (k ≡ pivot)
+TellsFault f pivot (Err m) = f ≡ fault.Memory

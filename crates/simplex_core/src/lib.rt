@@ -2,6 +2,8 @@
 #![tactic(auto)]
 
 mod choice;
+mod drive;
+mod duals;
 mod line;
 mod outcome;
 mod point;

@@ -1,7 +1,7 @@
 //! Lines of a tableau.
 ghost use Rattle.std.specs.Prelude.{◌≡◌, ◌≢◌, OnOk, []};
 ghost use Rattle.std.specs.Result.{IsOkUnless};
-ghost use Rattle.lp_defs.specs.Lines.{value_at, keep, less_walk, less_entries, divided_entries, divided, cleared};
+ghost use Rattle.lp_defs.specs.Lines.{value_at, keep, less_walk, less_entries, divided_entries, divided, cleared, cleared_by};
 ghost use Rattle.rationals.specs.Rational.{zero_ℚ};
 ghost use Rattle.simplex_core.specs.Gives.{Gives};
 
@@ -26,7 +26,7 @@ impl Model for Line {
 }
 
 /// The entry of a column.
-fn find(entries: &[Term], column: u64) -> Frac
+pub fn find(entries: &[Term], column: u64) -> Frac
     ensures { result ≡ value_at entries.now column }
 {
     for term in entries {
@@ -54,7 +54,7 @@ fn push(done: &mut Vec<Term>, column: u64, value: Frac) -> Result<(), FormFault>
 }
 
 /// Appends the entries of `row` less `factor` times those of `pivot`.
-fn subtract(
+fn subtract_terms(
     factor: Frac,
     row: &[Term],
     pivot: &[Term],
@@ -140,6 +140,30 @@ impl Line {
         Ok(())
     }
 
+    /// Takes `factor` times another row away.
+    pub fn subtract(
+        &mut self,
+        factor: Frac,
+        other: &Line,
+        spare: &mut Vec<Term>,
+    ) -> Result<(), FormFault>
+        ensures { Gives (cleared_by factor other.now self.old) result self.new }
+    {
+        if is_zero(factor) {
+            return Ok(());
+        }
+        spare.clear();
+        subtract_terms(
+            factor,
+            self.entries.as_slice(),
+            other.entries.as_slice(),
+            spare,
+        )?;
+        self.right = less(factor, self.right, other.right)?;
+        mem::swap(&mut self.entries, spare);
+        Ok(())
+    }
+
     /// Clears a column, in which `pivot` has 1.
     pub fn clear(
         &mut self,
@@ -150,18 +174,6 @@ impl Line {
         ensures { Gives (cleared column pivot.now self.old) result self.new }
     {
         let factor = self.value_at(column);
-        if is_zero(factor) {
-            return Ok(());
-        }
-        spare.clear();
-        subtract(
-            factor,
-            self.entries.as_slice(),
-            pivot.entries.as_slice(),
-            spare,
-        )?;
-        self.right = less(factor, self.right, pivot.right)?;
-        mem::swap(&mut self.entries, spare);
-        Ok(())
+        self.subtract(factor, pivot, spare)
     }
 }

@@ -1,45 +1,53 @@
 //! Solves a program.
-ghost use Rattle.std.specs.Prelude.{◌≡◌, ◌+◌, ◌<◌, ◌^◌, length, IfOk};
+ghost use Rattle.std.specs.Prelude.{◌≡◌, ◌≤◌, ◌-◌, length, IfOk};
+ghost use Rattle.lp_defs.specs.Path.{Done, path};
+ghost use Rattle.lp_defs.specs.Phases.{driven};
 ghost use Rattle.lp_defs.specs.Program.{EndsInUnits};
-ghost use Rattle.lp_defs.specs.Solution.{solution, unit_rows};
-ghost use Rattle.lp_defs.specs.Ends.{begin};
-ghost use Rattle.simplex_core.specs.Told.{Tells, Shows, IsNotInfeasible};
+ghost use Rattle.lp_defs.specs.Solution.{first_end, between, second, second_end, solution};
+ghost use Rattle.lp_defs.specs.Stages.{First, Driving, DrivenOut, Second};
+ghost use Rattle.simplex_core.specs.Told.{Tells, TellsFault, Shows, IsNotInfeasible};
 
-use crate::line::Line;
+use crate::drive::{Driven, drive};
+use crate::duals::{first_duals, unit_duals};
 use crate::outcome::Outcome;
 use crate::point::{point, ray};
+use crate::sign::is_below_zero;
 use crate::standard::Standard;
-use crate::start::{unit_duals, unit_rows};
+use crate::start::{artificial_cost, artificial_rows, price};
 use crate::tableau::{End, Tableau};
-use frac128::{Frac, Memory};
+use frac128::{FormFault, Memory, Term};
 use std::alloc::Global;
 
-/// The tableau with which the path begins.
-fn first_tableau(alloc: Global, program: &Standard, first: u64) -> Result<Tableau, Memory>
-    requires { first + length program.now.rows < 2 ^ 64 }
-    ensures { IfOk result (λ tableau. tableau ≡ begin program.now.cost (unit_rows first program.now.rows program.now.right)) }
+/// The outcome at a fault in a pivot.
+fn stopped(fault: FormFault, pivot: u64) -> Result<Outcome, Memory>
+    ensures { TellsFault fault pivot result }
 {
-    let _columns = program.columns();
-    let rows = unit_rows(alloc, program.rows(), program.right(), first)?;
-    let entries = program.cost().terms().to_vec(alloc)?;
-    Ok(Tableau::new(rows, Line::new(entries, Frac::zero())))
+    match fault {
+        FormFault::Passed(passed) => Ok(Outcome::Passed(pivot, passed)),
+        FormFault::Memory => Err(Memory),
+    }
 }
 
-/// Follows the path of a program from its unit columns.
-fn follow(alloc: Global, program: &Standard, pivots: u64) -> Result<Outcome, Memory>
-    requires { EndsInUnits program.now }
-    ensures { IfOk result (Tells (solution program.now pivots)) }
+/// Follows the path of phase two to its end.
+fn finish(
+    alloc: Global,
+    program: &Standard,
+    mut tableau: Tableau,
+    pivots: u64,
+    made: u64,
+    spare: &mut Vec<Term>,
+) -> Result<Outcome, Memory>
+    requires within { made ≤ pivots }
+    requires ready { Second program.now tableau }
+    ensures { IfOk result (Tells (second_end program.now (path program.now.columns (pivots - made) made tableau))) }
 {
     let columns = program.columns();
-    let count = program.rows().len() as u64;
-    let first = columns - count;
-    let mut tableau = first_tableau(alloc, program, first)?;
-    let mut spare = Vec::new(alloc);
-    let end = tableau.follow(columns, pivots, 0, &mut spare)?;
+    let end = tableau.follow(columns, pivots, made, spare)?;
     match end {
-        End::Best(_made) => {
+        End::Done(_last) => {
             let point = point(alloc, tableau.rows())?;
-            let duals = unit_duals(alloc, tableau.objective(), first, count)?;
+            let count = program.rows().len() as u64;
+            let duals = unit_duals(alloc, tableau.objective(), columns, count)?;
             Ok(Outcome::Optimal { point, duals })
         }
         End::Open(column) => {
@@ -52,24 +60,137 @@ fn follow(alloc: Global, program: &Standard, pivots: u64) -> Result<Outcome, Mem
     }
 }
 
-/// Minimises a program by the simplex method with Bland's rule (Bland 1977), in at most `pivots` pivots.
+/// Phase two: its objective row, which counts to the pivot before it, and its path.
+fn second_phase(
+    alloc: Global,
+    program: &Standard,
+    tableau: Tableau,
+    pivots: u64,
+    made: u64,
+    spare: &mut Vec<Term>,
+) -> Result<Outcome, Memory>
+    requires within { made ≤ pivots }
+    requires ready { DrivenOut program.now tableau }
+    ensures { IfOk result (Tells (second program.now pivots made tableau)) }
+{
+    let _columns = program.columns();
+    match price(alloc, program.cost().terms(), tableau.rows(), spare) {
+        Ok(objective) => {
+            let tableau = tableau.with_objective(objective);
+            finish(alloc, program, tableau, pivots, made, spare)
+        }
+        Err(fault) => stopped(fault, made),
+    }
+}
+
+/// The pivots on artificial columns that are left, and phase two.
+fn drive_out(
+    alloc: Global,
+    program: &Standard,
+    mut tableau: Tableau,
+    pivots: u64,
+    made: u64,
+    spare: &mut Vec<Term>,
+) -> Result<Outcome, Memory>
+    requires within { made ≤ pivots }
+    requires ready { Driving program.now tableau }
+    ensures { IfOk result (Tells (between program.now pivots (driven program.now.columns (length tableau.rows) 0 (pivots - made) made tableau))) }
+{
+    match drive(&mut tableau, program.columns(), pivots, made, spare)? {
+        Driven::Out(last) => second_phase(alloc, program, tableau, pivots, last, spare),
+        Driven::PivotsEnded => Ok(Outcome::PivotsEnded),
+        Driven::Passed(pivot, passed) => Ok(Outcome::Passed(pivot, passed)),
+    }
+}
+
+/// Behind phase one: its duals where the sum of the artificial columns is above 0.
+fn feasible_or_not(
+    alloc: Global,
+    program: &Standard,
+    tableau: Tableau,
+    pivots: u64,
+    made: u64,
+    spare: &mut Vec<Term>,
+) -> Result<Outcome, Memory>
+    requires within { made ≤ pivots }
+    requires ready { First program.now tableau }
+    ensures { IfOk result (Tells (first_end program.now pivots (Done made tableau))) }
+{
+    let columns = program.columns();
+    if !is_below_zero(tableau.objective().right()) {
+        return drive_out(alloc, program, tableau, pivots, made, spare);
+    }
+    let count = program.rows().len() as u64;
+    match first_duals(alloc, tableau.objective(), columns, count) {
+        Ok(duals) => Ok(Outcome::Infeasible { duals }),
+        Err(fault) => stopped(fault, made),
+    }
+}
+
+/// Follows the path of phase one to its end, and what comes behind it.
+fn first_phase(
+    alloc: Global,
+    program: &Standard,
+    mut tableau: Tableau,
+    pivots: u64,
+    spare: &mut Vec<Term>,
+) -> Result<Outcome, Memory>
+    requires { First program.now tableau }
+    ensures { IfOk result (Tells (first_end program.now pivots (path program.now.columns pivots 0 tableau))) }
+{
+    match tableau.follow(program.columns(), pivots, 0, spare)? {
+        End::Done(made) => feasible_or_not(alloc, program, tableau, pivots, made, spare),
+        End::Open(_column) => unreachable!("the sum of the artificial columns is at least 0"),
+        End::PivotsEnded => Ok(Outcome::PivotsEnded),
+        End::Passed(pivot, passed) => Ok(Outcome::Passed(pivot, passed)),
+    }
+}
+
+/// The whole path, from the artificial columns on.
+fn answer(alloc: Global, program: &Standard, pivots: u64) -> Result<Outcome, Memory>
+    ensures { IfOk result (Tells (solution program.now pivots)) }
+{
+    let columns = program.columns();
+    let count = program.rows().len() as u64;
+    let rows = artificial_rows(alloc, program.rows(), program.right(), columns)?;
+    let cost = artificial_cost(alloc, columns, count)?;
+    let mut spare = Vec::new(alloc);
+    match price(alloc, &cost, &rows, &mut spare) {
+        Ok(objective) => {
+            let tableau = Tableau::new(rows, objective);
+            first_phase(alloc, program, tableau, pivots, &mut spare)
+        }
+        Err(fault) => stopped(fault, 0),
+    }
+}
+
+/// Minimises a program by the simplex method in two phases with Bland's rule (Bland 1977), in at most
+/// `pivots` pivots.
 ///
-/// The last columns, one for each row in order, are the unit columns with cost 0: they are the first
-/// basis. The entering column is the least with a reduced cost below 0. The leaving row has the least
-/// quotient of right side and entry among entries above 0; among equals, the least basic column. A dual
-/// is the negative reduced cost of its row's unit column.
+/// Each row gets an artificial column, numbered after all others; they are the first basis. Phase one
+/// minimises their sum. The entering column is the least that isn't artificial with a reduced cost below 0.
+/// The leaving row has the least quotient of right side and entry among entries above 0; among equals, the
+/// least basic column. Where the sum ends above 0 the outcome is `Infeasible`; a dual is 1 less the reduced
+/// cost of its row's artificial column. Else each row in order whose basic column is artificial is pivoted
+/// on its least nonzero column that isn't, where it has one. Phase two minimises the cost by the same
+/// rules; a dual is the negative reduced cost of its row's artificial column.
 ///
 /// A pivot takes the quotients of the ratio test by row, then the pivot row's entries by column and its
 /// right side, each divided by the pivot, then for each other row in order, the objective row last, each
-/// entry by column and the right side less factor times pivot row. The first of these operations that
-/// passes 128 bits ends the path. `PivotsEnded` comes where the path goes on behind `pivots` pivots.
+/// entry by column and the right side less factor times pivot row. Phase one's objective row is the
+/// artificial costs less each row in order, phase two's the costs less, for each row in order, its basic
+/// column's cost times the row. The first of all these operations that passes 128 bits ends the path:
+/// `Passed` has it and the number of its pivot. The rows made before the first pivot count to 0; phase two's
+/// objective row counts to the pivot before it, and so do the duals of phase one.
+///
+/// All pivots are counted together. `PivotsEnded` comes exactly where the path has more of them than
+/// `pivots`, and no operation up to the last of these passes.
 pub fn solve(alloc: Global, program: &Standard, pivots: u64) -> Result<Outcome, Memory>
-    requires { EndsInUnits program.now }
     ensures exact { IfOk result (Tells (solution program.now pivots)) }
     ensures certified { IfOk result (Shows program.now) }
     ensures feasible { EndsInUnits program.now → IfOk result IsNotInfeasible }
 {
     let _columns = program.columns();
-    let outcome = follow(alloc, program, pivots)?;
+    let outcome = answer(alloc, program, pivots)?;
     Ok(outcome)
 }

@@ -1,14 +1,16 @@
-//! The tableau with which a path begins, and the duals at its end.
+//! The rows and the objective row with which a phase begins.
 ghost use Rattle.std.specs.Prelude.{◌≡◌, ◌+◌, ◌<◌, ◌^◌, length, IfOk};
-ghost use Rattle.lp_defs.specs.Solution.{unit_rows, unit_duals};
+ghost use Rattle.frac128.specs.Faults.{IfNotMemory};
+ghost use Rattle.lp_defs.specs.Phases.{unit_rows, with_units, unit_costs, cost_line, priced};
 
-use crate::line::Line;
+use crate::line::{Line, find};
 use crate::row::Row;
-use frac128::{Form, Frac, Memory};
+use frac128::{Form, FormFault, Frac, Memory, Term};
 use std::alloc::Global;
 
-/// A row for each form, with its right side; the basic columns are `first` and those behind it.
-pub fn unit_rows(
+/// A row for each form with its artificial column and its right side; the artificial columns are `first`
+/// and those behind it.
+pub fn artificial_rows(
     alloc: Global,
     forms: &[Form],
     right: &[Frac],
@@ -16,30 +18,48 @@ pub fn unit_rows(
 ) -> Result<Vec<Row>, Memory>
     requires one_each { length right.now ≡ length forms.now }
     requires room { first + length forms.now < 2 ^ 64 }
-    ensures { IfOk result (λ rows. rows.items ≡ unit_rows first forms.now right.now) }
+    ensures { IfOk result (λ rows. rows.items ≡ unit_rows first (with_units first forms.now) right.now) }
 {
     let mut rows = Vec::new(alloc);
     for index in 0..forms.len() {
-        let entries = forms[index].terms().to_vec(alloc)?;
-        let line = Line::new(entries, right[index]);
-        rows.push(Row::new(first + index as u64, line))?;
+        let column = first + index as u64;
+        let mut entries = forms[index].terms().to_vec(alloc)?;
+        entries.push(Term {
+            column,
+            value: Frac::one(),
+        })?;
+        rows.push(Row::new(column, Line::new(entries, right[index])))?;
     }
     Ok(rows)
 }
 
-/// The negative reduced costs of `count` columns from `first` on.
-pub fn unit_duals(
-    alloc: Global,
-    objective: &Line,
-    first: u64,
-    count: u64,
-) -> Result<Vec<Frac>, Memory>
+/// A cost of 1 in each of `count` columns from `first` on.
+pub fn artificial_cost(alloc: Global, first: u64, count: u64) -> Result<Vec<Term>, Memory>
     requires { first + count < 2 ^ 64 }
-    ensures { IfOk result (λ duals. duals.items ≡ unit_duals first count objective.now) }
+    ensures { IfOk result (λ cost. cost.items ≡ unit_costs first count) }
 {
-    let mut duals = Vec::new(alloc);
+    let mut cost = Vec::new(alloc);
     for column in first..first + count {
-        duals.push(objective.value_at(column).neg())?;
+        cost.push(Term {
+            column,
+            value: Frac::one(),
+        })?;
     }
-    Ok(duals)
+    Ok(cost)
+}
+
+/// The cost less, for each row in order, its basic column's cost times the row.
+pub fn price(
+    alloc: Global,
+    cost: &[Term],
+    rows: &[Row],
+    spare: &mut Vec<Term>,
+) -> Result<Line, FormFault>
+    ensures { IfNotMemory result (priced cost.now rows.now (cost_line cost.now)) }
+{
+    let mut objective = Line::new(cost.to_vec(alloc)?, Frac::zero());
+    for row in rows {
+        objective.subtract(find(cost, row.basic()), row.line(), spare)?;
+    }
+    Ok(objective)
 }

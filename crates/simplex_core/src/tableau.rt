@@ -4,7 +4,7 @@ ghost use Rattle.rationals.specs.Rational.{zero_ℚ};
 ghost use Rattle.lp_defs.specs.Lines.{value_at};
 ghost use Rattle.lp_defs.specs.Path.{Tableau, Row, entering, pivoted, path, row_at};
 ghost use Rattle.simplex_core.specs.Gives.{Gives};
-ghost use Rattle.simplex_core.specs.Reached.{Steps, Stops, Reached};
+ghost use Rattle.simplex_core.specs.Reached.{Steps, Stops, Reached, EndsWithin};
 
 use crate::choice::{has_above_zero, leave};
 use crate::line::Line;
@@ -17,7 +17,7 @@ use std::marker::Model;
 #[derive(Drop)]
 pub enum Step {
     /// No column enters.
-    Best,
+    Done,
     /// This column enters, and no row bounds it.
     Open(u64),
     Pivoted,
@@ -27,7 +27,7 @@ pub enum Step {
 #[derive(Drop)]
 pub enum End {
     /// After so many pivots no column enters.
-    Best(u64),
+    Done(u64),
     /// This column enters, and no row bounds it.
     Open(u64),
     /// One more pivot than allowed would follow.
@@ -92,8 +92,23 @@ impl Tableau {
         &self.objective
     }
 
+    /// The rows with another objective row.
+    pub fn with_objective(self, objective: Line) -> Tableau
+        ensures { result ≡ record { rows = self.rows; objective = objective } }
+    {
+        Tableau {
+            rows: self.rows,
+            objective,
+        }
+    }
+
     /// Makes `column` basic in the row at `index`.
-    fn pivot(&mut self, column: u64, index: usize, spare: &mut Vec<Term>) -> Result<(), FormFault>
+    pub fn pivot(
+        &mut self,
+        column: u64,
+        index: usize,
+        spare: &mut Vec<Term>,
+    ) -> Result<(), FormFault>
         requires within { index < length self.old.rows }
         requires nonzero { value_at (row_at self.old.rows index).line.entries column ≢ zero_ℚ }
         ensures { Gives (pivoted column index self.old) result self.new }
@@ -111,7 +126,7 @@ impl Tableau {
         ensures { Steps columns self.old result self.new }
     {
         let Some(column) = enter(self.objective.entries(), columns) else {
-            return Ok(Step::Best);
+            return Ok(Step::Done);
         };
         let Some(best) = leave(self.rows.as_slice(), column)? else {
             return Ok(Step::Open(column));
@@ -125,7 +140,7 @@ impl Tableau {
         ensures { Reached (path columns 0 made self.now) result self.now }
     {
         match enter(self.objective.entries(), columns) {
-            None => End::Best(made),
+            None => End::Done(made),
             Some(column) => {
                 if has_above_zero(self.rows.as_slice(), column) {
                     End::PivotsEnded
@@ -145,11 +160,12 @@ impl Tableau {
         spare: &mut Vec<Term>,
     ) -> Result<End, Memory>
         requires { made ≤ pivots }
-        ensures { IfOk result (λ end. Reached (path columns (pivots - made) made self.old) end self.new) }
+        ensures reached { IfOk result (λ end. Reached (path columns (pivots - made) made self.old) end self.new) }
+        ensures within { IfOk result (EndsWithin pivots) }
     {
         for before in made..pivots {
             match self.step(columns, spare) {
-                Ok(Step::Best) => return Ok(End::Best(before)),
+                Ok(Step::Done) => return Ok(End::Done(before)),
                 Ok(Step::Open(column)) => return Ok(End::Open(column)),
                 Ok(Step::Pivoted) => {}
                 Err(fault) => return stopped(fault, before + 1),

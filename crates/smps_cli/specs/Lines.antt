@@ -2,7 +2,7 @@
 use Rattle.std.specs.Prelude.{ℕ, List, [], ◌∷◌, ◌++◌, codes}
 use Rattle.std.specs.Fmt.{decimal}
 use Rattle.mps_core.specs.declared.cause.Cause.{Cause}
-use Rattle.mps_core.specs.Causes.{cause_number}
+use Rattle.mps_core.specs.Cause.{number_of_cause}
 use Rattle.smps_cli.specs.declared.status.FileKind.{FileKind}
 use Rattle.smps_cli.specs.declared.status.FileKind.TheVariants.{Core, Time, Stoch, Edits, Report, Trace}
 use Rattle.smps_cli.specs.declared.status.Status.{Status}
@@ -25,7 +25,7 @@ abbrev pub status_line : Status → List ℕ
 status_line Done = []
 status_line SomeOpen = []
 status_line Words = codes "words refused\n"
-status_line (Refused file line cause) = refused_text (file_word file) line (cause_number cause)
+status_line (Refused file line cause) = refused_text (file_word file) line (number_of_cause cause)
 status_line (TooLong file) = codes "refused " ++ file_word file ++ codes ": too long\n"
 status_line (ReadFault file) = codes "read failed: " ++ file_word file ++ codes "\n"
 status_line WriteFault = []

@@ -6,10 +6,10 @@ ghost use Rattle.smps_cli.specs.Lines.{status_line};
 ghost use Rattle.smps_cli.specs.Words.{core_name};
 ghost use Rattle.smps_cli.specs.declared.status.FileKind.{FileKind};
 
+use crate::solve::solved;
 use crate::status::{FileKind, Status};
 use crate::words::core_name;
 use frac128::Memory;
-use mps_core::Cause;
 use smps_io::{Shelf, ShelfFault};
 use std::alloc::{AllocError, Global};
 use std::rt::Runtime;
@@ -48,17 +48,10 @@ pub(crate) fn answered<R: Runtime, H: Shelf>(
 }
 
 /// The answer of a status that prints one line.
-fn one_line(alloc: Global, status: Status) -> Result<Answer, Memory>
+pub(crate) fn one_line(alloc: Global, status: Status) -> Result<Answer, Memory>
     ensures { IfOk result (λ answer. (answer.status ≡ status) × (answer.output.items ≡ status_line status)) }
 {
     let line = status.line(alloc)?;
     let output = Vec::from_slice(alloc, line.as_bytes())?;
     Ok(Answer { status, output })
-}
-
-/// The answer for the text of a core file.
-fn solved(alloc: Global, text: &[u8]) -> Result<Answer, Memory>
-    ensures { IfOk result (λ answer. MayBeSolved text.now answer.status answer.output.items) }
-{
-    one_line(alloc, Status::Refused(FileKind::Core, 0, Cause::NotBuilt))
 }

@@ -3,6 +3,7 @@
 
 mod answer;
 mod top_call;
+mod solve;
 mod status;
 mod words;
 

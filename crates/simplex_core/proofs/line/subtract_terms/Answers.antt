@@ -1,0 +1,10 @@
+use Rattle.std.proofs.Common.{◌≡◌, ◌≤◌, ◌⊎◌, inl, inr, length, ◌∙◌}
+use Rattle.std.proofs.lemmas.List.{take_rest}
+use Rattle.simplex_core.proofs.Walks.{rest_is}
+use Rattle.simplex_core.proofs.line.subtract_terms.Goals as goal
+use Rattle.simplex_core.proofs.line.subtract_terms.Goals.{then-both-test+else-j-pivot, else-both-test}
+
+pub right-init : goal.right-init
+right-init c =
+    let over : (length c.args.pivot.now ≤ c.both.j) ⊎ (length c.args.row.now ≤ c.both.i) = elim c.both-test.branch [ then-both-test+else-j-pivot w ↦ inl w.if-j-pivot.false | else-both-test w ↦ inr w.both-test.false ] in
+    rw (c.in_ok-extend_from_slice.ensures.items, take_rest c.args.row.now c.both.i) (rest_is c.args.factor c.args.row.now c.args.pivot.now c.both.done.items c.both.i c.both.j over ∙ c.both.invariant.kept)
