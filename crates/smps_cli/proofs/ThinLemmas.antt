@@ -8,7 +8,7 @@ use Rattle.rationals.specs.Passes.{Operation}
 use Rattle.smps_words.specs.declared.row_kind.RowKind.{RowKind}
 use Rattle.smps_words.specs.declared.row_kind.RowKind.TheVariants.{Less}
 use Rattle.mps_core.specs.Core.{IsCore, IsThin}
-use Rattle.mps_core.specs.declared.core.Core.{Core}
+use Rattle.mps_core.specs.declared.program.Core.{Core}
 use Rattle.mps_core.specs.declared.parts.RowDef.{RowDef}
 use Rattle.mps_core.specs.declared.parts.ColumnDef.{ColumnDef}
 use Rattle.scen_defs.specs.Lists.{Each}

@@ -5,7 +5,7 @@ use Rattle.mps_core.specs.Means.{TextMeans}
 use Rattle.mps_core.specs.Thin.{IsThinText, IsFirstUnfit, IsWithoutEnd}
 use Rattle.mps_core.specs.declared.cause.Cause.{Cause}
 use Rattle.mps_core.specs.declared.cause.Cause.TheVariants.{NotBuilt}
-use Rattle.mps_core.specs.declared.core.Core.{Core}
+use Rattle.mps_core.specs.declared.program.Core.{Core}
 use Rattle.scen_defs.specs.Program.{content}
 use Rattle.scen_defs.specs.declared.program.Program.{Program}
 use Rattle.scen_defs.specs.declared.report.Report.{Report}
