@@ -15,7 +15,9 @@ unsafe extern "C" {
     fn rattle_solve(cells: *const u64, len: usize, rows: u64, columns: u64, times: u64) -> u64;
 }
 
-const RUNS: usize = 9;
+/// Nanoseconds for each program.
+const TIME: f64 = 3e9;
+const TASKS: u64 = 6;
 
 /// A program by its cells: a row, a column, twice the numerator, and one more where it is negative, and
 /// the denominator. The right side stands behind the columns, the cost behind the rows.
@@ -49,17 +51,23 @@ fn factor(random: &mut Random, is_whole: bool) -> (i64, u64) {
     if is_whole { (1, 1) } else { (1 + random.below(9) as i64, 1 + random.below(9)) }
 }
 
-/// Persons and tasks, each matched at most once: each pair is a column, with a gain.
+/// Persons and tasks, each matched at most once: each pair of a person and one of six tasks is a column,
+/// with a gain.
 fn matching(rows: u64, is_whole: bool) -> Cells {
     let mut random = Random(88172645463325252 + rows);
     let size = rows / 2;
-    let slacks = size * size;
+    let slacks = size * TASKS;
     let mut cells = Cells { rows, columns: slacks + rows, words: Vec::new() };
+    let tasks: Vec<u64> =
+        (0..slacks).map(|column| (column / TASKS + column % TASKS * 7) % size).collect();
     for row in 0..rows {
         let (num, den) = factor(&mut random, is_whole);
-        for k in 0..size {
-            let column = if row < size { row * size + k } else { k * size + (row - size) };
-            cells.put(row, column, num, den);
+        for column in 0..slacks {
+            let is_there =
+                if row < size { column / TASKS == row } else { tasks[column as usize] == row - size };
+            if is_there {
+                cells.put(row, column, num, den);
+            }
         }
         cells.put(row, slacks + row, 1, 1);
         cells.put(row, cells.columns, num, den);
@@ -166,7 +174,7 @@ fn compare(name: &str, cells: &Cells) {
         Ok(Outcome::Unbounded { .. }) => "unbounded",
         Err(_) => "passed",
     };
-    let times = (20_000_000 / (merged + 1)).clamp(1, 200);
+    let times = (200_000 / (merged + 1)).clamp(1, 100);
     let rattle = |times| unsafe {
         rattle_solve(cells.words.as_ptr(), cells.words.len(), cells.rows, cells.columns, times)
     };
@@ -177,7 +185,8 @@ fn compare(name: &str, cells: &Cells) {
     };
     let mut best = [f64::MAX; 3];
     let mut answers = [0; 2];
-    for _ in 0..RUNS {
+    let began = Instant::now();
+    while (began.elapsed().as_nanos() as f64) < TIME {
         let (all, ours) = timed(&rattle, times);
         let (none, _) = timed(&rattle, 0);
         let (other, theirs) = timed(&|times| rust_solve(&rust, times), times);

@@ -1,28 +1,25 @@
 -- A pivot by the ratio test keeps a tableau in order, and the point of such a tableau is a solution.
-use Rattle.std.proofs.Common.{◌≡◌, ℕ, zero, suc, ◌<◌, ◌≤◌, ◌&&◌, ◌⊎◌, inl, inr, Bool, true, false, cond, List, [], ◌∷◌, ◌++◌, Option, Some, None, Ok, eqb, ltb, length, take, drop, refl, sym, ap, ap₂, ◌∙◌, subst, arith, eqb-true}
+use Rattle.std.proofs.Common.{◌≡◌, ℕ, zero, suc, ◌<◌, ◌≤◌, ◌&&◌, ◌⊎◌, inl, inr, Bool, true, false, cond, List, [], ◌∷◌, ◌++◌, Option, Some, Ok, eqb, ltb, length, take, drop, refl, sym, ap, ◌∙◌, subst, arith, eqb-true}
 use Rattle.std.specs.List.{remove, insert}
 use Rattle.std.proofs.lemmas.List.{take-append-drop}
-use Rattle.std.proofs.lemmas.Bool.{false≢true, ltb-false, ltb-true, eqb-false, ne_eqb}
+use Rattle.std.proofs.lemmas.Bool.{ltb-true, ne_eqb}
 use Rattle.rationals.specs.Passes.{then_walk}
 use Rattle.rationals.specs.Rational.{ℚ, zero_ℚ, one_ℚ, ◌+ℚ◌, ◌-ℚ◌, ◌*ℚ◌, ◌/ℚ◌, neg_ℚ, inv_ℚ, ◌≤ℚ◌, ◌<ℚ◌, by_ring, by_eqs, by_linear, by_facts, terms, le_refl_ℚ, one_nonneg_ℚ, mul_nonneg_ℚ, mul_mono_ℚ, mul_inv_ℚ, inv_nonneg_ℚ, lt_le_ℚ, ne_of_gt_ℚ, le_total_ℚ, div_mul_ℚ}
 use Rattle.rationals.specs.Ring.Eqs.{done, by_eq}
-use Rattle.rationals.specs.Ring.Facts.{end, by_le, by_same, by_times}
+use Rattle.rationals.specs.Ring.Facts.{end, by_le}
 use Rattle.rationals.specs.Ring.Given.{fact, equal, nothing}
-use Rattle.rationals.specs.Sums.{sum_ℚ}
 use Rattle.lp_defs.specs.Tests.{is_below_zero}
-use Rattle.lp_defs.specs.Walks.{Walk, after_ok}
+use Rattle.lp_defs.specs.Walks.{after_ok}
 use Rattle.rationals.specs.Sparse.{Entry, value_if, product, Ascending}
-use Rattle.lp_defs.specs.Path.{Candidate}
 use Rattle.lp_defs.specs.Lines.{Line, value_at, cleared, divided}
-use Rattle.lp_defs.specs.Path.{Row, Tableau, Done, Open, entering, path, pivoted, row_at, cleared_row, cleared_rows}
-use Rattle.lp_defs.specs.Linear.{Holds, AllLines, AllRows, Solves, Less, Times, IsTied}
+use Rattle.lp_defs.specs.Path.{Row, Tableau, entering, pivoted, row_at, cleared_row, cleared_rows}
+use Rattle.lp_defs.specs.Linear.{AllLines, AllRows, Solves, Less, Times, IsTied}
 use Rattle.lp_defs.specs.Stages.{Three, HasRisen}
-use Rattle.lp_defs.specs.Ends.{IsChosen, EndsWell, unit, IsPoint}
+use Rattle.lp_defs.specs.Ends.{unit, IsPoint}
 use Rattle.lp_defs.specs.Basis.{IsUnits, IsBasic, IsBelow, point}
-use Rattle.lp_defs.proofs.Linear.{cleared_is, divided_is}
-use Rattle.lp_defs.proofs.Rows.{Each, Pivots, pivots, all_insert, all_uninsert, put_back, tied_pivot}
+use Rattle.lp_defs.proofs.Rows.{Each, Pivots, pivots, all_insert, all_uninsert, put_back}
 use Rattle.lp_defs.proofs.Rising.{cleared_rises, divided_rises}
-use Rattle.lp_defs.proofs.Choice.{all_weaker, Keeps, path_keeps}
+use Rattle.lp_defs.proofs.Choice.{all_weaker, Keeps}
 use Rattle.lp_defs.proofs.Best.{tied_keeps, cost_is}
 
 -- ---- the entry of a column is the form's value at that column

@@ -1,20 +1,19 @@
 -- What holds at the end of a path, by the program's rows.
-use Rattle.std.proofs.Common.{◌≡◌, ℕ, zero, suc, ◌<◌, ◌≤◌, ◌&&◌, Bool, true, false, cond, List, [], ◌∷◌, Option, Some, None, Ok, eqb, ltb, length, refl, sym, ap, ap₂, ◌∙◌, subst, arith, eqb-true}
-use Rattle.std.proofs.lemmas.Bool.{false≢true, ltb-false, ltb-true, eqb-false}
-use Rattle.rationals.specs.Rational.{ℚ, zero_ℚ, one_ℚ, ◌+ℚ◌, ◌-ℚ◌, ◌*ℚ◌, ◌/ℚ◌, neg_ℚ, ◌≤ℚ◌, ◌<ℚ◌, by_ring, by_eqs, by_linear, by_facts, terms, le_refl_ℚ, one_nonneg_ℚ, mul_nonneg_ℚ, ne_of_gt_ℚ}
+use Rattle.std.proofs.Common.{◌≡◌, ℕ, ◌≤◌, ◌&&◌, Bool, true, false, List, [], ◌∷◌, Option, Some, None, ltb, refl, ap, ap₂, ◌∙◌, arith}
+use Rattle.std.proofs.lemmas.Bool.{ltb-false}
+use Rattle.rationals.specs.Rational.{ℚ, zero_ℚ, one_ℚ, ◌+ℚ◌, ◌-ℚ◌, ◌*ℚ◌, neg_ℚ, ◌≤ℚ◌, by_ring, by_eqs, by_linear, by_facts, terms, le_refl_ℚ, mul_nonneg_ℚ, ne_of_gt_ℚ}
 use Rattle.rationals.specs.Ring.Eqs.{done, by_eq}
-use Rattle.rationals.specs.Ring.Facts.{end, by_le, by_same}
+use Rattle.rationals.specs.Ring.Facts.{end, by_le}
 use Rattle.rationals.specs.Ring.Given.{fact, equal, nothing}
 use Rattle.rationals.specs.Sums.{dot}
 use Rattle.lp_defs.specs.Tests.{is_below_zero, is_below_zero_false}
-use Rattle.rationals.specs.Sparse.{Entry, value_if, product}
-use Rattle.lp_defs.specs.Path.{Candidate}
-use Rattle.lp_defs.specs.Lines.{Line, value_at}
-use Rattle.lp_defs.specs.Path.{Row, Tableau, Ending, Done, Open, entering, path, pivoted, row_at}
-use Rattle.lp_defs.specs.Linear.{Holds, AllLines, Solves, values, rights, Combines, Prices, IsTied}
-use Rattle.lp_defs.specs.Ends.{IsChosen, EndsWell, unit, IsPoint}
+use Rattle.rationals.specs.Sparse.{Entry, product}
+use Rattle.lp_defs.specs.Lines.{Line}
+use Rattle.lp_defs.specs.Path.{Row, Tableau, entering}
+use Rattle.lp_defs.specs.Linear.{AllLines, Solves, values, rights, Combines, IsTied}
+use Rattle.lp_defs.specs.Ends.{IsPoint}
 use Rattle.lp_defs.proofs.Rows.{pivots, tied_pivot}
-use Rattle.lp_defs.proofs.Choice.{all_weaker, Keeps, path_keeps}
+use Rattle.lp_defs.proofs.Choice.{all_weaker, Keeps}
 
 abbrev Spans : List Row → Line → Type 0
 Spans rows line = (y : List ℚ) × Combines rows y line

@@ -1,18 +1,18 @@
 -- The heart of Bland's rule: in a cycle of pivots, let m be the greatest column that enters or leaves. No two tableaus of the cycle are such
 -- that m leaves in one and enters in the other.
-use Rattle.std.proofs.Common.{◌≡◌, ℕ, suc, ◌<◌, ◌≤◌, ◌&&◌, ◌⊎◌, inl, inr, Bool, true, false, cond, List, [], ◌∷◌, Option, Some, None, eqb, ltb, refl, sym, ap, ◌∙◌, subst, arith, eqb-true}
-use Rattle.std.proofs.lemmas.Bool.{ltb-false, ltb-true, ne_eqb, eqb-false}
-use Rattle.rationals.specs.Rational.{ℚ, zero_ℚ, one_ℚ, ◌+ℚ◌, ◌-ℚ◌, ◌*ℚ◌, ◌/ℚ◌, neg_ℚ, inv_ℚ, ◌≤ℚ◌, ◌<ℚ◌, by_ring, by_eqs, by_linear, by_facts, terms, le_refl_ℚ, le_of_same_ℚ, lt_le_ℚ, le_total_ℚ, mul_nonneg_ℚ, mul_mono_ℚ, not_le_of_lt_ℚ}
+use Rattle.std.proofs.Common.{◌≡◌, ℕ, suc, ◌<◌, ◌≤◌, ◌&&◌, ◌⊎◌, inl, inr, Bool, true, false, cond, List, [], ◌∷◌, Option, Some, eqb, ltb, refl, sym, ap, ◌∙◌, subst, arith, eqb-true}
+use Rattle.std.proofs.lemmas.Bool.{ltb-false, ne_eqb, eqb-false}
+use Rattle.rationals.specs.Rational.{ℚ, zero_ℚ, one_ℚ, ◌+ℚ◌, ◌-ℚ◌, ◌*ℚ◌, ◌/ℚ◌, neg_ℚ, inv_ℚ, ◌≤ℚ◌, ◌<ℚ◌, by_eqs, by_linear, terms, le_of_same_ℚ, lt_le_ℚ, le_total_ℚ, mul_mono_ℚ, not_le_of_lt_ℚ}
 use Rattle.rationals.specs.Ring.Eqs.{done, by_eq}
 use Rattle.rationals.specs.Ring.Given.{fact, equal, nothing}
 use Rattle.lp_defs.specs.Tests.{is_below_zero, is_below_zero_false}
 use Rattle.rationals.specs.Sparse.{Entry, product, Ascending}
 use Rattle.lp_defs.specs.Path.{Candidate}
-use Rattle.lp_defs.specs.Lines.{Line, value_at}
-use Rattle.lp_defs.specs.Path.{Row, Tableau, entering, row_at}
-use Rattle.lp_defs.specs.Linear.{AllLines, AllRows, Solves, IsTied}
+use Rattle.lp_defs.specs.Lines.{value_at}
+use Rattle.lp_defs.specs.Path.{Row, Tableau, entering}
+use Rattle.lp_defs.specs.Linear.{AllRows, Solves, IsTied}
 use Rattle.lp_defs.specs.Ends.{IsChosen, unit}
-use Rattle.lp_defs.specs.Basis.{IsUnits, IsBasic, point, ray}
+use Rattle.lp_defs.specs.Basis.{IsBasic, point, ray}
 use Rattle.lp_defs.proofs.Best.{cost_is}
 use Rattle.lp_defs.proofs.Basic.{value_is, point_solves}
 use Rattle.lp_defs.proofs.Rays.{product_two, zero_on_ray, ray_flat, further, entering_falls}

@@ -1,21 +1,17 @@
 -- How many pivots a path has at most.
-use Rattle.std.proofs.Common.{◌≡◌, ℕ, zero, suc, ◌+◌, ◌-◌, ◌*◌, ◌^◌, ◌<◌, ◌≤◌, Bool, true, false, Option, Some, None, List, [], ◌∷◌, ◌++◌, Ok, Err, length, refl, sym, ap, ◌∙◌, subst, arith, add-zero}
-use Rattle.std.proofs.lemmas.List.{append_assoc, append-nil}
+use Rattle.std.proofs.Common.{◌≡◌, ℕ, zero, suc, ◌+◌, ◌-◌, ◌*◌, ◌^◌, ◌<◌, ◌≤◌, Bool, true, false, Option, Some, None, List, [], ◌∷◌, ◌++◌, Ok, Err, length, refl, sym, ◌∙◌, subst, arith}
 use Rattle.rationals.specs.Rational.{ℚ}
-use Rattle.rationals.specs.Passes.{Operation}
 use Rattle.rationals.specs.Sparse.{Entry}
 use Rattle.lp_defs.specs.Tests.{is_below_zero, is_below_zero_false}
 use Rattle.lp_defs.specs.Walks.{Walk}
 use Rattle.lp_defs.specs.Lines.{Line}
 use Rattle.lp_defs.specs.Path.{Row, Tableau, Candidate, Ending, Done, Open, TooLong, Stopped, entering, leaving, has_above_zero, pivoted, row_at, with_choice, with_value, at_limit, path}
-use Rattle.lp_defs.specs.Linear.{AllRows, IsTied}
 use Rattle.lp_defs.specs.Ends.{IsChosen, IsChoice, EndsWell}
-use Rattle.lp_defs.specs.Basis.{IsBasic, IsBelow}
-use Rattle.lp_defs.specs.Trace.{Stage, IsStep, Leads, NotIn}
+use Rattle.lp_defs.specs.Trace.{Stage, IsStep, Leads}
 use Rattle.lp_defs.specs.Phases.{unit_rows, with_units, cost_line, priced, replacing, Driven, Driven_out, Driven_long, Driven_stop, driven_by, driven_at, driven, first_duals}
 use Rattle.lp_defs.specs.Program.{Program, IsProgram}
-use Rattle.lp_defs.specs.Stages.{Three, all_columns, First, Driving, DrivenOut, Second}
-use Rattle.lp_defs.specs.Solution.{Solution, Nowhere, Cut_off, counted, first_rows, first_cost, first_end, second_end, second, between, solution}
+use Rattle.lp_defs.specs.Stages.{Three, all_columns, First, Second}
+use Rattle.lp_defs.specs.Solution.{Solution, Nowhere, Cut_off, counted, first_rows, first_cost, first_end, second_end, between}
 use Rattle.lp_defs.specs.Certificates.{PivotsAreBounded}
 use Rattle.lp_defs.proofs.Choice.{leaving_is, Keeps, path_keeps}
 use Rattle.lp_defs.proofs.Basic.{three_keep}

@@ -1,29 +1,28 @@
 -- The answers of the simplex method show that they are right.
-use Rattle.std.proofs.Common.{◌≡◌, ℕ, zero, suc, ◌<◌, ◌≤◌, ◌+◌, ◌-◌, Bool, true, false, Option, Some, None, List, [], ◌∷◌, ◌++◌, Ok, Err, length, refl, sym, ap, ap₂, ◌∙◌, subst, arith, le_refl}
+use Rattle.std.proofs.Common.{◌≡◌, ℕ, zero, suc, ◌<◌, ◌≤◌, ◌+◌, ◌-◌, Bool, true, false, None, List, [], ◌∷◌, ◌++◌, Ok, Err, length, refl, sym, ap, ap₂, ◌∙◌, subst, arith, le_refl}
 use Rattle.std.proofs.lemmas.List.{append_assoc, append-nil}
-use Rattle.rationals.specs.Rational.{ℚ, zero_ℚ, one_ℚ, ◌+ℚ◌, ◌-ℚ◌, ◌*ℚ◌, neg_ℚ, ◌≤ℚ◌, ◌<ℚ◌, lt_by, by_ring, by_eqs, by_linear, terms}
+use Rattle.rationals.specs.Rational.{ℚ, zero_ℚ, one_ℚ, ◌-ℚ◌, neg_ℚ, ◌≤ℚ◌, ◌<ℚ◌, lt_by, by_eqs, by_linear, terms}
 use Rattle.rationals.specs.Ring.Eqs.{done, by_eq}
 use Rattle.rationals.specs.Ring.Given.{fact, equal, nothing}
 use Rattle.rationals.specs.Sums.{dot}
-use Rattle.rationals.specs.Passes.{then_walk, sub_walk}
+use Rattle.rationals.specs.Passes.{sub_walk}
 use Rattle.rationals.specs.Sparse.{Entry, product, coefficient, coefficient_is, Ascending}
-use Rattle.rationals.specs.Forms.{EndsBelow}
 use Rattle.lp_defs.specs.Tests.{is_below_zero, is_below_zero_true, is_below_zero_false}
 use Rattle.lp_defs.specs.Walks.{Walk, after_ok, sub_walk_is}
 use Rattle.lp_defs.specs.Lines.{Line, value_at}
 use Rattle.lp_defs.specs.Path.{Row, Tableau, Ending, Done, Open, TooLong, Stopped, entering, path}
 use Rattle.lp_defs.specs.Linear.{AllRows, values, rights}
 use Rattle.lp_defs.specs.Ends.{unit, EndsWell, IsPoint, IsDualOf}
-use Rattle.lp_defs.specs.Basis.{IsUnits, IsRayOf, point, ray}
-use Rattle.lp_defs.specs.Phases.{unit_rows, with_units, unit_costs, cost_line, priced, Driven, Driven_out, Driven_long, Driven_stop, driven, first_duals, unit_duals}
+use Rattle.lp_defs.specs.Basis.{IsRayOf, point, ray}
+use Rattle.lp_defs.specs.Phases.{unit_rows, with_units, cost_line, priced, Driven, Driven_out, Driven_long, Driven_stop, driven, first_duals, unit_duals}
 use Rattle.lp_defs.specs.Program.{Program, IsProgram}
-use Rattle.lp_defs.specs.Solution.{Solution, counted, first_rows, first_cost, first_end, second_end, second, between, solution, Nowhere, Passes}
-use Rattle.lp_defs.specs.Certificates.{IsNonnegative, IsFeasible, IsDual, IsOptimal, IsInfeasible, IsRay, IsUnbounded, IsCertified, SolutionsAreCertified, column_of, reduced_cost}
+use Rattle.lp_defs.specs.Solution.{counted, first_rows, first_cost, first_end, second_end, between, Nowhere}
+use Rattle.lp_defs.specs.Certificates.{IsNonnegative, IsFeasible, IsOptimal, IsInfeasible, IsUnbounded, IsCertified, SolutionsAreCertified, column_of}
 use Rattle.lp_defs.specs.Stages.{all_columns, First, Second}
 use Rattle.lp_defs.proofs.Basic.{value_is, point_of, entering_below}
 use Rattle.lp_defs.proofs.Rays.{ray_of}
 use Rattle.lp_defs.proofs.Phases.{start_duals, duals_of}
-use Rattle.lp_defs.proofs.Starts.{units_of, units_at_end, length_with_units, free_at_units, meets_of, stays_of, column_is, right_is, costs_rise, costs_below, cost_is_one}
+use Rattle.lp_defs.proofs.Starts.{length_with_units, free_at_units, meets_of, stays_of, column_is, right_is, costs_rise, costs_below, cost_is_one}
 use Rattle.lp_defs.proofs.Settled.{point_ends, ray_ends}
 use Rattle.lp_defs.proofs.Ready.{first_units, first_begins, first_path, driving_begins, EndsDriven, driven_well, second_begins, second_path}
 

@@ -1,8 +1,8 @@
 -- What the ratio test chooses, and how properties go along a path.
-use Rattle.std.proofs.Common.{◌≡◌, ℕ, zero, suc, ◌<◌, ◌≤◌, ◌+◌, ◌||◌, ◌&&◌, not, Bool, true, false, List, [], ◌∷◌, ◌++◌, Option, Some, None, Result, Ok, Err, length, ltb, refl, sym, ap, ap₂, ◌∙◌, subst, arith, length-append, add-one}
+use Rattle.std.proofs.Common.{◌≡◌, ℕ, zero, suc, ◌<◌, ◌≤◌, ◌+◌, ◌||◌, Bool, true, false, List, [], ◌∷◌, ◌++◌, Option, Some, None, Ok, Err, length, ltb, refl, sym, ap, ◌∙◌, subst, arith, length-append}
 use Rattle.std.proofs.lemmas.List.{append-nil, append_assoc}
 use Rattle.std.proofs.lemmas.Bool.{false≢true, ltb-true, ltb-false}
-use Rattle.rationals.specs.Rational.{ℚ, zero_ℚ, ◌/ℚ◌, ◌≤ℚ◌, ◌<ℚ◌, le_refl_ℚ, le_trans_ℚ, le_of_same_ℚ, lt_le_ℚ, not_le_of_lt_ℚ}
+use Rattle.rationals.specs.Rational.{ℚ, zero_ℚ, ◌/ℚ◌, ◌≤ℚ◌, ◌<ℚ◌, le_trans_ℚ, le_of_same_ℚ, lt_le_ℚ, not_le_of_lt_ℚ}
 use Rattle.lp_defs.specs.Tests.{is_above_zero, is_above_zero_true, is_above_zero_false, compare_is}
 use Rattle.rationals.specs.Order.{compare}
 use Rattle.rationals.specs.Forms.{by_order}
@@ -10,10 +10,10 @@ use Rattle.std.specs.declared.cmp.Ordering.{Ordering}
 use Rattle.std.specs.declared.cmp.Ordering.TheVariants.{Less, Equal, Greater}
 use Rattle.std.specs.Ordering.{MatchOrdering}
 use Rattle.lp_defs.specs.Walks.{Walk, after_ok, div_walk_is}
-use Rattle.rationals.specs.Passes.{Operation, then_walk, div_walk}
+use Rattle.rationals.specs.Passes.{then_walk, div_walk}
 use Rattle.lp_defs.specs.Path.{Candidate}
 use Rattle.lp_defs.specs.Lines.{Line, value_at}
-use Rattle.lp_defs.specs.Path.{Row, Tableau, Ending, Done, Open, TooLong, Stopped, row_at, leaving, choose, is_better, has_above_zero, entering, pivoted, path, with_choice, with_value, at_limit}
+use Rattle.lp_defs.specs.Path.{Row, Tableau, Done, Open, Stopped, row_at, leaving, choose, is_better, has_above_zero, entering, pivoted, path, with_choice, with_value, at_limit}
 use Rattle.lp_defs.specs.Linear.{AllLines, AllRows}
 use Rattle.lp_defs.specs.Ends.{IsChosen, NoneAbove, IsChoice, EndsWell}
 use Rattle.lp_defs.proofs.Rows.{all_join}

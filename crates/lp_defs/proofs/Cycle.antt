@@ -1,15 +1,15 @@
 -- In a cycle of pivots no right side of the objective row changes, and so each quotient of its ratio tests is 0.
-use Rattle.std.proofs.Common.{◌≡◌, ℕ, ◌⊎◌, inl, inr, Bool, true, false, cond, List, [], ◌∷◌, Some, Ok, eqb, refl, sym, ap, ap₂, ◌∙◌, subst, eqb-true}
+use Rattle.std.proofs.Common.{◌≡◌, ℕ, ◌⊎◌, inl, inr, Bool, true, false, List, [], ◌∷◌, Some, Ok, eqb, refl, sym, ap, ap₂, ◌∙◌, subst, eqb-true}
 use Rattle.std.proofs.lemmas.Bool.{ne_eqb, eqb-false}
-use Rattle.rationals.specs.Rational.{ℚ, zero_ℚ, one_ℚ, ◌+ℚ◌, ◌-ℚ◌, ◌*ℚ◌, neg_ℚ, inv_ℚ, ◌≤ℚ◌, ◌<ℚ◌, by_ring, by_eqs, by_linear, by_linear_eq, terms, le_of_same_ℚ, lt_le_ℚ, mul_nonneg_ℚ, mul_mono_ℚ, not_le_of_lt_ℚ, zero_lt_one_ℚ, cancel_ℚ, ne_of_gt_ℚ, inv_nonneg_ℚ}
+use Rattle.rationals.specs.Rational.{ℚ, zero_ℚ, one_ℚ, ◌+ℚ◌, ◌-ℚ◌, ◌*ℚ◌, neg_ℚ, inv_ℚ, ◌≤ℚ◌, ◌<ℚ◌, by_ring, by_eqs, by_linear, by_linear_eq, terms, le_of_same_ℚ, lt_le_ℚ, mul_mono_ℚ, not_le_of_lt_ℚ, zero_lt_one_ℚ, cancel_ℚ}
 use Rattle.rationals.specs.Ring.Eqs.{done, by_eq}
 use Rattle.rationals.specs.Ring.Given.{fact, equal, nothing}
 use Rattle.rationals.specs.Sums.{dot}
 use Rattle.rationals.specs.Sparse.{Entry, value_if, product}
 use Rattle.lp_defs.specs.Path.{Candidate}
-use Rattle.lp_defs.specs.Lines.{Line, value_at}
+use Rattle.lp_defs.specs.Lines.{value_at}
 use Rattle.lp_defs.specs.Path.{Row, Tableau, entering, pivoted, row_at}
-use Rattle.lp_defs.specs.Linear.{Holds, AllLines, AllRows, Solves, values, rights, Combines, IsTied}
+use Rattle.lp_defs.specs.Linear.{Holds, AllRows, Solves, Combines, IsTied}
 use Rattle.lp_defs.specs.Ends.{IsChosen, unit}
 use Rattle.lp_defs.specs.Basis.{IsUnits, IsBasic, point}
 use Rattle.lp_defs.specs.Trace.{NotIn}

@@ -1,12 +1,12 @@
 -- A program whose rows end in unit columns has a point.
-use Rattle.std.proofs.Common.{◌≡◌, ℕ, zero, suc, ◌<◌, ◌≤◌, ◌+◌, List, [], ◌∷◌, length, refl, sym, ap, ◌∙◌, subst, arith, le_refl}
-use Rattle.rationals.specs.Rational.{ℚ, zero_ℚ, one_ℚ, ◌+ℚ◌, ◌*ℚ◌, ◌≤ℚ◌, ◌<ℚ◌, not_le_of_lt_ℚ, le_refl_ℚ, mul_mono_ℚ, by_eqs, by_linear, terms}
+use Rattle.std.proofs.Common.{◌≡◌, ℕ, suc, ◌<◌, ◌≤◌, ◌+◌, List, [], ◌∷◌, length, refl, ap, ◌∙◌, arith, le_refl}
+use Rattle.rationals.specs.Rational.{ℚ, zero_ℚ, one_ℚ, ◌+ℚ◌, ◌*ℚ◌, ◌≤ℚ◌, not_le_of_lt_ℚ, le_refl_ℚ, mul_mono_ℚ, by_eqs, by_linear, terms}
 use Rattle.rationals.specs.Ring.Eqs.{done, by_eq}
 use Rattle.rationals.specs.Ring.Given.{fact, equal, nothing}
 use Rattle.rationals.specs.Sums.{dot}
 use Rattle.rationals.specs.Sparse.{Entry, coefficient, coefficient_is}
-use Rattle.lp_defs.specs.Program.{Program, IsProgram, NoneNegative, EndsInUnit, AllEndInUnits, EndsInUnits}
-use Rattle.lp_defs.specs.Certificates.{column_of, IsInfeasible, UnitColumnsAreFeasible}
+use Rattle.lp_defs.specs.Program.{NoneNegative, AllEndInUnits}
+use Rattle.lp_defs.specs.Certificates.{column_of, UnitColumnsAreFeasible}
 use Rattle.lp_defs.proofs.Starts.{own_unit, other_unit}
 
 dot_later : (n k c : ℕ) (rows : List (List Entry)) (y : List ℚ) → n ≤ c → c < k → AllEndInUnits n k rows → dot y (column_of rows c) ≡ zero_ℚ

@@ -1,14 +1,14 @@
 -- The walks of lines are linear.
-use Rattle.std.proofs.Common.{◌≡◌, ℕ, Bool, true, false, List, [], ◌∷◌, ◌++◌, Result, Ok, Err, ltb, eqb, refl, sym, ap, ap₂, ◌∙◌, arith}
+use Rattle.std.proofs.Common.{◌≡◌, ℕ, Bool, true, false, List, [], ◌∷◌, ◌++◌, Ok, ltb, refl, sym, ap, ◌∙◌, arith}
 use Rattle.std.proofs.lemmas.Bool.{ltb-false}
 use Rattle.rationals.specs.Passes.{then_walk, sub_walk, mul_walk, div_walk}
-use Rattle.rationals.specs.Rational.{ℚ, zero_ℚ, one_ℚ, ◌+ℚ◌, ◌-ℚ◌, ◌*ℚ◌, ◌/ℚ◌, neg_ℚ, inv_ℚ, by_ring, by_eqs, terms}
+use Rattle.rationals.specs.Rational.{ℚ, zero_ℚ, one_ℚ, ◌+ℚ◌, ◌-ℚ◌, ◌*ℚ◌, neg_ℚ, inv_ℚ, by_ring, by_eqs, terms}
 use Rattle.rationals.specs.Ring.Eqs.{done, by_eq}
-use Rattle.rationals.specs.Sums.{sum_ℚ, sum-append}
+use Rattle.rationals.specs.Sums.{sum-append}
 use Rattle.lp_defs.specs.Tests.{is_zero, is_zero_true}
 use Rattle.lp_defs.specs.Walks.{Walk, after_ok, sub_walk_is, mul_walk_is, div_walk_is}
 use Rattle.rationals.specs.Sparse.{Entry, product}
-use Rattle.lp_defs.specs.Lines.{Line, keep, less_walk, less_right, less_meet, less_entries, cleared_by, cleared, value_at, divided_entries, divided}
+use Rattle.lp_defs.specs.Lines.{Line, keep, less_walk, less_right, less_meet, less_entries, cleared_by, divided_entries, divided}
 use Rattle.lp_defs.specs.Linear.{Less, Times}
 
 pub product-append : (f g : List Entry) (x : ℕ → ℚ) → product (f ++ g) x ≡ product f x +ℚ product g x

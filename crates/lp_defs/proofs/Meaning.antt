@@ -1,14 +1,14 @@
 -- The certificates exclude every point that they speak of.
-use Rattle.std.proofs.Common.{◌≡◌, ℕ, zero, suc, ◌<◌, ◌≤◌, rules, length, List, [], ◌∷◌, All, refl, sym, ap, ap₂, ◌∙◌, subst, subst₂, arith}
+use Rattle.std.proofs.Common.{◌≡◌, ℕ, ◌<◌, rules, length, List, [], ◌∷◌, All, refl, sym, ap, ap₂, ◌∙◌, subst₂, arith}
 use Rattle.std.proofs.lemmas.List.Elements.{All-cons}
-use Rattle.rationals.specs.Rational.{ℚ, zero_ℚ, one_ℚ, ◌+ℚ◌, ◌-ℚ◌, ◌*ℚ◌, neg_ℚ, ◌≤ℚ◌, ◌<ℚ◌, not_le_of_lt_ℚ, le_refl_ℚ, mul_nonneg_ℚ, mul_mono_ℚ, by_ring, by_eqs, by_linear, terms}
+use Rattle.rationals.specs.Rational.{ℚ, zero_ℚ, one_ℚ, ◌+ℚ◌, ◌-ℚ◌, ◌*ℚ◌, ◌≤ℚ◌, not_le_of_lt_ℚ, mul_nonneg_ℚ, mul_mono_ℚ, by_ring, by_eqs, by_linear, terms}
 use Rattle.rationals.specs.Ring.Eqs.{done, by_eq}
-use Rattle.rationals.specs.Ring.Given.{fact, equal, nothing}
+use Rattle.rationals.specs.Ring.Given.{fact, nothing}
 use Rattle.rationals.specs.Sums.{dot}
 use Rattle.rationals.specs.Sparse.{Entry, product, coefficient, sum_below, sum_below-zero, sum_below-add, sum_below-scale, sum_below-le, sum_below-same, product-by_columns, product-along}
 use Rattle.rationals.specs.Forms.{EndsBelow}
 use Rattle.lp_defs.specs.Program.{Program, IsProgram, AllFormsBelow}
-use Rattle.lp_defs.specs.Certificates.{MeetsAll, AllZeroAt, column_of, IsNonnegative, IsFeasible, IsOptimal, IsInfeasible, IsRay, IsUnbounded}
+use Rattle.lp_defs.specs.Certificates.{MeetsAll, AllZeroAt, column_of, IsFeasible, IsOptimal, IsInfeasible, IsUnbounded}
 use Rattle.lp_defs.specs.Meaning.{CertificatesHold}
 
 -- all columns are below n, as std says it
@@ -59,8 +59,8 @@ optimal_is_least p x y z is o h =
     let costs : sum_below p.columns (λ j. coefficient p.cost j *ℚ z j) ≡ product p.cost z = by_columns p.columns p.cost z is.cost.below in
     let le : sum_below p.columns (λ j. dot y (column_of p.rows j) *ℚ z j) ≤ℚ sum_below p.columns (λ j. coefficient p.cost j *ℚ z j) =
     sum_below-le p.columns (λ j. dot y (column_of p.rows j) *ℚ z j) (λ j. coefficient p.cost j *ℚ z j) (λ j l.
-        let r : zero_ℚ ≤ℚ coefficient p.cost j -ℚ dot y (column_of p.rows j) = o.duals.reduced j l in
-        times_le (dot y (column_of p.rows j)) (coefficient p.cost j) (z j) (by_linear (coefficient p.cost j ∷ dot y (column_of p.rows j) ∷ []) (fact r nothing) (search terms depth 40) tt) (h.nonnegative.nonnegative j)) in
+    let r : zero_ℚ ≤ℚ coefficient p.cost j -ℚ dot y (column_of p.rows j) = o.duals.reduced j l in
+    times_le (dot y (column_of p.rows j)) (coefficient p.cost j) (z j) (by_linear (coefficient p.cost j ∷ dot y (column_of p.rows j) ∷ []) (fact r nothing) (search terms depth 40) tt) (h.nonnegative.nonnegative j)) in
     subst₂ (λ (a b : ℚ). a ≤ℚ b) (sums ∙ sym o.equal) costs le
 
 infeasible_has_none : (p : Program) (y : List ℚ) (z : ℕ → ℚ) → IsProgram p → IsInfeasible p y → IsFeasible p z → ⊥

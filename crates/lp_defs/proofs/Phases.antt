@@ -1,25 +1,23 @@
 -- The start of a phase, and the duals at its end.
-use Rattle.std.proofs.Common.{◌≡◌, ℕ, ◌<◌, length, List, [], ◌∷◌, ◌++◌, Option, None, Ok, refl, sym, ap, ap₂, ◌∙◌, subst}
+use Rattle.std.proofs.Common.{◌≡◌, ℕ, ◌<◌, length, List, [], ◌∷◌, ◌++◌, None, Ok, refl, sym, ap, ap₂, ◌∙◌, subst}
 use Rattle.std.proofs.lemmas.List.{append-nil, append_assoc}
-use Rattle.rationals.specs.Passes.{then_walk}
-use Rattle.rationals.specs.Rational.{ℚ, zero_ℚ, one_ℚ, ◌+ℚ◌, ◌-ℚ◌, ◌*ℚ◌, neg_ℚ, ◌≤ℚ◌, by_ring, by_eqs, by_linear, terms}
+use Rattle.rationals.specs.Rational.{ℚ, zero_ℚ, one_ℚ, ◌-ℚ◌, neg_ℚ, ◌≤ℚ◌, by_ring, by_eqs, by_linear, terms}
 use Rattle.rationals.specs.Ring.Eqs.{done, by_eq}
 use Rattle.rationals.specs.Ring.Given.{fact, equal, nothing}
 use Rattle.rationals.specs.Sums.{dot, add_rows, scale_row}
-use Rattle.lp_defs.specs.Walks.{Walk, after_ok}
+use Rattle.lp_defs.specs.Walks.{after_ok}
 use Rattle.rationals.specs.Sparse.{Entry, product, Ascending}
 use Rattle.lp_defs.specs.Lines.{Line, value_at, cleared_by}
 use Rattle.lp_defs.specs.Path.{Row, Tableau, entering, pivoted, row_at}
-use Rattle.lp_defs.specs.Linear.{AllLines, AllRows, Less, Combines, Prices, IsTied, Solves, values, rights}
-use Rattle.lp_defs.specs.Ends.{EndsWell, IsDualOf, unit}
-use Rattle.lp_defs.specs.Basis.{IsUnits, IsBasic}
+use Rattle.lp_defs.specs.Linear.{AllLines, AllRows, Less, Combines, Prices, Solves, values, rights}
+use Rattle.lp_defs.specs.Ends.{IsDualOf, unit}
+use Rattle.lp_defs.specs.Basis.{IsUnits}
 use Rattle.lp_defs.specs.Phases.{priced, cost_line}
 use Rattle.lp_defs.proofs.Linear.{cleared_is}
 use Rattle.lp_defs.proofs.Rows.{less_prices, pivots, tied_pivot}
 use Rattle.lp_defs.proofs.Rising.{cleared_rises}
-use Rattle.lp_defs.proofs.Choice.{path_keeps}
 use Rattle.lp_defs.proofs.Best.{none_enters}
-use Rattle.lp_defs.proofs.Basic.{value_is, basic_driven, Both, both_keep}
+use Rattle.lp_defs.proofs.Basic.{value_is, basic_driven, Both}
 use Rattle.lp_defs.proofs.Rays.{reads, reads_same, values_long, rights_long, AsLong, unit_range}
 
 abbrev pub Spans : List Row → Line → Type 0

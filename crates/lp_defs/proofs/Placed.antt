@@ -1,10 +1,10 @@
 -- The points and rays of tableaus as forms.
-use Rattle.std.proofs.Common.{◌≡◌, ℕ, zero, suc, ◌<◌, ◌≤◌, Bool, true, false, List, [], ◌∷◌, ltb, eqb, refl, sym, ap, ap₂, ◌∙◌, subst, arith, lt_irrefl}
+use Rattle.std.proofs.Common.{◌≡◌, ℕ, suc, ◌<◌, ◌≤◌, Bool, true, false, List, [], ◌∷◌, ltb, eqb, refl, sym, ap, ◌∙◌, arith}
 use Rattle.std.proofs.lemmas.Bool.{ltb-true, ltb-false, eq-eqb, ne_eqb, eqb-true, eqb-false}
-use Rattle.rationals.specs.Rational.{ℚ, zero_ℚ, one_ℚ, ◌+ℚ◌, ◌*ℚ◌, neg_ℚ, ◌<ℚ◌, by_ring, by_eqs, terms, zero_lt_one_ℚ, ne_of_gt_ℚ}
+use Rattle.rationals.specs.Rational.{ℚ, zero_ℚ, one_ℚ, ◌+ℚ◌, ◌*ℚ◌, neg_ℚ, by_ring, by_eqs, terms, zero_lt_one_ℚ, ne_of_gt_ℚ}
 use Rattle.rationals.specs.Ring.Eqs.{done, by_eq}
 use Rattle.rationals.specs.Sums.{sum_ℚ}
-use Rattle.rationals.specs.Sparse.{Entry, value_if, product, coefficient, Ascending, Ascending-weaker}
+use Rattle.rationals.specs.Sparse.{Entry, value_if, product, coefficient, Ascending}
 use Rattle.rationals.specs.Forms.{IsForm, AllNonzero}
 use Rattle.lp_defs.specs.Tests.{is_zero, is_zero_true, is_zero_false}
 use Rattle.lp_defs.specs.Lines.{value_at}

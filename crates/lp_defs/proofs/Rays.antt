@@ -1,22 +1,21 @@
 -- The ray where no row bounds the entering column, and the duals that are read off the objective row.
-use Rattle.std.proofs.Common.{◌≡◌, ℕ, zero, suc, ◌<◌, ◌≤◌, ◌&&◌, Bool, true, false, cond, List, [], ◌∷◌, Option, Some, None, Ok, eqb, ltb, length, refl, sym, ap, ap₂, ◌∙◌, subst, arith, eqb-true, eq-eqb}
+use Rattle.std.proofs.Common.{◌≡◌, ℕ, suc, ◌<◌, ◌≤◌, ◌&&◌, Bool, true, false, List, [], ◌∷◌, Option, Some, eqb, ltb, refl, sym, ◌∙◌, subst, arith, eqb-true, eq-eqb}
 use Rattle.std.proofs.lemmas.Bool.{ne_eqb}
 use Rattle.rationals.specs.Rational.{ℚ, zero_ℚ, one_ℚ, ◌+ℚ◌, ◌-ℚ◌, ◌*ℚ◌, neg_ℚ, ◌≤ℚ◌, ◌<ℚ◌, by_ring, by_eqs, by_linear, by_facts, terms, le_refl_ℚ, one_nonneg_ℚ, mul_nonneg_ℚ}
 use Rattle.rationals.specs.Ring.Eqs.{done, by_eq}
 use Rattle.rationals.specs.Ring.Facts.{end, by_le}
-use Rattle.rationals.specs.Ring.Given.{fact, equal, nothing}
-use Rattle.rationals.specs.Sums.{dot, dot-nil}
+use Rattle.rationals.specs.Ring.Given.{fact, nothing}
+use Rattle.rationals.specs.Sums.{dot}
 use Rattle.lp_defs.specs.Tests.{is_below_zero, is_below_zero_true}
 use Rattle.rationals.specs.Sparse.{Entry, value_if, product, Ascending}
 use Rattle.lp_defs.specs.Lines.{Line, value_at}
 use Rattle.lp_defs.specs.Path.{Row, Tableau, entering}
-use Rattle.lp_defs.specs.Linear.{Holds, AllLines, AllRows, Solves, values, rights, IsTied}
+use Rattle.lp_defs.specs.Linear.{AllLines, AllRows, Solves, values, rights}
 use Rattle.lp_defs.specs.Stages.{Three}
 use Rattle.lp_defs.specs.Ends.{NoneAbove, unit, IsPoint}
-use Rattle.lp_defs.specs.Basis.{IsUnits, IsBasic, point, ray, IsRayOf}
-use Rattle.lp_defs.proofs.Choice.{path_keeps}
-use Rattle.lp_defs.proofs.Best.{cost_is, none_enters, tied_keeps}
-use Rattle.lp_defs.proofs.Basic.{value_is, point_is, point_solves, entering_below, Both, both_keep, three_keep}
+use Rattle.lp_defs.specs.Basis.{IsUnits, point, ray, IsRayOf}
+use Rattle.lp_defs.proofs.Best.{cost_is}
+use Rattle.lp_defs.proofs.Basic.{value_is, point_solves, entering_below}
 
 -- ---- the entering column's reduced cost
 entering_from : (n m j : ℕ) (f : List Entry) → Ascending m f → entering n f ≡ Some j → m ≤ j

@@ -1,28 +1,26 @@
 -- What holds at each stage of a solve.
-use Rattle.std.proofs.Common.{◌≡◌, ℕ, zero, suc, ◌<◌, ◌≤◌, ◌+◌, ◌-◌, ◌⊎◌, inl, inr, Bool, true, false, ltb, Option, Some, None, List, [], ◌∷◌, ◌++◌, Ok, Err, length, refl, sym, ap, ap₂, ◌∙◌, subst, arith, le_refl}
-use Rattle.std.specs.List.{remove, insert}
+use Rattle.std.proofs.Common.{◌≡◌, ℕ, zero, suc, ◌<◌, ◌≤◌, ◌+◌, inl, inr, Bool, true, false, ltb, Option, Some, None, List, [], ◌∷◌, Ok, Err, length, refl, sym, ap, ◌∙◌, subst, arith, le_refl}
 use Rattle.std.proofs.lemmas.Bool.{ltb-true, ltb-false}
-use Rattle.rationals.specs.Rational.{ℚ, zero_ℚ, one_ℚ, ◌+ℚ◌, ◌-ℚ◌, ◌*ℚ◌, neg_ℚ, inv_ℚ, ◌≤ℚ◌, ◌<ℚ◌, not_le_of_lt_ℚ, le_of_same_ℚ, by_ring, by_eqs, by_linear, by_linear_eq, terms}
+use Rattle.rationals.specs.Rational.{ℚ, zero_ℚ, one_ℚ, ◌*ℚ◌, neg_ℚ, inv_ℚ, ◌≤ℚ◌, ◌<ℚ◌, not_le_of_lt_ℚ, le_of_same_ℚ, by_eqs, by_linear, by_linear_eq, terms}
 use Rattle.rationals.specs.Ring.Eqs.{done, by_eq}
 use Rattle.rationals.specs.Ring.Given.{fact, equal, nothing}
 use Rattle.rationals.specs.Sparse.{Entry, product, Ascending}
-use Rattle.rationals.specs.Passes.{Operation}
 use Rattle.lp_defs.specs.Walks.{Walk}
 use Rattle.lp_defs.specs.Lines.{Line, value_at}
-use Rattle.lp_defs.specs.Path.{Row, Tableau, Ending, Done, Open, TooLong, Stopped, entering, pivoted, row_at, path}
-use Rattle.lp_defs.specs.Linear.{AllLines, AllRows, IsTied}
-use Rattle.lp_defs.specs.Ends.{unit, EndsWell, NoneAbove, IsPoint}
-use Rattle.lp_defs.specs.Basis.{IsUnits, IsBasic, IsBelow, point, ray}
+use Rattle.lp_defs.specs.Path.{Row, Tableau, entering, pivoted, row_at, path}
+use Rattle.lp_defs.specs.Linear.{AllLines, AllRows}
+use Rattle.lp_defs.specs.Ends.{unit, EndsWell, NoneAbove}
+use Rattle.lp_defs.specs.Basis.{IsUnits, point, ray}
 use Rattle.lp_defs.specs.Trace.{NotIn}
 use Rattle.lp_defs.specs.Program.{Program, IsProgram}
-use Rattle.lp_defs.specs.Phases.{unit_rows, with_units, unit_costs, cost_line, priced, nonzero_below, replacing, Driven, Driven_out, Driven_long, Driven_stop, driven_by, driven_at, driven}
+use Rattle.lp_defs.specs.Phases.{with_units, cost_line, priced, nonzero_below, replacing, Driven, Driven_out, Driven_long, Driven_stop, driven_by, driven_at, driven}
 use Rattle.lp_defs.specs.Solution.{first_rows, first_cost}
-use Rattle.lp_defs.specs.Stages.{Three, all_columns, First, Driving, IsEmptyBelow, Settled, DrivenOut, Second}
+use Rattle.lp_defs.specs.Stages.{all_columns, First, Driving, Settled, DrivenOut, Second}
 use Rattle.lp_defs.proofs.Rows.{Pivots, pivots}
 use Rattle.lp_defs.proofs.Choice.{path_keeps, Keeps}
 use Rattle.lp_defs.proofs.Best.{start_spans}
 use Rattle.lp_defs.proofs.Basic.{value_is, Both, three_keep, point_of, below_pivot, entering_below}
-use Rattle.lp_defs.proofs.Rays.{ray_of, entering_falls}
+use Rattle.lp_defs.proofs.Rays.{ray_of}
 use Rattle.lp_defs.proofs.Phases.{priced_start, driven_keeps, rows_zip}
 use Rattle.lp_defs.proofs.Twice.{point_at}
 use Rattle.lp_defs.proofs.Starts.{units_of, units_at_end, length_with_units, basics_below, rows_rise, rights_above, costs_rise, costs_above, costs_zero}

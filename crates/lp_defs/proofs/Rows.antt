@@ -1,12 +1,12 @@
 -- What a pivot does to all rows.
-use Rattle.std.proofs.Common.{◌≡◌, ℕ, zero, suc, ◌<◌, ◌≤◌, ◌+◌, Bool, true, false, List, [], ◌∷◌, ◌++◌, Option, Some, None, Result, Ok, Err, length, take, drop, refl, sym, ap, ap₂, ◌∙◌, subst, arith, ◌↔◌}
+use Rattle.std.proofs.Common.{◌≡◌, ℕ, zero, suc, ◌<◌, List, [], ◌∷◌, ◌++◌, Ok, length, take, drop, refl, sym, ap, ◌∙◌, subst, arith}
 use Rattle.std.specs.List.{remove, insert}
 use Rattle.std.proofs.lemmas.List.{take-append-drop, append_assoc}
 use Rattle.rationals.specs.Passes.{then_walk}
-use Rattle.rationals.specs.Rational.{ℚ, zero_ℚ, one_ℚ, ◌+ℚ◌, ◌-ℚ◌, ◌*ℚ◌, ◌/ℚ◌, neg_ℚ, inv_ℚ, mul_inv_ℚ, by_ring, by_eqs, terms}
+use Rattle.rationals.specs.Rational.{ℚ, zero_ℚ, one_ℚ, ◌+ℚ◌, ◌-ℚ◌, ◌*ℚ◌, neg_ℚ, inv_ℚ, mul_inv_ℚ, by_eqs, terms}
 use Rattle.rationals.specs.Ring.Eqs.{done, by_eq}
-use Rattle.rationals.specs.Sums.{dot, add_rows, scale_row, dot-nil, dot-add_rows, dot-scale_row}
-use Rattle.lp_defs.specs.Walks.{Walk, after_ok}
+use Rattle.rationals.specs.Sums.{dot, add_rows, scale_row, dot-add_rows, dot-scale_row}
+use Rattle.lp_defs.specs.Walks.{after_ok}
 use Rattle.rationals.specs.Sparse.{Entry, product}
 use Rattle.lp_defs.specs.Lines.{Line, cleared, value_at, divided}
 use Rattle.lp_defs.specs.Path.{Row, Tableau, row_at, cleared_row, cleared_rows, pivoted}

@@ -1,22 +1,20 @@
 -- Rows whose basic column is artificial and which have no other column: pivots leave them as they are.
-use Rattle.std.proofs.Common.{◌≡◌, ℕ, zero, suc, ◌<◌, ◌≤◌, ◌+◌, ◌-◌, ◌&&◌, not, ◌⊎◌, inl, inr, Bool, true, false, List, [], ◌∷◌, ◌++◌, Option, Some, None, Ok, ltb, eqb, length, refl, sym, ap, ap₂, ◌∙◌, subst, arith, cond}
+use Rattle.std.proofs.Common.{◌≡◌, ℕ, zero, suc, ◌<◌, ◌≤◌, ◌&&◌, not, inl, inr, Bool, true, false, List, [], ◌∷◌, Option, Some, None, Ok, ltb, eqb, length, refl, sym, ap, ◌∙◌, subst, arith, cond}
 use Rattle.std.specs.List.{remove, insert}
 use Rattle.std.proofs.lemmas.Bool.{ltb-true, ltb-false, ne_eqb, eq-eqb}
-use Rattle.rationals.specs.Rational.{ℚ, zero_ℚ, one_ℚ, ◌+ℚ◌, ◌-ℚ◌, ◌*ℚ◌, neg_ℚ, inv_ℚ, ◌≤ℚ◌, ◌<ℚ◌, by_ring, by_eqs, terms}
+use Rattle.rationals.specs.Rational.{zero_ℚ, one_ℚ, ◌*ℚ◌, neg_ℚ, by_ring, by_eqs, terms}
 use Rattle.rationals.specs.Ring.Eqs.{done, by_eq}
 use Rattle.rationals.specs.Sparse.{Entry, value_if, product, Ascending}
 use Rattle.lp_defs.specs.Tests.{is_zero, is_zero_true, is_zero_false}
 use Rattle.lp_defs.specs.Lines.{Line, value_at}
-use Rattle.lp_defs.specs.Path.{Row, Tableau, Candidate, entering, pivoted, row_at}
+use Rattle.lp_defs.specs.Path.{Row, Tableau, pivoted, row_at}
 use Rattle.lp_defs.specs.Linear.{AllLines, AllRows, Less}
-use Rattle.lp_defs.specs.Ends.{unit, IsChosen}
+use Rattle.lp_defs.specs.Ends.{unit}
 use Rattle.lp_defs.specs.Basis.{point, ray}
-use Rattle.lp_defs.specs.Stages.{IsEmptyBelow, Settled}
-use Rattle.lp_defs.specs.Phases.{nonzero_below, replacing}
+use Rattle.lp_defs.specs.Stages.{Settled}
+use Rattle.lp_defs.specs.Phases.{nonzero_below}
 use Rattle.lp_defs.proofs.Rows.{Each, Pivots, pivots, put_back, all_uninsert}
-use Rattle.lp_defs.proofs.Choice.{Keeps}
-use Rattle.lp_defs.proofs.Basic.{value_is, rows_insert, rows_uninsert, entering_below}
-use Rattle.lp_defs.proofs.Phases.{minus_zero}
+use Rattle.lp_defs.proofs.Basic.{value_is, rows_insert, rows_uninsert}
 
 pub settled_stays : (n j : ℕ) (pivot : Line) (r s : Row) → j < n → Ascending 0 r.line.entries → s.basic ≡ r.basic → Less (value_at r.line.entries j) r.line pivot s.line → Settled n r → Settled n s
 settled_stays n j pivot r s l a b k (inl h) = inl (omega arith)

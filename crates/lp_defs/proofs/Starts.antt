@@ -1,18 +1,16 @@
 -- Rows that end in unit columns are a start of a path, and say what the program says.
-use Rattle.std.proofs.Common.{◌≡◌, ℕ, zero, suc, ◌<◌, ◌≤◌, ◌+◌, ◌-◌, Bool, true, false, List, [], ◌∷◌, ◌++◌, eqb, length, refl, sym, ap, ap₂, ◌∙◌, subst, arith, eqb-true, cond}
+use Rattle.std.proofs.Common.{◌≡◌, ℕ, zero, suc, ◌<◌, ◌≤◌, ◌+◌, Bool, true, false, List, [], ◌∷◌, ◌++◌, eqb, length, refl, sym, ap, ap₂, ◌∙◌, arith, eqb-true, cond}
 use Rattle.std.proofs.lemmas.Bool.{ne_eqb, eq-eqb, eqb-false}
-use Rattle.rationals.specs.Rational.{ℚ, zero_ℚ, one_ℚ, ◌+ℚ◌, ◌-ℚ◌, ◌*ℚ◌, ◌≤ℚ◌, le_refl_ℚ, by_ring, by_eqs, by_linear, by_linear_eq, terms}
+use Rattle.rationals.specs.Rational.{ℚ, zero_ℚ, one_ℚ, ◌≤ℚ◌, le_refl_ℚ, by_ring, by_eqs, by_linear, by_linear_eq, terms}
 use Rattle.rationals.specs.Ring.Eqs.{done, by_eq}
-use Rattle.rationals.specs.Ring.Given.{fact, equal, nothing}
-use Rattle.rationals.specs.Sums.{dot}
-use Rattle.rationals.specs.Sparse.{Entry, value_if, product, coefficient, coefficient_is, Ascending}
+use Rattle.rationals.specs.Ring.Given.{fact, nothing}
+use Rattle.rationals.specs.Sparse.{Entry, value_if, product, coefficient_is, Ascending}
 use Rattle.rationals.specs.Forms.{EndsBelow}
-use Rattle.lp_defs.specs.Lines.{Line, value_at}
-use Rattle.lp_defs.specs.Path.{Row, Tableau}
-use Rattle.lp_defs.specs.Linear.{Holds, AllLines, AllRows, Solves, values, rights}
-use Rattle.lp_defs.specs.Ends.{unit, IsPoint}
-use Rattle.lp_defs.specs.Basis.{IsUnits, IsBasic, IsBelow}
-use Rattle.lp_defs.specs.Program.{Program, IsProgram, IsFormBelow, AllFormsBelow, NoneNegative, EndsInUnit, AllEndInUnits}
+use Rattle.lp_defs.specs.Lines.{value_at}
+use Rattle.lp_defs.specs.Linear.{AllLines, AllRows, Solves, values, rights}
+use Rattle.lp_defs.specs.Ends.{unit}
+use Rattle.lp_defs.specs.Basis.{IsUnits}
+use Rattle.lp_defs.specs.Program.{AllFormsBelow, NoneNegative, EndsInUnit, AllEndInUnits}
 use Rattle.lp_defs.specs.Phases.{unit_rows, with_units, unit_costs}
 use Rattle.lp_defs.specs.Certificates.{MeetsAll, AllZeroAt, column_of}
 use Rattle.lp_defs.proofs.Linear.{product-append}

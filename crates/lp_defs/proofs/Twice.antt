@@ -1,15 +1,15 @@
 -- No basis stands twice.
-use Rattle.std.proofs.Common.{◌≡◌, ℕ, zero, suc, Option, None, Err, ◌<◌, ◌≤◌, ◌⊎◌, inl, inr, ⊎_elim, ◌++◌, Bool, true, false, cond, List, [], ◌∷◌, Some, Ok, eqb, ltb, refl, sym, ap, ap₂, ◌∙◌, subst, arith, eqb-true, take, drop}
+use Rattle.std.proofs.Common.{◌≡◌, ℕ, zero, suc, Option, None, Err, ◌<◌, ◌≤◌, ◌⊎◌, inl, inr, ⊎_elim, ◌++◌, Bool, true, false, List, [], ◌∷◌, Some, Ok, eqb, ltb, refl, sym, ap, ◌∙◌, subst, arith, eqb-true, take, drop}
 use Rattle.std.specs.List.{remove, insert}
 use Rattle.std.proofs.lemmas.Bool.{ne_eqb, eqb-false, ltb-true, ltb-false}
 use Rattle.std.proofs.lemmas.List.{take-append-drop}
-use Rattle.rationals.specs.Rational.{ℚ, zero_ℚ, one_ℚ, ◌+ℚ◌, ◌-ℚ◌, ◌*ℚ◌, ◌/ℚ◌, neg_ℚ, inv_ℚ, ◌≤ℚ◌, ◌<ℚ◌, by_ring, by_eqs, by_linear, terms, le_of_same_ℚ, le_trans_ℚ, le_refl_ℚ, mul_nonneg_ℚ, inv_nonneg_ℚ, not_le_of_lt_ℚ, div_mul_ℚ, ne_of_gt_ℚ}
+use Rattle.rationals.specs.Rational.{ℚ, zero_ℚ, one_ℚ, ◌+ℚ◌, ◌*ℚ◌, neg_ℚ, inv_ℚ, ◌≤ℚ◌, ◌<ℚ◌, by_ring, by_eqs, terms, le_of_same_ℚ, le_trans_ℚ, mul_nonneg_ℚ, inv_nonneg_ℚ, not_le_of_lt_ℚ, div_mul_ℚ, ne_of_gt_ℚ}
 use Rattle.rationals.specs.Ring.Eqs.{done, by_eq}
 use Rattle.rationals.specs.Sparse.{Entry, value_if, product}
 use Rattle.lp_defs.specs.Path.{Candidate}
 use Rattle.lp_defs.specs.Lines.{Line, value_at}
 use Rattle.lp_defs.specs.Path.{Row, Tableau, entering, leaving, pivoted, row_at}
-use Rattle.lp_defs.specs.Linear.{AllLines, AllRows, Less, Times, IsTied}
+use Rattle.lp_defs.specs.Linear.{AllLines, AllRows, IsTied}
 use Rattle.lp_defs.specs.Ends.{IsChosen, unit}
 use Rattle.lp_defs.specs.Basis.{IsUnits, IsBasic, point}
 use Rattle.lp_defs.specs.Trace.{NotIn, Stage, IsStep, Leads, NoBasisTwice, NoBasisTwiceOnPath, add_stage, stage_found, stage_enters, stages}

@@ -1,9 +1,9 @@
 -- Tableaus in order: rising columns, unit columns in the basis, right sides not below 0.
-use Rattle.std.specs.Prelude.{◌≡◌, ℕ, ◌<◌, ◌≤◌, List, [], ◌∷◌}
+use Rattle.std.specs.Prelude.{◌≡◌, ℕ, ◌<◌, List, [], ◌∷◌}
 use Rattle.rationals.specs.Rational.{ℚ, zero_ℚ, one_ℚ, ◌+ℚ◌, ◌*ℚ◌, neg_ℚ, ◌≤ℚ◌, ◌<ℚ◌}
 use Rattle.rationals.specs.Sums.{sum_ℚ}
 use Rattle.rationals.specs.Sparse.{Entry, Ascending, product}
-use Rattle.lp_defs.specs.Lines.{Line, value_at}
+use Rattle.lp_defs.specs.Lines.{value_at}
 use Rattle.lp_defs.specs.Path.{Row, Tableau}
 use Rattle.lp_defs.specs.Linear.{AllLines, AllRows}
 use Rattle.lp_defs.specs.Ends.{unit, IsPoint}

@@ -1,12 +1,12 @@
 -- What the ends of a path say.
-use Rattle.std.specs.Prelude.{◌≡◌, ℕ, ◌<◌, ◌≤◌, Bool, true, false, cond, eqb, List, [], ◌∷◌, Option, Some, None, length}
-use Rattle.rationals.specs.Rational.{ℚ, zero_ℚ, one_ℚ, ◌+ℚ◌, ◌-ℚ◌, ◌*ℚ◌, ◌/ℚ◌, neg_ℚ, ◌≤ℚ◌, ◌<ℚ◌}
-use Rattle.rationals.specs.Sums.{sum_ℚ, dot}
+use Rattle.std.specs.Prelude.{◌≡◌, ℕ, ◌<◌, ◌≤◌, eqb, List, Option, Some, None, length}
+use Rattle.rationals.specs.Rational.{ℚ, zero_ℚ, one_ℚ, ◌/ℚ◌, ◌≤ℚ◌, ◌<ℚ◌}
+use Rattle.rationals.specs.Sums.{dot}
 use Rattle.rationals.specs.Sparse.{Entry, value_if, product}
 use Rattle.lp_defs.specs.Path.{Candidate}
-use Rattle.lp_defs.specs.Lines.{Line, value_at}
-use Rattle.lp_defs.specs.Path.{Row, Tableau, Ending, Done, Open, TooLong, Stopped, entering, path, row_at}
-use Rattle.lp_defs.specs.Linear.{Solves, AllLines, AllRows, values, rights}
+use Rattle.lp_defs.specs.Lines.{value_at}
+use Rattle.lp_defs.specs.Path.{Row, Tableau, Ending, Done, Open, TooLong, Stopped, entering, row_at}
+use Rattle.lp_defs.specs.Linear.{AllLines, AllRows, values, rights}
 
 -- the row of a candidate has the least quotient
 pub record IsChosen (j : ℕ) (rows : List Row) (c : Candidate) : Type 0 where

@@ -1,6 +1,6 @@
 -- What lines mean: linear equations.
-use Rattle.std.specs.Prelude.{◌≡◌, ℕ, ◌<◌, ◌≤◌, suc, List, [], ◌∷◌, map, ◌↔◌}
-use Rattle.rationals.specs.Rational.{ℚ, zero_ℚ, one_ℚ, ◌+ℚ◌, ◌-ℚ◌, ◌*ℚ◌, ◌/ℚ◌, ◌≤ℚ◌, ◌<ℚ◌}
+use Rattle.std.specs.Prelude.{◌≡◌, ℕ, List, [], ◌∷◌}
+use Rattle.rationals.specs.Rational.{ℚ, zero_ℚ, ◌-ℚ◌, ◌*ℚ◌}
 use Rattle.rationals.specs.Sums.{dot}
 use Rattle.rationals.specs.Sparse.{Entry, product}
 use Rattle.lp_defs.specs.Lines.{Line}

@@ -1,5 +1,5 @@
 -- Lines of a tableau: sparse forms with a right side, and the checked walks that combine them.
-use Rattle.std.specs.Prelude.{◌≡◌, ℕ, Bool, true, false, ◌+◌, List, [], ◌∷◌, ◌++◌, Result, Ok, Err, cond, eqb, ltb}
+use Rattle.std.specs.Prelude.{ℕ, true, false, List, [], ◌∷◌, ◌++◌, Ok, cond, eqb, ltb}
 use Rattle.rationals.specs.Passes.{then_walk, sub_walk, mul_walk, div_walk}
 use Rattle.rationals.specs.Rational.{ℚ, zero_ℚ}
 use Rattle.lp_defs.specs.Tests.{is_zero}

@@ -1,7 +1,7 @@
 -- What the certificates mean for all points of a program.
 use Rattle.std.specs.Prelude.{◌≡◌, ℕ, List}
-use Rattle.rationals.specs.Rational.{ℚ, zero_ℚ, ◌+ℚ◌, ◌*ℚ◌, ◌≤ℚ◌, ◌<ℚ◌}
-use Rattle.rationals.specs.Sparse.{Entry, product}
+use Rattle.rationals.specs.Rational.{ℚ, zero_ℚ, ◌+ℚ◌, ◌*ℚ◌, ◌≤ℚ◌}
+use Rattle.rationals.specs.Sparse.{product}
 use Rattle.lp_defs.specs.Program.{Program, IsProgram}
 use Rattle.lp_defs.specs.Certificates.{IsFeasible, IsOptimal, IsInfeasible, IsUnbounded}
 

@@ -1,5 +1,5 @@
 -- The parts of a solve: artificial columns, the objective row that a phase begins with, and the pivots on artificial columns that are left.
-use Rattle.std.specs.Prelude.{ℕ, zero, suc, Bool, true, false, ◌+◌, ◌&&◌, not, ltb, List, [], ◌∷◌, ◌++◌, Option, Some, None, Ok, Err}
+use Rattle.std.specs.Prelude.{ℕ, zero, suc, true, false, ◌+◌, ◌&&◌, not, ltb, List, [], ◌∷◌, ◌++◌, Option, Some, None, Ok, Err}
 use Rattle.rationals.specs.Rational.{ℚ, zero_ℚ, one_ℚ, neg_ℚ}
 use Rattle.rationals.specs.Passes.{Operation, then_walk, sub_walk}
 use Rattle.rationals.specs.Sparse.{Entry}

@@ -1,11 +1,10 @@
 -- The whole path of a program: phase one, the pivots on artificial columns that are left, phase two.
-use Rattle.std.specs.Prelude.{ℕ, Bool, true, false, ◌+◌, ◌-◌, length, List, [], Ok, Err}
+use Rattle.std.specs.Prelude.{ℕ, true, false, ◌-◌, length, List, [], Ok, Err}
 use Rattle.rationals.specs.Rational.{ℚ}
 use Rattle.rationals.specs.Passes.{Operation}
 use Rattle.rationals.specs.Sparse.{Entry}
 use Rattle.lp_defs.specs.Tests.{is_below_zero}
 use Rattle.lp_defs.specs.Walks.{Walk}
-use Rattle.lp_defs.specs.Lines.{Line}
 use Rattle.lp_defs.specs.Program.{Program}
 use Rattle.lp_defs.specs.Path.{Row, Tableau, Ending, Done, Open, TooLong, Stopped, path}
 use Rattle.lp_defs.specs.Basis.{point, ray}

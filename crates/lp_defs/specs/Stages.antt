@@ -1,6 +1,6 @@
 -- What holds of the tableau at each stage of a solve.
-use Rattle.std.specs.Prelude.{◌≡◌, ℕ, zero, suc, ◌+◌, ◌<◌, ◌≤◌, ◌⊎◌, length, List}
-use Rattle.rationals.specs.Rational.{ℚ, zero_ℚ}
+use Rattle.std.specs.Prelude.{◌≡◌, ℕ, ◌+◌, ◌<◌, ◌⊎◌, length, List}
+use Rattle.rationals.specs.Rational.{zero_ℚ}
 use Rattle.rationals.specs.Sparse.{Entry, product, Ascending}
 use Rattle.lp_defs.specs.Path.{Row, Tableau}
 use Rattle.lp_defs.specs.Linear.{AllLines, AllRows, IsTied}

@@ -1,13 +1,13 @@
 -- Tests of a number's sign.
-use Rattle.std.proofs.Common.{◌≡◌, ℕ, ◌<◌, ◌≤◌, ◌≤ℤ◌, ◌<ℤ◌, subst, ltb, ℤ, negsuc, zero, suc, List, [], ◌∷◌, true, refl, sym, ap, ◌∙◌, arith}
-use Rattle.std.proofs.lemmas.Bool.{false≢true, lt-ltb, ltb-true, ltb-false}
+use Rattle.std.proofs.Common.{◌≡◌, ℕ, ◌≤ℤ◌, ◌<ℤ◌, subst, ℤ, negsuc, zero, suc, true, refl, sym, ap, ◌∙◌, arith}
+use Rattle.std.proofs.lemmas.Bool.{false≢true}
 use Rattle.std.proofs.lemmas.Int.{ints}
 use Rattle.std.specs.Prelude.{Bool, false, pos, int_lt, ◌*ℤ◌}
 use Rattle.std.specs.Ordering.{int_eq, MatchOrdering}
 use Rattle.std.specs.Cmp.{int_ranks}
 use Rattle.std.specs.declared.cmp.Ordering.{Ordering}
 use Rattle.std.specs.declared.cmp.Ordering.TheVariants.{Less, Equal, Greater}
-use Rattle.rationals.specs.Rational.{ℚ, zero_ℚ, sign_ℚ, sign_of, same_ℚ, frac_self, frac_le, frac_le_to, ◌≤ℚ◌, ◌<ℚ◌, ◌÷◌, lt_of_not_le_ℚ, ne_of_gt_ℚ}
+use Rattle.rationals.specs.Rational.{ℚ, zero_ℚ, sign_ℚ, sign_of, same_ℚ, frac_self, frac_le, frac_le_to, ◌≤ℚ◌, ◌<ℚ◌, ◌÷◌, lt_of_not_le_ℚ}
 use Rattle.rationals.specs.Order.{cross, compare}
 use Rattle.rationals.proofs.Lowest.{zero_from_num, num_zero}
 

@@ -1,5 +1,5 @@
 -- Pivots one after another, as a path makes them, and the law that no basis stands twice among them.
-use Rattle.std.specs.Prelude.{◌≡◌, ℕ, zero, suc, ◌<◌, List, [], ◌∷◌, ◌++◌, Option, Some, None, Ok, Err, ◌↔◌}
+use Rattle.std.specs.Prelude.{◌≡◌, ℕ, zero, suc, List, [], ◌∷◌, ◌++◌, Option, Some, None, Ok, Err, ◌↔◌}
 use Rattle.lp_defs.specs.Walks.{Walk}
 use Rattle.rationals.specs.Sparse.{Entry}
 use Rattle.lp_defs.specs.Path.{Candidate}

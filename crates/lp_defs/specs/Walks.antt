@@ -1,7 +1,6 @@
 -- Walks: chains of operations that end at the first one that passes 128 bits.
 use Rattle.std.specs.Prelude.{◌≡◌, Result, Ok, Err}
 use Rattle.std.proofs.Common.{refl}
-use Rattle.rationals.specs.declared.Op.{Op}
 use Rattle.rationals.specs.declared.Op.TheVariants.{Sub, Mul, Div}
 use Rattle.rationals.specs.Rational.{ℚ, ◌-ℚ◌, ◌*ℚ◌, ◌/ℚ◌}
 use Rattle.rationals.specs.Passes.{Operation, then_walk, sub_walk, mul_walk, div_walk}

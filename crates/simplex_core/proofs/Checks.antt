@@ -1,12 +1,12 @@
 -- What the tests of a program's parts say.
-use Rattle.std.proofs.Common.{◌≡◌, ℕ, zero, suc, ◌<◌, ◌≤◌, ◌||◌, ◌&&◌, ◌^◌, eqb, length, Bool, true, false, ltb, List, [], ◌∷◌, refl, sym, ap, ◌∙◌, arith}
+use Rattle.std.proofs.Common.{◌≡◌, ℕ, suc, ◌<◌, ◌≤◌, ◌||◌, ◌&&◌, ◌^◌, eqb, length, Bool, true, false, ltb, List, [], ◌∷◌, refl, arith}
 use Rattle.std.specs.Prelude.{leb}
 use Rattle.std.proofs.lemmas.Bool.{false≢true, ltb-true, ltb-false, lt-ltb, leb-true, leb-false, eqb-true, eq-eqb}
-use Rattle.rationals.specs.Rational.{ℚ, zero_ℚ, ◌≤ℚ◌, not_le_of_lt_ℚ}
+use Rattle.rationals.specs.Rational.{ℚ, not_le_of_lt_ℚ}
 use Rattle.rationals.specs.Sparse.{Entry, Ascending}
-use Rattle.rationals.specs.Forms.{IsForm, AllNonzero, EndsBelow}
+use Rattle.rationals.specs.Forms.{AllNonzero, EndsBelow}
 use Rattle.lp_defs.specs.Tests.{is_zero, is_zero_true, is_zero_false, is_below_zero, is_below_zero_true, is_below_zero_false}
-use Rattle.lp_defs.specs.Program.{Program, IsProgram, IsFormBelow, AllFormsBelow, NoneNegative}
+use Rattle.lp_defs.specs.Program.{IsProgram, IsFormBelow, AllFormsBelow, NoneNegative}
 use Rattle.simplex_core.specs.Checks.{form_below, forms_below, none_negative, is_program}
 
 -- what the test says of a list from column m on

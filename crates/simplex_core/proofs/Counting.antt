@@ -1,5 +1,5 @@
 -- One more column of many.
-use Rattle.std.proofs.Common.{◌≡◌, ℕ, suc, ◌<◌, ◌+◌, ◌-◌, List, [], ◌∷◌, ◌++◌, Result, Ok, Err, refl, sym, ap, ◌∙◌, subst, arith, append_assoc, add-one}
+use Rattle.std.proofs.Common.{◌≡◌, ℕ, suc, ◌<◌, ◌+◌, ◌-◌, List, [], ◌∷◌, ◌++◌, Result, Ok, Err, sym, ap, ◌∙◌, subst, arith, append_assoc, add-one}
 use Rattle.rationals.specs.Rational.{ℚ, one_ℚ, neg_ℚ}
 use Rattle.rationals.specs.Passes.{Operation, sub_walk, then_walk}
 use Rattle.rationals.specs.Sparse.{Entry}

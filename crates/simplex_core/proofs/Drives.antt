@@ -1,5 +1,5 @@
 -- How the pivots on artificial columns go on.
-use Rattle.std.proofs.Common.{◌≡◌, ℕ, zero, suc, ◌<◌, ◌≤◌, ◌+◌, ◌-◌, List, Option, Some, None, Result, Ok, Err, length, get_or, refl, sym, ap, ◌∙◌, subst, arith}
+use Rattle.std.proofs.Common.{◌≡◌, ℕ, zero, suc, ◌<◌, ◌+◌, ◌-◌, List, Option, Some, None, Result, Ok, Err, length, get_or, sym, ap, ◌∙◌, subst, arith}
 use Rattle.std.specs.Prelude.{IfOk}
 use Rattle.frac128.specs.declared.form.FormFault.{FormFault}
 use Rattle.frac128.specs.declared.form.FormFault.TheVariants as fault
@@ -10,12 +10,12 @@ use Rattle.rationals.specs.Passes.{Operation}
 use Rattle.rationals.specs.Sparse.{Ascending}
 use Rattle.lp_defs.specs.Lines.{value_at}
 use Rattle.lp_defs.specs.Path.{Row, Tableau, pivoted, row_at}
-use Rattle.lp_defs.specs.Phases.{replacing, Driven, Driven_out, Driven_long, Driven_stop, driven_at, driven_by, driven}
+use Rattle.lp_defs.specs.Phases.{replacing, Driven, Driven_long, Driven_stop, driven_at, driven_by, driven}
 use Rattle.lp_defs.specs.Stages.{HasRisen}
 use Rattle.lp_defs.proofs.Ready.{replaces, lines_at}
 use Rattle.simplex_core.specs.declared.drive.Driven.{Driven as End}
 use Rattle.simplex_core.specs.declared.drive.Driven.TheVariants as end
-use Rattle.simplex_core.specs.Drove.{Drove, DroveWithin, StopsDrive}
+use Rattle.simplex_core.specs.Drove.{Drove, StopsDrive}
 use Rattle.simplex_core.proofs.Pivots.{row_is}
 
 -- the column that was found for a row

@@ -1,5 +1,5 @@
 -- What the steps of a path say of the whole.
-use Rattle.std.proofs.Common.{◌≡◌, ℕ, suc, ◌<◌, ◌+◌, ◌-◌, Result, Ok, Err, refl, sym, ap, ◌∙◌, subst}
+use Rattle.std.proofs.Common.{◌≡◌, ℕ, ◌<◌, ◌+◌, ◌-◌, Result, Ok, Err, sym, ap, ◌∙◌, subst}
 use Rattle.std.specs.Prelude.{IfOk}
 use Rattle.frac128.specs.declared.form.FormFault.{FormFault}
 use Rattle.frac128.specs.declared.form.FormFault.TheVariants as fault

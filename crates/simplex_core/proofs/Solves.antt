@@ -1,17 +1,16 @@
 -- From the parts of a solve to its answer.
-use Rattle.std.proofs.Common.{◌≡◌, ℕ, zero, suc, ◌+◌, ◌-◌, ◌*◌, ◌^◌, ◌≤◌, Bool, true, false, not, List, [], Result, Ok, Err, Some, length, refl, sym, ap, ap₂, ◌∙◌, subst, arith}
+use Rattle.std.proofs.Common.{◌≡◌, ℕ, ◌+◌, ◌-◌, ◌*◌, ◌^◌, ◌≤◌, Bool, true, false, List, [], Result, Ok, length, sym, ap, ap₂, ◌∙◌, subst, arith}
 use Rattle.std.specs.Prelude.{IfOk}
-use Rattle.rationals.specs.Rational.{ℚ, zero_ℚ, ◌≤ℚ◌}
-use Rattle.rationals.specs.Passes.{Operation}
+use Rattle.rationals.specs.Rational.{ℚ}
 use Rattle.rationals.specs.Sparse.{Entry, coefficient}
 use Rattle.frac128.specs.declared.memory.Memory.{Memory}
 use Rattle.lp_defs.specs.Tests.{is_below_zero, is_below_zero_false}
 use Rattle.lp_defs.specs.Walks.{Walk}
 use Rattle.lp_defs.specs.Lines.{Line}
-use Rattle.lp_defs.specs.Path.{Row, Tableau, Ending, Done, Open, entering, path}
-use Rattle.lp_defs.specs.Ends.{EndsWell, NoneAbove}
-use Rattle.lp_defs.specs.Basis.{IsUnits, point, ray}
-use Rattle.lp_defs.specs.Phases.{unit_rows, with_units, unit_costs, cost_line, priced, Driven, Driven_out, driven, first_duals, unit_duals}
+use Rattle.lp_defs.specs.Path.{Row, Tableau, Done, Open, path}
+use Rattle.lp_defs.specs.Ends.{EndsWell}
+use Rattle.lp_defs.specs.Basis.{point, ray}
+use Rattle.lp_defs.specs.Phases.{unit_rows, with_units, unit_costs, cost_line, priced, Driven_out, driven, first_duals, unit_duals}
 use Rattle.lp_defs.specs.Program.{Program, IsProgram, EndsInUnits}
 use Rattle.lp_defs.specs.Solution.{Solution, Optimum, Nowhere, Endless, Cut_off, counted, first_rows, first_cost, first_end, second_end, second, between, solution}
 use Rattle.lp_defs.specs.Stages.{First, Driving, DrivenOut, Second}

@@ -1,8 +1,7 @@
 -- How walks go on.
-use Rattle.std.proofs.Common.{◌≡◌, ℕ, ◌≤◌, List, [], ◌∷◌, ◌++◌, Ok, Err, ◌⊎◌, inl, inr, length, drop, refl, sym, ap, ◌∙◌, append_assoc}
+use Rattle.std.proofs.Common.{◌≡◌, ℕ, ◌≤◌, List, [], ◌∷◌, ◌++◌, Ok, ◌⊎◌, inl, inr, length, drop, refl, sym, ap, ◌∙◌, append_assoc}
 use Rattle.std.proofs.lemmas.List.{append-nil, drop_all}
 use Rattle.rationals.specs.Rational.{ℚ}
-use Rattle.lp_defs.specs.Walks.{Walk}
 use Rattle.rationals.specs.Sparse.{Entry}
 use Rattle.lp_defs.specs.Lines.{less_entries, less_right}
 

@@ -1,5 +1,5 @@
 -- Tests of the parts of a program.
-use Rattle.std.specs.Prelude.{ℕ, zero, suc, Bool, true, false, ◌||◌, ◌&&◌, ◌^◌, ltb, leb, eqb, length, List, [], ◌∷◌}
+use Rattle.std.specs.Prelude.{ℕ, suc, Bool, true, false, ◌||◌, ◌&&◌, ◌^◌, ltb, leb, eqb, length, List, [], ◌∷◌}
 use Rattle.rationals.specs.Rational.{ℚ}
 use Rattle.rationals.specs.Sparse.{Entry}
 use Rattle.lp_defs.specs.Tests.{is_zero, is_below_zero}

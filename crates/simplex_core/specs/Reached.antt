@@ -1,5 +1,5 @@
 -- How the code's steps and ends tell the path's.
-use Rattle.std.specs.Prelude.{◌≡◌, ℕ, suc, ◌+◌, ◌≤◌, Result, Ok, Err, Some, None}
+use Rattle.std.specs.Prelude.{◌≡◌, ℕ, suc, ◌+◌, ◌≤◌, Result, Ok, Err}
 use Rattle.frac128.specs.declared.form.FormFault.{FormFault}
 use Rattle.frac128.specs.declared.form.FormFault.TheVariants as fault
 use Rattle.frac128.specs.declared.memory.Memory.{Memory}

@@ -1,12 +1,11 @@
 //! Lines of a tableau.
 ghost use Rattle.std.specs.Prelude.{◌≡◌, ◌≢◌, OnOk, []};
-ghost use Rattle.std.specs.Result.{IsOkUnless};
 ghost use Rattle.lp_defs.specs.Lines.{value_at, keep, less_walk, less_entries, divided_entries, divided, cleared, cleared_by};
 ghost use Rattle.rationals.specs.Rational.{zero_ℚ};
 ghost use Rattle.simplex_core.specs.Gives.{Gives};
 
 use crate::sign::is_zero;
-use frac128::{FormFault, Frac, Passed, Term};
+use frac128::{FormFault, Frac, Memory, Passed, Term};
 use std::marker::Model;
 use std::mem;
 
@@ -37,15 +36,16 @@ pub fn find(entries: &[Term], column: u64) -> Frac
     Frac::zero()
 }
 
+#[inline(always)]
 fn less(factor: Frac, from: Frac, times: Frac) -> Result<Frac, Passed>
     ensures { result ≡ less_walk factor from times }
 {
     from.sub(factor.mul(times)?)
 }
 
-fn push(done: &mut Vec<Term>, column: u64, value: Frac) -> Result<(), FormFault>
-    ensures items { OnOk result (done.new.items ≡ keep done.old.items column value) }
-    ensures memory { IsOkUnless result FormFault.Memory }
+#[inline(always)]
+fn push(done: &mut Vec<Term>, column: u64, value: Frac) -> Result<(), Memory>
+    ensures { OnOk result (done.new.items ≡ keep done.old.items column value) }
 {
     if !is_zero(value) {
         done.push(Term { column, value })?;

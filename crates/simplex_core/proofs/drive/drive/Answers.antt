@@ -1,4 +1,4 @@
-use Rattle.std.proofs.Common.{◌≡◌, ◌<◌, ◌≤◌, ◌+◌, ◌-◌, List, length, arith, Some, None, ap, sym, ◌∙◌}
+use Rattle.std.proofs.Common.{◌≡◌, ◌<◌, ◌≤◌, ◌-◌, List, length, arith, Some, None, ap, ◌∙◌}
 use Rattle.lp_defs.specs.Phases.{replacing}
 use Rattle.lp_defs.specs.Path.{Row, row_at}
 use Rattle.lp_defs.proofs.Basic.{pivot_rises}

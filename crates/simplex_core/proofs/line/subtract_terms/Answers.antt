@@ -1,4 +1,4 @@
-use Rattle.std.proofs.Common.{◌≡◌, ◌≤◌, ◌⊎◌, inl, inr, length, ◌∙◌}
+use Rattle.std.proofs.Common.{◌≤◌, ◌⊎◌, inl, inr, length, ◌∙◌}
 use Rattle.std.proofs.lemmas.List.{take_rest}
 use Rattle.simplex_core.proofs.Walks.{rest_is}
 use Rattle.simplex_core.proofs.line.subtract_terms.Goals as goal

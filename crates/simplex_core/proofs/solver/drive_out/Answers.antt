@@ -1,5 +1,4 @@
-use Rattle.std.proofs.Common.{◌≡◌, ◌-◌, length, ap}
-use Rattle.lp_defs.specs.Phases.{Driven, Driven_out, driven}
+use Rattle.std.proofs.Common.{◌-◌, ap}
 use Rattle.lp_defs.specs.Solution.{between}
 use Rattle.simplex_core.proofs.Solves.{renamed, driven_is, driven_ready}
 use Rattle.simplex_core.proofs.solver.drive_out.Goals as goal

@@ -1,5 +1,4 @@
 use Rattle.std.proofs.Common.{ap, ◌∙◌}
-use Rattle.rationals.specs.Rational.{ℚ}
 use Rattle.lp_defs.specs.Tests.{is_below_zero}
 use Rattle.lp_defs.specs.Lines.{Line}
 use Rattle.simplex_core.proofs.Solves.{renamed, driving_ready, feasible_is}

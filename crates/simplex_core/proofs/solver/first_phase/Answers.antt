@@ -1,5 +1,4 @@
-use Rattle.std.proofs.Common.{◌≡◌, ap}
-use Rattle.lp_defs.specs.Path.{Done, Open, path}
+use Rattle.std.proofs.Common.{ap}
 use Rattle.lp_defs.specs.Solution.{first_end}
 use Rattle.simplex_core.proofs.Solves.{renamed, from_start, reached_done, reached_open, first_done, first_open}
 use Rattle.simplex_core.proofs.solver.first_phase.Goals as goal

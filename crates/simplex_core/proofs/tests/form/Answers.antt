@@ -1,4 +1,4 @@
-use Rattle.std.proofs.Common.{◌+◌, ◌∙◌, ap, sym, subst}
+use Rattle.std.proofs.Common.{◌+◌, ◌∙◌, sym, subst}
 use Rattle.rationals.specs.Forms.{EndsBelow}
 use Rattle.simplex_core.proofs.Columns.{below_more, below_pushed}
 use Rattle.simplex_core.proofs.tests.form.Goals as goal

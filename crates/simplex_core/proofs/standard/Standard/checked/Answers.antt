@@ -1,4 +1,4 @@
-use Rattle.std.proofs.Common.{◌≡◌, Bool, true, false, List, sym, ap₂, ◌∙◌}
+use Rattle.std.proofs.Common.{List, sym, ap₂, ◌∙◌}
 use Rattle.rationals.specs.Rational.{ℚ}
 use Rattle.rationals.specs.Sparse.{Entry}
 use Rattle.simplex_core.specs.Checks.{is_program}

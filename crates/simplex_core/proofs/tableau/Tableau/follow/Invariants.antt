@@ -1,4 +1,4 @@
-use Rattle.std.proofs.Common.{◌≡◌, ◌≤◌, ◌-◌}
+use Rattle.std.proofs.Common.{◌≡◌, ◌-◌}
 use Rattle.lp_defs.specs.Path.{path}
 use Rattle.simplex_core.proofs.tableau.Tableau.follow.Given as goal
 

@@ -1,9 +1,9 @@
-use Rattle.std.proofs.Common.{rules, arith, ◌≡◌, ◌<◌, length, ℕ, Err, Ok, List, [], ◌∷◌, ◌++◌, ◌∙◌, sym, ap, subst}
+use Rattle.std.proofs.Common.{arith, ◌≡◌, List, [], ◌∙◌, sym, ap}
 use Rattle.std.specs.List.{insert}
 use Rattle.std.specs.Vec.{with_items}
 use Rattle.std.proofs.lemmas.List.{with_items_is}
-use Rattle.lp_defs.specs.Lines.{Line, divided, cleared}
-use Rattle.lp_defs.specs.Path.{Tableau, Row, pivoted, pivoted_by, cleared_rows}
+use Rattle.lp_defs.specs.Lines.{divided, cleared}
+use Rattle.lp_defs.specs.Path.{Row, pivoted, cleared_rows}
 use Rattle.simplex_core.proofs.Pivots.{carry, begins, pivot_entry, at_divide, at_rows, at_objective, at_end}
 use Rattle.simplex_core.proofs.tableau.Tableau.pivot.Goals as goal
 

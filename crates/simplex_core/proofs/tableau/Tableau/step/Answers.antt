@@ -1,7 +1,7 @@
-use Rattle.std.proofs.Common.{◌≡◌, ◌<◌, length, List, Ok, Some, None, ap, sym, ◌∙◌, subst, Option}
+use Rattle.std.proofs.Common.{◌<◌, length, sym, subst}
 use Rattle.rationals.specs.Rational.{zero_ℚ, ◌<ℚ◌, ne_of_gt_ℚ}
 use Rattle.lp_defs.specs.Lines.{value_at}
-use Rattle.lp_defs.specs.Path.{Row, Tableau, Candidate, leaving, row_at}
+use Rattle.lp_defs.specs.Path.{Candidate, row_at}
 use Rattle.lp_defs.specs.Ends.{IsChosen}
 use Rattle.simplex_core.proofs.Paths.{chosen_is}
 use Rattle.simplex_core.proofs.tableau.Tableau.step.Goals as goal
