@@ -11,4 +11,4 @@ pub mod Above
 pub mod Recession
 pub mod Valid
 pub mod Runs
-pub mod Cover
+pub mod CoverLaws

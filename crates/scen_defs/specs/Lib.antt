@@ -6,3 +6,4 @@ pub mod Flat
 pub mod Valid
 pub mod Laws
 pub mod Fits
+pub mod Cover

@@ -1,6 +1,9 @@
 -- What the type of a program keeps.
-use Rattle.std.proofs.Common.{◌≡◌, ℕ, suc, ◌<◌, Bool, true, false, ◌||◌, eqb, leb, List, [], ◌∷◌, map, length, Option, Some, None}
-use Rattle.rationals.specs.Rational.{zero_ℚ, one_ℚ, ◌<ℚ◌}
+use Rattle.std.proofs.Common.{◌≡◌, ℕ, zero, suc, ◌<◌, ◌≤◌, ◌^◌, is_some, Bool, true, false, ◌||◌, eqb, leb, List, [], ◌∷◌, map, length, Option, Some, None}
+use Rattle.smps_words.specs.Line.{is_blank}
+use Rattle.smps_words.specs.declared.row_kind.RowKind.{RowKind}
+use Rattle.smps_words.specs.declared.row_kind.RowKind.TheVariants.{Less, Greater, Equal}
+use Rattle.rationals.specs.Rational.{ℚ, zero_ℚ, one_ℚ, ◌<ℚ◌}
 use Rattle.rationals.specs.Sums.{sum_ℚ}
 use Rattle.rationals.specs.Sparse.{Entry}
 use Rattle.scen_defs.specs.Lists.{Each, is_in, places, passes_at}
@@ -10,6 +13,45 @@ use Rattle.scen_defs.specs.declared.program.Column.{Column}
 use Rattle.scen_defs.specs.declared.program.Row.{Row}
 use Rattle.scen_defs.specs.declared.program.NodeRow.{NodeRow}
 
+-- ---- names
+-- a field: at least one byte, none of them a blank or a line feed
+pub record IsField (name : List ℕ) : Type 0 where
+  pub some : 0 < length name
+  pub unbroken : Each (λ b. (is_blank b || eqb b 10) ≡ false) name
+
+-- no two of them are the same
+abbrev pub Differ : List (List ℕ) → Type 0
+Differ [] = Unit {0}
+Differ (name ∷ names) = Each (λ other. other ≡ name → ⊥) names × Differ names
+
+pub record AreNames (names : List (List ℕ)) : Type 0 where
+  pub fields : Each IsField names
+  pub differ : Differ names
+
+-- ---- the ends of rows
+-- row i; past the last one, one of kind L
+abbrev pub row_at : List Row → ℕ → Row
+row_at [] i = record { name = []; stage = 0; kind = Less; range = None }
+row_at (row ∷ rows) zero = row
+row_at (row ∷ rows) (suc i) = row_at rows i
+
+-- whether a row of this kind and range has a low end: an L row only by its range
+abbrev pub has_low : RowKind → Option ℚ → Bool
+has_low Less range = is_some range
+has_low Greater range = true
+has_low Equal range = true
+
+-- and a high end: a G row only by its range
+abbrev pub has_high : RowKind → Option ℚ → Bool
+has_high Less range = true
+has_high Greater range = is_some range
+has_high Equal range = true
+
+pub record HasEnds (row : Row) (r : NodeRow) : Type 0 where
+  pub low : is_some r.low ≡ has_low row.kind row.range
+  pub high : is_some r.high ≡ has_high row.kind row.range
+
+-- ---- nodes
 -- node n is live
 abbrev pub Lives : Program → ℕ → Type 0
 Lives p n = passes_at is_live n p.nodes ≡ true
@@ -28,6 +70,8 @@ HasParent p n stage (Some m) = IsChildOf p n stage m
 pub record FitsRow (p : Program) (stage : ℕ) (r : NodeRow) : Type 0 where
   pub entries : Each (λ (e : Entry). passes_at (λ (c : Column). leb c.stage stage) e.column p.columns ≡ true) r.entries
   pub in_order : InOrder r.low r.high
+  -- it has the ends that its kind and its range give it
+  pub ends : HasEnds (row_at p.rows r.row) r
 
 pub record FitsNode (p : Program) (n : ℕ) (node : Node) : Type 0 where
   pub stage : node.stage < length p.periods
@@ -55,8 +99,27 @@ pub record FitsColumn (p : Program) (c : Column) : Type 0 where
   pub stage : c.stage < length p.periods
   pub in_order : InOrder c.lower c.upper
 
+-- the numbers of columns, rows and nodes have 32 bits
+pub record IsSmall (p : Program) : Type 0 where
+  pub columns : length p.columns < 2 ^ 32
+  pub rows : length p.rows < 2 ^ 32
+  pub nodes : length p.nodes < 2 ^ 32
+  pub scenarios : length p.scenarios < 2 ^ 32
+
+-- the names of periods, columns, rows and scenarios
+pub record HasNames (p : Program) : Type 0 where
+  pub periods : AreNames p.periods
+  pub columns : AreNames (map (λ (c : Column). c.name) p.columns)
+  pub rows : AreNames (map (λ (r : Row). r.name) p.rows)
+  pub scenarios : AreNames (map (λ (s : Scenario). s.name) p.scenarios)
+
 pub record IsProgram (p : Program) : Type 0 where
+  pub small : IsSmall p
+  pub names : HasNames p
+  -- 1 to 16 periods, which are the stages
   pub periods : 0 < length p.periods
+  pub few_periods : length p.periods ≤ 16
+  pub row_stages : Each (λ (r : Row). r.stage < length p.periods) p.rows
   pub columns : Each (FitsColumn p) p.columns
   pub nodes : (n : ℕ) → Lives p n → FitsNode p n (node_at p.nodes n)
   pub scenarios : Each (FitsScenario p) p.scenarios

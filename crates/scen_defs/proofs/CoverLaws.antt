@@ -1,41 +1,15 @@
--- A small program, by computing: X costs 1 and Y 3/2, X + Y is at least 2 or 6, each with probability 1/2.
-use Rattle.std.proofs.Common.{◌≡◌, ℕ, zero, suc, pos, ◌*ℤ◌, ◌≤ℤ◌, true, List, [], ◌∷◌, Option, Some, None, refl, arith}
+-- A small program, by computing.
+use Rattle.std.proofs.Common.{◌≡◌, ℕ, zero, suc, pos, ◌*ℤ◌, ◌≤ℤ◌, true, List, [], ◌∷◌, Option, Some, None, get_or, refl, ap, arith}
 use Rattle.std.proofs.lemmas.Int.{ints}
 use Rattle.rationals.specs.Sums.{sum_ℚ}
-use Rattle.scen_defs.specs.Valid.{Lives, FitsNode, is_reached, IsProgram}
+use Rattle.scen_defs.specs.Valid.{Lives, FitsNode, IsField, is_reached, IsProgram}
+use Rattle.scen_defs.specs.Cover.{cover, policy, dual, CoverLaws}
 use Rattle.scen_defs.proofs.Subtrees.{no}
 use Rattle.rationals.specs.Rational.{one_ℚ, ◌<ℚ◌, lt_of_not_le_ℚ, frac_le_to, ◌÷◌, ◌+ℚ◌, ◌*ℚ◌, neg_ℚ, zero_ℚ, reduce, smaller, divides, nat_divides, same_ℚ}
-use Rattle.smps_words.specs.declared.row_kind.RowKind.TheVariants.{Greater}
 use Rattle.scen_defs.specs.Ends.{worth}
-use Rattle.scen_defs.specs.Program.{Node, Scenario, Program, view_of, node_at}
+use Rattle.scen_defs.specs.Program.{Scenario, view_of, node_at}
 use Rattle.scen_defs.specs.Flat.{cost, reduced, value}
-use Rattle.scen_defs.specs.Values.{At, at}
-
-abbrev pub demand : ℕ → Option Node
-demand d = Some record {
-  stage = 1;
-  parent = Some 0;
-  cost = record { column = 1; value = pos 3 ÷ 2 } ∷ [];
-  rows = record { row = 0; entries = record { column = 0; value = pos 1 ÷ 1 } ∷ record { column = 1; value = pos 1 ÷ 1 } ∷ []; low = Some (pos d ÷ 1); high = None } ∷ [];
-}
-
-abbrev pub cover : Program
-cover = record {
-  objective = [];
-  rhs = [];
-  periods = [] ∷ [] ∷ [];
-  rows = record { name = []; stage = 1; kind = Greater; range = None } ∷ [];
-  columns = record { name = []; stage = 0; lower = Some zero_ℚ; upper = None } ∷ record { name = []; stage = 1; lower = Some zero_ℚ; upper = None } ∷ [];
-  nodes = Some record { stage = 0; parent = None; cost = record { column = 0; value = pos 1 ÷ 1 } ∷ []; rows = [] } ∷ demand 2 ∷ demand 6 ∷ [];
-  scenarios = record { name = []; probability = pos 1 ÷ 2; path = 0 ∷ 1 ∷ [] } ∷ record { name = []; probability = pos 1 ÷ 2; path = 0 ∷ 2 ∷ [] } ∷ [];
-}
-
--- X is 2, and Y is 0 or 4
-abbrev pub policy : List At
-policy = record { node = 0; index = 0; value = pos 2 ÷ 1 } ∷ record { node = 2; index = 1; value = pos 4 ÷ 1 } ∷ []
-
-abbrev pub dual : List At
-dual = record { node = 1; index = 0; value = pos 1 ÷ 4 } ∷ record { node = 2; index = 0; value = pos 3 ÷ 4 } ∷ []
+use Rattle.scen_defs.specs.Values.{at}
 
 pub policy_costs_5 : cost (view_of cover) (at policy) ≡ pos 5 ÷ 1
 unfolding cost zero_ℚ ◌+ℚ◌ ◌*ℚ◌ ◌÷◌ reduce smaller divides nat_divides
@@ -52,8 +26,8 @@ half_positive = lt_of_not_le_ℚ (λ h. let k : (pos 1 *ℤ pos 1) ≤ℤ (pos 0
 
 cover_nodes : (n : ℕ) → Lives cover n → FitsNode cover n (node_at cover.nodes n)
 cover_nodes zero l = record { stage = omega arith; parent = (refl, refl); cost = (refl, tt); numbers = refl; rows = tt }
-cover_nodes (suc zero) l = record { stage = omega arith; parent = record { live = refl; earlier = refl; smaller = omega arith }; cost = (refl, tt); numbers = refl; rows = (record { entries = (refl, (refl, tt)); in_order = tt }, tt) }
-cover_nodes (suc (suc zero)) l = record { stage = omega arith; parent = record { live = refl; earlier = refl; smaller = omega arith }; cost = (refl, tt); numbers = refl; rows = (record { entries = (refl, (refl, tt)); in_order = tt }, tt) }
+cover_nodes (suc zero) l = record { stage = omega arith; parent = record { live = refl; earlier = refl; smaller = omega arith }; cost = (refl, tt); numbers = refl; rows = (record { entries = (refl, (refl, tt)); in_order = tt; ends = record { low = refl; high = refl } }, tt) }
+cover_nodes (suc (suc zero)) l = record { stage = omega arith; parent = record { live = refl; earlier = refl; smaller = omega arith }; cost = (refl, tt); numbers = refl; rows = (record { entries = (refl, (refl, tt)); in_order = tt; ends = record { low = refl; high = refl } }, tt) }
 cover_nodes (suc (suc (suc n))) l = absurd (no refl l)
 
 cover_reached : (n : ℕ) → Lives cover n → is_reached n cover.scenarios ≡ true
@@ -65,6 +39,15 @@ cover_reached (suc (suc (suc n))) l = absurd (no refl l)
 pub cover_is_program : IsProgram cover
 unfolding zero_ℚ one_ℚ ◌+ℚ◌ ◌*ℚ◌ ◌÷◌ reduce smaller divides nat_divides
 cover_is_program = record {
+  small = record { columns = omega arith; rows = omega arith; nodes = omega arith; scenarios = omega arith };
+  names = record {
+    periods = record { fields = (record { some = omega arith; unbroken = (refl, (refl, tt)) }, (record { some = omega arith; unbroken = (refl, (refl, tt)) }, tt)); differ = (((λ e. let q : 50 ≡ 49 = ap (λ (l : List ℕ). get_or l 1 0) e in omega (arith, q)), tt), (tt, tt)) };
+    columns = record { fields = (record { some = omega arith; unbroken = (refl, tt) }, (record { some = omega arith; unbroken = (refl, tt) }, tt)); differ = (((λ e. let q : 89 ≡ 88 = ap (λ (l : List ℕ). get_or l 0 0) e in omega (arith, q)), tt), (tt, tt)) };
+    rows = record { fields = (record { some = omega arith; unbroken = (refl, (refl, (refl, (refl, (refl, (refl, tt)))))) }, tt); differ = (tt, tt) };
+    scenarios = record { fields = (record { some = omega arith; unbroken = (refl, (refl, tt)) }, (record { some = omega arith; unbroken = (refl, (refl, tt)) }, tt)); differ = (((λ e. let q : 50 ≡ 49 = ap (λ (l : List ℕ). get_or l 1 0) e in omega (arith, q)), tt), (tt, tt)) };
+  };
+  few_periods = omega arith;
+  row_stages = (omega arith, tt);
   periods = omega arith;
   columns = (record { stage = omega arith; in_order = tt }, (record { stage = omega arith; in_order = tt }, tt));
   nodes = cover_nodes;
@@ -72,3 +55,6 @@ cover_is_program = record {
   reached = cover_reached;
   certain = same_ℚ (sum_ℚ (λ (s : Scenario). s.probability) cover.scenarios) one_ℚ refl;
 }
+
+pub cover_laws : CoverLaws
+cover_laws = record { program = cover_is_program; cost = policy_costs_5; value = dual_is_worth_5 }
