@@ -62,6 +62,7 @@ fn subtract_terms(
 ) -> Result<(), FormFault>
     ensures { Gives (less_entries factor row.now pivot.now done.old.items) result done.new.items }
 {
+    let zero = Frac::zero();
     let mut i = 0;
     let mut j = 0;
     'both: while i < row.len() && j < pivot.len() {
@@ -71,7 +72,7 @@ fn subtract_terms(
             done.push(x)?;
             i += 1;
         } else if y.column < x.column {
-            let value = less(factor, Frac::zero(), y.value)?;
+            let value = less(factor, zero, y.value)?;
             push(done, y.column, value)?;
             j += 1;
         } else {
@@ -84,7 +85,7 @@ fn subtract_terms(
     done.extend_from_slice(&row[i..])?;
     'right: while j < pivot.len() {
         let y = pivot[j];
-        let value = less(factor, Frac::zero(), y.value)?;
+        let value = less(factor, zero, y.value)?;
         push(done, y.column, value)?;
         j += 1;
     }
