@@ -26,6 +26,7 @@ impl Model for Line {
 }
 
 /// The entry of a column.
+#[inline(always)]
 pub fn find(entries: &[Term], column: u64) -> Frac
     ensures { result ≡ value_at entries.now column }
 {
@@ -130,6 +131,7 @@ impl Line {
         self.right
     }
 
+    #[inline(always)]
     pub fn value_at(&self, column: u64) -> Frac
         ensures { result ≡ value_at self.now.entries column }
     {
