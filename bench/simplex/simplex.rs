@@ -71,6 +71,7 @@ fn subtract_terms(
     done: &mut Vec<Term>,
     zero: Frac,
 ) -> Result<(), Passed> {
+    done.reserve(row.len() + pivot.len());
     let (mut i, mut j) = (0, 0);
     while i < row.len() && j < pivot.len() {
         let (x, y) = (row[i], pivot[j]);

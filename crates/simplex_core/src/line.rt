@@ -1,11 +1,12 @@
 //! Lines of a tableau.
-ghost use Rattle.std.specs.Prelude.{◌≡◌, ◌≢◌, OnOk, []};
+ghost use Rattle.std.specs.Prelude.{◌≡◌, ◌≢◌, ◌+◌, ◌<◌, ◌≤◌, []};
+ghost use Rattle.std.specs.Vec.{vec_len, vec_capacity};
 ghost use Rattle.lp_defs.specs.Lines.{value_at, keep, less_walk, less_entries, divided_entries, divided, cleared, cleared_by};
 ghost use Rattle.rationals.specs.Rational.{zero_ℚ};
 ghost use Rattle.simplex_core.specs.Gives.{Gives};
 
 use crate::sign::is_zero;
-use frac128::{FormFault, Frac, Memory, Passed, Term};
+use frac128::{FormFault, Frac, Passed, Term};
 use std::marker::Model;
 use std::mem;
 
@@ -25,6 +26,7 @@ impl Model for Line {
 }
 
 /// The entry of a column.
+#[inline(always)]
 pub fn find(entries: &[Term], column: u64) -> Frac
     ensures { result ≡ value_at entries.now column }
 {
@@ -44,13 +46,15 @@ fn less(factor: Frac, from: Frac, times: Frac) -> Result<Frac, Passed>
 }
 
 #[inline(always)]
-fn push(done: &mut Vec<Term>, column: u64, value: Frac) -> Result<(), Memory>
-    ensures { OnOk result (done.new.items ≡ keep done.old.items column value) }
+fn push(done: &mut Vec<Term>, column: u64, value: Frac)
+    requires { vec_len done.old < vec_capacity done.old }
+    ensures items { done.new.items ≡ keep done.old.items column value }
+    ensures len { vec_len done.new ≤ vec_len done.old + 1 }
+    ensures capacity { vec_capacity done.new ≡ vec_capacity done.old }
 {
     if !is_zero(value) {
-        done.push(Term { column, value })?;
+        done.push_reserved(Term { column, value });
     }
-    Ok(())
 }
 
 /// Appends the entries of `row` less `factor` times those of `pivot`.
@@ -62,21 +66,23 @@ fn subtract_terms(
 ) -> Result<(), FormFault>
     ensures { Gives (less_entries factor row.now pivot.now done.old.items) result done.new.items }
 {
+    done.reserve(row.len() + pivot.len())?;
+    let zero = Frac::zero();
     let mut i = 0;
     let mut j = 0;
     'both: while i < row.len() && j < pivot.len() {
         let x = row[i];
         let y = pivot[j];
         if x.column < y.column {
-            done.push(x)?;
+            done.push_reserved(x);
             i += 1;
         } else if y.column < x.column {
-            let value = less(factor, Frac::zero(), y.value)?;
-            push(done, y.column, value)?;
+            let value = less(factor, zero, y.value)?;
+            push(done, y.column, value);
             j += 1;
         } else {
             let value = less(factor, x.value, y.value)?;
-            push(done, x.column, value)?;
+            push(done, x.column, value);
             i += 1;
             j += 1;
         }
@@ -84,8 +90,8 @@ fn subtract_terms(
     done.extend_from_slice(&row[i..])?;
     'right: while j < pivot.len() {
         let y = pivot[j];
-        let value = less(factor, Frac::zero(), y.value)?;
-        push(done, y.column, value)?;
+        let value = less(factor, zero, y.value)?;
+        push(done, y.column, value);
         j += 1;
     }
     Ok(())
@@ -125,6 +131,7 @@ impl Line {
         self.right
     }
 
+    #[inline(always)]
     pub fn value_at(&self, column: u64) -> Frac
         ensures { result ≡ value_at self.now.entries column }
     {
