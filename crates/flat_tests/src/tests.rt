@@ -9,7 +9,8 @@ use smps_build::single;
 use std::alloc::Global;
 use std::test::Fail;
 
-const MIX: &[u8] = b"NAME MIX\nROWS\n N COST\n L LIM1\n L LIM2\nCOLUMNS\n A COST -3 LIM1 1\n A LIM2 1\n B COST -2 LIM1 1\n B LIM2 3\nRHS\n RHS LIM1 4 LIM2 6\nENDATA\n";
+const MIX: &[u8] =
+    b"NAME MIX\nROWS\n N COST\n L LIM1\n L LIM2\nCOLUMNS\n A COST -3 LIM1 1\n A LIM2 1\n B COST -2 LIM1 1\n B LIM2 3\nRHS\n RHS LIM1 4 LIM2 6\nENDATA\n";
 
 fn program(alloc: Global, text: &[u8]) -> Result<Program, Fail>
     requires { length text.now < 2 ^ 32 - 1 }
@@ -67,8 +68,14 @@ fn calls_beside_plain_sums(rt: HostRuntime) -> Result<(), Fail> {
     let mix = program(rt.alloc(), MIX)?;
     for a in -4i8..7 {
         for b in -3i8..4 {
-            assert!(rt; agrees_at_point(rt.alloc(), &mix, a, b)?, "at the point {a} {b}");
-            assert!(rt; agrees_at_dual(rt.alloc(), &mix, a, b)?, "at the dual {a} {b}");
+            assert!(rt;
+                agrees_at_point(rt.alloc(), &mix, a, b)?,
+                "at the point {a} {b}"
+            );
+            assert!(rt;
+                agrees_at_dual(rt.alloc(), &mix, a, b)?,
+                "at the dual {a} {b}"
+            );
         }
     }
     Ok(())

@@ -1,7 +1,7 @@
 -- The program of one period keeps what a program keeps.
-use Rattle.std.proofs.Common.{◌≡◌, ℕ, zero, suc, ◌+◌, ◌<◌, ◌≤◌, ◌^◌, Bool, true, false, ◌||◌, eqb, leb, List, [], ◌∷◌, ◌++◌, map, length, is_some, Option, Some, None, Result, Ok, Err, refl, sym, ap, ap₂, subst, ◌∙◌, arith, append_assoc, append-nil}
+use Rattle.std.proofs.Common.{◌≡◌, ℕ, zero, suc, ◌+◌, ◌<◌, ◌≤◌, ◌^◌, Bool, true, false, eqb, leb, List, [], ◌∷◌, ◌++◌, map, length, is_some, Option, Some, None, Result, Ok, Err, refl, sym, ap, ap₂, subst, ◌∙◌, arith, append_assoc, append-nil}
 use Rattle.rationals.specs.declared.Op.TheVariants.{Add, Sub}
-use Rattle.rationals.specs.Rational.{ℚ, zero_ℚ, one_ℚ, neg_ℚ, ◌+ℚ◌, ◌-ℚ◌, ◌≤ℚ◌, ◌<ℚ◌, at_most, at_most_true, at_most_false, zero_lt_one_ℚ, lt_le_ℚ, le_refl_ℚ, add_zero_ℚ, by_linear, terms}
+use Rattle.rationals.specs.Rational.{ℚ, zero_ℚ, one_ℚ, neg_ℚ, ◌+ℚ◌, ◌-ℚ◌, ◌≤ℚ◌, at_most, at_most_true, at_most_false, zero_lt_one_ℚ, lt_le_ℚ, le_refl_ℚ, add_zero_ℚ, by_linear, terms}
 use Rattle.rationals.specs.Ring.Given.{nothing, fact, equal}
 use Rattle.rationals.specs.Sparse.{Entry, coefficient}
 use Rattle.rationals.specs.Forms.{is_zero, put, put_unless}
@@ -17,10 +17,10 @@ use Rattle.scen_defs.specs.declared.program.Row.{Row}
 use Rattle.scen_defs.specs.declared.program.NodeRow.{NodeRow}
 use Rattle.scen_defs.specs.Lists.{Each, pick, places, passes_at}
 use Rattle.scen_defs.specs.Ends.{InOrder}
-use Rattle.scen_defs.specs.Program.{Program, is_live, node_at}
-use Rattle.scen_defs.specs.Valid.{AreNames, IsField, Differ, Lives, FitsRow, FitsNode, FitsColumn, HasEnds, has_low, has_high, row_at, is_reached, IsProgram}
+use Rattle.scen_defs.specs.Program.{Program, node_at}
+use Rattle.scen_defs.specs.Valid.{AreNames, Lives, FitsRow, FitsNode, FitsColumn, HasEnds, has_low, has_high, row_at, is_reached, IsProgram}
 use Rattle.scen_defs.proofs.SumLaws.{each-map}
-use Rattle.smps_build.specs.Single.{size, Interval, interval_walk, column_of, row_of, costs_from, entries_from, node_row, rows_from, single_program, single_walk}
+use Rattle.smps_build.specs.Single.{size, Interval, interval_walk, column_of, row_of, costs_from, entries_from, node_row, rows_from, single_program}
 use Rattle.smps_build.specs.Laws.{CoreFits, SinglesArePrograms}
 
 -- ---- one interval
