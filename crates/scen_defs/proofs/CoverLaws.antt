@@ -1,8 +1,8 @@
 -- A small program, by computing.
-use Rattle.std.proofs.Common.{◌≡◌, ℕ, zero, suc, pos, ◌*ℤ◌, ◌≤ℤ◌, true, List, [], ◌∷◌, Option, Some, None, get_or, refl, ap, arith}
+use Rattle.std.proofs.Common.{◌≡◌, ℕ, zero, suc, pos, ◌*ℤ◌, ◌≤ℤ◌, true, List, get_or, refl, ap, arith}
 use Rattle.std.proofs.lemmas.Int.{ints}
 use Rattle.rationals.specs.Sums.{sum_ℚ}
-use Rattle.scen_defs.specs.Valid.{Lives, FitsNode, IsField, is_reached, IsProgram}
+use Rattle.scen_defs.specs.Valid.{Lives, FitsNode, is_reached, IsProgram}
 use Rattle.scen_defs.specs.Cover.{cover, policy, dual, CoverLaws}
 use Rattle.scen_defs.proofs.Subtrees.{no}
 use Rattle.rationals.specs.Rational.{one_ℚ, ◌<ℚ◌, lt_of_not_le_ℚ, frac_le_to, ◌÷◌, ◌+ℚ◌, ◌*ℚ◌, neg_ℚ, zero_ℚ, reduce, smaller, divides, nat_divides, same_ℚ}

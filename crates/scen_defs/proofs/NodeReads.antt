@@ -3,7 +3,7 @@ use Rattle.std.proofs.Common.{◌≡◌, ℕ, zero, suc, ◌+◌, ◌<◌, ◌�
 use Rattle.scen_defs.specs.declared.program.Node.{Node as NodeOf}
 use Rattle.scen_defs.specs.declared.program.Column.{Column}
 use Rattle.scen_defs.specs.Lists.{passes_at}
-use Rattle.scen_defs.specs.Program.{Node, is_live, node_content, place_content, nodes_content, no_node, node_at, column_at}
+use Rattle.scen_defs.specs.Program.{is_live, node_content, place_content, nodes_content, no_node, node_at, column_at}
 
 -- the member that is read, and what follows it
 pub drop_read : {A : Type 0} (xs : List A) (i : ℕ) (x : A) → i < length xs → x ≡ get_or xs i x → drop i xs ≡ x ∷ drop (i + 1) xs

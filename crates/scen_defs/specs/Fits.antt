@@ -1,5 +1,5 @@
 -- Reports whose lists can be printed: each number in them is that of a column or a row of the program.
-use Rattle.std.specs.Prelude.{ℕ, ◌<◌, List, length, Option, IfSome}
+use Rattle.std.specs.Prelude.{ℕ, ◌<◌, List, length, IfSome}
 use Rattle.scen_defs.specs.Lists.{Each}
 use Rattle.scen_defs.specs.Values.{At}
 use Rattle.scen_defs.specs.declared.program.Program.{Program}

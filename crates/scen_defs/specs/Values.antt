@@ -1,5 +1,5 @@
 -- Numbers at nodes: at (node, column) for a point, at (node, row) for multipliers.
-use Rattle.std.specs.Prelude.{◌≡◌, ◌≢◌, ℕ, ◌≤◌, ◌<◌, Bool, true, false, ◌&&◌, eqb, List, [], ◌∷◌}
+use Rattle.std.specs.Prelude.{◌≡◌, ◌≢◌, ℕ, ◌≤◌, ◌<◌, ◌&&◌, eqb, List, [], ◌∷◌}
 use Rattle.rationals.specs.Rational.{ℚ, zero_ℚ}
 use Rattle.scen_defs.specs.Lists.{Each, pick}
 

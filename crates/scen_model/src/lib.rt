@@ -19,8 +19,8 @@ pub use feasibility::{feasible, is_direction};
 pub use fitting::fits;
 pub use laws::{
     costs_are_exact, directions_are_exact, duals_are_exact, infeasibility_is_shown,
-    programs_are_trees, recession_makes_good, recessions_are_trees, tests_are_exact, the_cover_is_worked_out,
-    unboundedness_is_shown, weak_duality_holds,
+    programs_are_trees, recession_makes_good, recessions_are_trees, tests_are_exact,
+    the_cover_is_worked_out, unboundedness_is_shown, weak_duality_holds,
 };
 pub use scen_defs::{
     Column, Finding, Halt, Kind, Node, NodeRow, Place, Program, Report, Row, Scenario, Value,

@@ -3,7 +3,9 @@
 
 mod fault;
 mod interval;
+mod laws;
 mod one_period;
 
 pub use fault::BuildFault;
+pub use laws::singles_are_programs;
 pub use one_period::single;

@@ -1,4 +1,4 @@
-use Rattle.std.proofs.Common.{◌≡◌, ◌<◌, ◌≤◌, drop, ◌+◌, ◌-◌, ◌/◌, length, sym, ap, ◌∙◌, drop_of_length-le, arith}
+use Rattle.std.proofs.Common.{◌≡◌, ◌<◌, drop, ◌+◌, ◌-◌, ◌/◌, length, sym, ap, ◌∙◌, arith}
 use Rattle.scen_defs.specs.Values.{At, at}
 use Rattle.scen_defs.proofs.ValueLaws.{passes-over, nothing-from, found-at}
 use Rattle.scen_defs.proofs.values.value_in.Goals as goal

@@ -1,8 +1,5 @@
-use Rattle.std.proofs.Common.{subst, ap, ◌∙◌}
-use Rattle.scen_defs.specs.Program.{content, view_of}
-use Rattle.scen_defs.specs.Values.{at}
+use Rattle.std.proofs.Common.{subst}
 use Rattle.scen_model.specs.Answers.{AnswersTest}
-use Rattle.scen_model.specs.Walks.{direction_walk}
 use Rattle.scen_model.proofs.feasibility.is_direction.Goals as goal
 
 pub returns : goal.returns
