@@ -35,7 +35,7 @@ rows_are cs built i [] k e = ap Ok (sym (append-nil built))
 rows_are cs built i (r ∷ rs) k e =
     let first : interval_walk r.kind r.rhs r.range ≡ Ok (None, Some r.rhs) = interval_is r (All-head (λ (r : RowDef). r.kind ≡ Less) r rs k) (All-head (λ (r : RowDef). r.range ≡ None) r rs e) in
     rw first (rows_are cs (built ++ node_row cs i (None, Some r.rhs) ∷ []) (suc i) rs (All-tail (λ (r : RowDef). r.kind ≡ Less) r rs k) (All-tail (λ (r : RowDef). r.range ≡ None) r rs e)
-      ∙ ap Ok (append_assoc built (node_row cs i (None, Some r.rhs) ∷ []) (thin_rows cs (suc i) rs)))
+    ∙ ap Ok (append_assoc built (node_row cs i (None, Some r.rhs) ∷ []) (thin_rows cs (suc i) rs)))
 
 rows_length : (cs : List ColumnDef) (i : ℕ) (rs : List RowDef) → length (thin_rows cs i rs) ≡ length rs
 rows_length cs i [] = refl
@@ -105,18 +105,20 @@ thin_is_at_most core program kept thin e =
     let count : length program.columns.items ≡ length cs = ap length columns ∙ map_length column_of cs in
     let row_list : (root.0).rows.items ≡ rows = ap (λ (n : Node). n.rows) root.2 in
     let row_count : length (root.0).rows.items ≡ length core.rows.items = ap length row_list ∙ rows_length cs 0 core.rows.items in
-    let named : length program.rows.items ≡ length core.rows.items = ap length (ap (λ (p : Program). p.rows) whole) ∙ map_length row_of core.rows.items in
-    (root.0, record {
-      root = root.1;
-      stage = ap (λ (n : Node). n.stage) root.2;
-      certain = one_scenario program.scenarios.items (record { name = 83 ∷ 49 ∷ []; probability = one_ℚ; path = 0 ∷ [] }) (ap (λ (p : Program). p.scenarios) whole) refl refl;
-      columns = subst (λ (c : List Column). Each IsFromZero c) (sym columns) (columns_from_zero cs thin.lower thin.upper);
-      rows = subst (λ (r : List NodeRow). AreAtMost (length program.columns.items) 0 r) (sym row_list) (rows_at_most (length program.columns.items) cs 0 core.rows.items (omega arith) thin.no_rhs_below_0);
-      each_row = row_count ∙ sym named;
-      cost = subst (λ (f : List Entry). EndsBelow (length program.columns.items) f) (sym (ap (λ (n : Node). n.cost) root.2)) (costs_below (length program.columns.items) 0 cs (omega arith));
-      few_columns = omega (arith, kept.few_columns);
-      few_rows = omega (arith, kept.few_rows);
-    })
+    let named : length program.rows.items ≡ length core.rows.items = ap length (ap (λ (p : Program). p.rows) whole) ∙ map_length row_of core.rows.items in (
+      root.0,
+      record {
+        root = root.1;
+        stage = ap (λ (n : Node). n.stage) root.2;
+        certain = one_scenario program.scenarios.items (record { name = 83 ∷ 49 ∷ []; probability = one_ℚ; path = 0 ∷ [] }) (ap (λ (p : Program). p.scenarios) whole) refl refl;
+        columns = subst (λ (c : List Column). Each IsFromZero c) (sym columns) (columns_from_zero cs thin.lower thin.upper);
+        rows = subst (λ (r : List NodeRow). AreAtMost (length program.columns.items) 0 r) (sym row_list) (rows_at_most (length program.columns.items) cs 0 core.rows.items (omega arith) thin.no_rhs_below_0);
+        each_row = row_count ∙ sym named;
+        cost = subst (λ (f : List Entry). EndsBelow (length program.columns.items) f) (sym (ap (λ (n : Node). n.cost) root.2)) (costs_below (length program.columns.items) 0 cs (omega arith));
+        few_columns = omega (arith, kept.few_columns);
+        few_rows = omega (arith, kept.few_rows);
+      },
+    )
   where
     result_same : (r : Result Program Operation) (p q : Program) → r ≡ Ok p → r ≡ Ok q → p ≡ q
     result_same r p q h k = cc

@@ -2,10 +2,12 @@
 #![tactic(auto)]
 
 mod answer;
-mod top_call;
 mod solve;
 mod status;
+#[cfg(test)]
+mod tests;
+mod top_call;
 mod words;
 
-pub use top_call::run;
 pub use status::{FileKind, Status};
+pub use top_call::run;

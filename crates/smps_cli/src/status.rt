@@ -96,12 +96,7 @@ fn refused_line(
     numbered_line(alloc, file.word(), line, cause.number())
 }
 
-fn numbered_line(
-    alloc: Global,
-    word: &str,
-    line: u32,
-    number: u32,
-) -> Result<String, AllocError>
+fn numbered_line(alloc: Global, word: &str, line: u32, number: u32) -> Result<String, AllocError>
     ensures { IfOk result (λ text. string_bytes text ≡ refused_text word.now line number) }
 {
     let place = format!(in alloc; " line {line}: ")?;
