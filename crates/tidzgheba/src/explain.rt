@@ -1,4 +1,5 @@
 //! What a status means, in one sentence for the user.
+use mps_core::Cause;
 use smps_cli::{FileKind, Status};
 
 /// The sentence for a status from 2 on. A command that ended has none: its output says all.
@@ -6,9 +7,7 @@ pub fn explanation(status: &Status) -> Option<&'static str> {
     match status {
         Status::Done | Status::SomeOpen => None,
         Status::Words => Some("usage: tidzgheba solve --core FILE"),
-        Status::Refused(_, _, _) => Some(
-            "the file is refused at that line for the cause of that number: docs/CAUSES.md explains each number with an example, docs/FORMATS.md the forms that are read",
-        ),
+        Status::Refused(_, _, cause) => Some(refused(*cause)),
         Status::TooLong(_) => Some("the file has more than 8,388,608 bytes, the most that is read"),
         Status::ReadFault(file) => Some(unread(*file)),
         Status::WriteFault => {
@@ -18,6 +17,14 @@ pub fn explanation(status: &Status) -> Option<&'static str> {
         }
         Status::Memory => {
             Some("memory ran out; what was printed, if anything, is only a part of the output")
+        }
+    }
+}
+
+fn refused(cause: Cause) -> &'static str {
+    match cause {
+        Cause::NotBuilt => {
+            "that line isn't of the forms that are read today: docs/CAUSES.md explains cause 9 with an example, docs/FORMATS.md states the forms"
         }
     }
 }
