@@ -51,6 +51,13 @@ impl Terms {
         Ok(())
     }
 
+    /// No row has a value any more.
+    pub(crate) fn clear(&mut self)
+        ensures { self.new ≡ [] }
+    {
+        self.values.clear();
+    }
+
     /// The values that aren't 0 as a form; afterwards there are none.
     pub(crate) fn take_form(&mut self, alloc: Global) -> Result<Form, AllocError>
         ensures form { IfOk result (λ form. form ≡ nonzero_terms self.old) }
