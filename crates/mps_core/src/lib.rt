@@ -1,21 +1,17 @@
 //! Core files: the reader of the MPS format, and the linear program that it gives.
 #![tactic(auto)]
 
-mod cause;
+mod columns;
 mod draft;
+mod keywords;
 mod number;
-mod parts;
-mod place;
-mod program;
-mod reading;
+mod places;
+mod ranges;
+mod rhs;
 mod rows;
-mod section;
+mod sets;
 mod stop;
 mod terms;
-#[cfg(test)]
-mod tests;
+mod values;
 
-pub use cause::{Cause, ReadFail, Refusal};
-pub use parts::{ColumnDef, RowDef};
-pub use program::Core;
-pub use reading::read_core;
+pub use core_defs::{Cause, ColumnDef, Core, ReadFail, Refusal, RowDef};
