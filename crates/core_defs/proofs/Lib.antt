@@ -1,2 +1,5 @@
 pub mod NameLemmas
 pub mod TermLemmas
+pub mod Gathered
+pub mod LineLemmas
+pub mod RowSteps

@@ -1,0 +1,2 @@
+-- Lines of ROWS.
+use Rattle.std.proofs.Common.{◌≡◌, ℕ}
