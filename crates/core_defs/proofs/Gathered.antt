@@ -88,26 +88,32 @@ filed_of d = record {
 }
 
 -- nothing is there of later sections
-pub record IsEarly (d : Data) : Type 0 where
-  pub named : nat_lt (rank d.section) 3 ≡ true → d.named ≡ []
-  pub pairs : nat_lt (rank d.section) 3 ≡ true → d.pairs ≡ []
-  pub rhs_set : nat_lt (rank d.section) 4 ≡ true → d.rhs_set ≡ None
-  pub rhs_pairs : nat_lt (rank d.section) 4 ≡ true → d.rhs_pairs ≡ []
-  pub range_set : nat_lt (rank d.section) 5 ≡ true → d.range_set ≡ None
-  pub range_pairs : nat_lt (rank d.section) 5 ≡ true → d.range_pairs ≡ []
-  pub bounds : nat_lt (rank d.section) 6 ≡ true → d.bounds ≡ []
+pub record IsEarly (section : Section) (named : List (List ℕ)) (pairs : List Pair) (rhs_set : Option (Option (List ℕ))) (rhs_pairs : List Pair) (range_set : Option (Option (List ℕ))) (range_pairs : List Pair) (bounds : List Bound) : Type 0 where
+  pub no_named : nat_lt (rank section) 3 ≡ true → named ≡ []
+  pub no_pairs : nat_lt (rank section) 3 ≡ true → pairs ≡ []
+  pub no_rhs_set : nat_lt (rank section) 4 ≡ true → rhs_set ≡ None
+  pub no_rhs_pairs : nat_lt (rank section) 4 ≡ true → rhs_pairs ≡ []
+  pub no_range_set : nat_lt (rank section) 5 ≡ true → range_set ≡ None
+  pub no_range_pairs : nat_lt (rank section) 5 ≡ true → range_pairs ≡ []
+  pub no_bounds : nat_lt (rank section) 6 ≡ true → bounds ≡ []
+
+pub record AreRows (free rows : List (List ℕ)) : Type 0 where
+  pub free_differ : Distinct free
+  pub rows_differ : Distinct rows
+  -- no N row has the name of a constraint
+  pub apart : (name : List ℕ) (place : ℕ) → At rows place name → Missing free name
+  pub few : length rows ≤ most_rows
+
+pub record AreColumns (names : List (List ℕ)) (pairs : List Pair) : Type 0 where
+  pub few : length names ≤ most_columns
+  -- a name that is no column has no value
+  pub fresh : (name row : List ℕ) → Missing names name → value_on pairs name row ≡ None
 
 -- what holds behind lines without fault
 pub record Sound (d : Data) : Type 0 where
-  pub free : Distinct (free_in d)
-  pub rows : Distinct (rows_in d)
-  -- no N row has the name of a constraint
-  pub apart : (name : List ℕ) (place : ℕ) → At (rows_in d) place name → Missing (free_in d) name
-  pub few_rows : length (rows_in d) ≤ most_rows
-  pub few_names : length (names_in d) ≤ most_columns
-  -- a name that is no column has no value
-  pub fresh : (name row : List ℕ) → Missing (names_in d) name → value_on d.pairs name row ≡ None
-  pub early : IsEarly d
+  pub rows : AreRows (free_in d) (rows_in d)
+  pub columns : AreColumns (names_in d) d.pairs
+  pub early : IsEarly d.section d.named d.pairs d.rhs_set d.rhs_pairs d.range_set d.range_pairs d.bounds
   pub objective : d.has_columns ≡ true → nat_lt 0 (length (free_in d)) ≡ true
   pub in_order : (name : List ℕ) → are_crossed (bounds_by d.bounds name) ≡ false
 

@@ -1,5 +1,5 @@
 -- Lists of different names, and what is stated name by name.
-use Rattle.std.proofs.Common.{◌≡◌, ◌∙◌, ◌++◌, ◌+◌, ◌<◌, ap, map, length, get_or, set, zero, suc, ℕ, Bool, true, false, List, [], ◌∷◌, Option, Some, None, is_some, refl, sym, subst, append_assoc, append-nil, if◌then◌else◌, arith}
+use Rattle.std.proofs.Common.{◌⊎◌, inl, inr, ◌≡◌, ◌∙◌, ◌++◌, ◌+◌, ◌<◌, ap, map, length, get_or, set, zero, suc, ℕ, Bool, true, false, List, [], ◌∷◌, Option, Some, None, is_some, refl, sym, subst, append_assoc, append-nil, if◌then◌else◌, arith}
 use Rattle.std.specs.Cmp.Lexicographic.{same_text}
 use Rattle.smps_words.specs.Names.{same_name, place_from, place_of, IsNumbered}
 use Rattle.smps_words.proofs.NumberedNames.{same_name_refl}
@@ -97,7 +97,7 @@ own_at (first ∷ names) (suc place) distinct below =
 pub numbered : (names : List (List ℕ)) → Distinct names → IsNumbered names
 numbered names distinct = record { own = λ place below. at_place_from 0 names (get_or names place []) place (own_at names place distinct below) ∙ (let same : 0 + place ≡ place = omega arith in ap Some same) }
 
-missing_snoc : (names : List (List ℕ)) (name other : List ℕ) → Missing names other → same_name other name ≡ false → Missing (names ++ name ∷ []) other
+pub missing_snoc : (names : List (List ℕ)) (name other : List ℕ) → Missing names other → same_name other name ≡ false → Missing (names ++ name ∷ []) other
 missing_snoc [] name other missing apart = (apart, tt)
 missing_snoc (first ∷ names) name other missing apart = (missing.0, missing_snoc names name other missing.1 apart)
 
@@ -144,3 +144,9 @@ abbrev pub front : List (List ℕ) → List (List ℕ)
 front [] = []
 front (_ ∷ []) = []
 front (name ∷ next ∷ names) = name ∷ front (next ∷ names)
+
+pub at_snoc : (names : List (List ℕ)) (name : List ℕ) (place : ℕ) (other : List ℕ) → At (names ++ name ∷ []) place other → (At names place other) ⊎ (same_name other name ≡ true)
+at_snoc [] name zero other at = inr at
+at_snoc [] name (suc place) other at = absurd at.1
+at_snoc (first ∷ names) name zero other at = inl at
+at_snoc (first ∷ names) name (suc place) other at = elim (at_snoc names name place other at.1) [ inl there ↦ inl (at.0, there) | inr same ↦ inr same ]
