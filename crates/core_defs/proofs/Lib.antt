@@ -3,3 +3,5 @@ pub mod TermLemmas
 pub mod Gathered
 pub mod LineLemmas
 pub mod RowSteps
+pub mod PairLemmas
+pub mod ColumnSteps

@@ -3,6 +3,8 @@ use Rattle.std.proofs.Common.{◌⊎◌, inl, inr, ◌≡◌, ◌∙◌, ◌++�
 use Rattle.std.specs.Cmp.Lexicographic.{same_text}
 use Rattle.smps_words.specs.Names.{same_name, place_from, place_of, IsNumbered}
 use Rattle.smps_words.proofs.NumberedNames.{same_name_refl}
+use Rattle.core_defs.specs.Filed.{last_of}
+use Rattle.core_defs.specs.Stated.{with_new, distinct_from}
 
 pub name_is : (one other : List ℕ) → same_name one other ≡ true → one ≡ other
 name_is one other same = same_text one other (sym same)
@@ -105,7 +107,7 @@ pub distinct_snoc : (names : List (List ℕ)) (name : List ℕ) → Distinct nam
 distinct_snoc [] name distinct missing = (tt, tt)
 distinct_snoc (first ∷ names) name distinct missing = (missing_snoc names name first distinct.0 (same_either_way first name ∙ missing.0), distinct_snoc names name distinct.1 missing.1)
 
-missing_front : (names : List (List ℕ)) (name other : List ℕ) → Missing (names ++ name ∷ []) other → Missing names other × (same_name other name ≡ false)
+pub missing_front : (names : List (List ℕ)) (name other : List ℕ) → Missing (names ++ name ∷ []) other → Missing names other × (same_name other name ≡ false)
 missing_front [] name other missing = (tt, missing.0)
 missing_front (first ∷ names) name other missing = let rest = missing_front names name other missing.1 in ((missing.0, rest.0), rest.1)
 
@@ -150,3 +152,37 @@ at_snoc [] name zero other at = inr at
 at_snoc [] name (suc place) other at = absurd at.1
 at_snoc (first ∷ names) name zero other at = inl at
 at_snoc (first ∷ names) name (suc place) other at = elim (at_snoc names name place other at.1) [ inl there ↦ inl (at.0, there) | inr same ↦ inr same ]
+
+pub front_last : (names : List (List ℕ)) (name : List ℕ) → last_of names ≡ Some name → names ≡ front names ++ name ∷ []
+front_last [] name e = cc
+front_last (first ∷ []) name e = let same : first ≡ name = cc in ap (λ (known : List ℕ). known ∷ []) same
+front_last (first ∷ next ∷ names) name e = ap (λ rest. first ∷ rest) (front_last (next ∷ names) name e)
+
+pub last_none : (names : List (List ℕ)) → last_of names ≡ None → names ≡ []
+last_none [] e = refl
+last_none (first ∷ []) e = cc
+last_none (first ∷ next ∷ names) e = let none : next ∷ names ≡ [] = last_none (next ∷ names) e in absurd (cc)
+
+pub last_snoc : (names : List (List ℕ)) (name : List ℕ) → last_of (names ++ name ∷ []) ≡ Some name
+last_snoc [] name = refl
+last_snoc (first ∷ []) name = refl
+last_snoc (first ∷ next ∷ names) name = last_snoc (next ∷ names) name
+
+pub front_snoc : (names : List (List ℕ)) (name : List ℕ) → front (names ++ name ∷ []) ≡ names
+front_snoc [] name = refl
+front_snoc (first ∷ []) name = refl
+front_snoc (first ∷ next ∷ names) name = ap (λ rest. first ∷ rest) (front_snoc (next ∷ names) name)
+
+-- ---- each name at its first place
+
+pub distinct_from-snoc : (seen names : List (List ℕ)) (name : List ℕ) → distinct_from seen (names ++ name ∷ []) ≡ with_new (distinct_from seen names) name
+distinct_from-snoc seen [] name = refl
+distinct_from-snoc seen (first ∷ names) name = distinct_from-snoc (with_new seen first) names name
+
+new_distinct : (names : List (List ℕ)) (name : List ℕ) (there : Bool) → is_some (place_of names name) ≡ there → Distinct names → Distinct (if there then names else names ++ name ∷ [])
+new_distinct names name true is distinct = distinct
+new_distinct names name false is distinct = distinct_snoc names name distinct (not_there names name is)
+
+pub all_distinct : (seen names : List (List ℕ)) → Distinct seen → Distinct (distinct_from seen names)
+all_distinct seen [] distinct = distinct
+all_distinct seen (name ∷ names) distinct = all_distinct (with_new seen name) names (new_distinct seen name (is_some (place_of seen name)) refl distinct)
