@@ -29,7 +29,7 @@ use Rattle.core_defs.proofs.NameLemmas.{At, Missing, Distinct, Changes, name_is,
 use Rattle.core_defs.proofs.TermLemmas.{terms_at, find_at, terms_missing, terms_same, terms_none, with_at}
 use Rattle.core_defs.proofs.Gathered.{Data, data_on, free_in, rows_in, names_in, values_of, last_values, part_in, filed_of, IsEarly, AreRows, AreColumns, Sound, judged}
 use Rattle.core_defs.proofs.LineLemmas.{then_judged}
-use Rattle.core_defs.proofs.PairLemmas.{other_column, pair_of, pair_changes, first_value, count_snoc, no_more, orelse_assoc, orelse_none}
+use Rattle.core_defs.proofs.PairLemmas.{or_later, value_on-append, other_column, pair_of, pair_changes, first_value, count_snoc, no_more, orelse_assoc, orelse_none}
 
 -- what is filed where the columns have these names, of which this is the last, and these pairs
 abbrev pub filed_by : Data → List (List ℕ) → Option (List ℕ) → List Pair → Filed
@@ -293,3 +293,72 @@ column_line_step before line (column ∷ row ∷ word ∷ second ∷ other ∷ [
     two_pairs before column row word second other sound none
     ∙ ap (λ (d : Data). judged (split_fault before column orelse (pairs_fault before (entry_pairs before) pairs orelse limit_of d)) (filed_of (with_pairs before column pairs))) (sym is)
 column_line_step before line (_ ∷ _ ∷ _ ∷ _ ∷ _ ∷ _ ∷ _) sound at is = refl
+
+-- ---- what it keeps
+
+pairs_elsewhere : (column : List ℕ) (fields : List (List ℕ)) (name row : List ℕ) → same_name name column ≡ false → value_on (pairs_after column fields) name row ≡ None
+pairs_elsewhere column [] name row apart = refl
+pairs_elsewhere column (_ ∷ []) name row apart = refl
+pairs_elsewhere column (first ∷ word ∷ rest) name row apart = ap (λ here. if here && same_name row first then Some (number_in word) else value_on (pairs_after column rest) name row) apart ∙ pairs_elsewhere column rest name row apart
+
+missing_old : (names : List (List ℕ)) (column name : List ℕ) (there : Bool) → Missing (if there then names else names ++ column ∷ []) name → Missing names name
+missing_old names column name true missing = missing
+missing_old names column name false missing = (missing_front names column name missing).0
+
+unlimited : (count : ℕ) (over other : Bool) → nat_lt most_columns count ≡ over → (if over || other then Some cause.CoreLimit else None) ≡ None → count ≤ most_columns
+unlimited count true other is fine = cc
+unlimited count false other is fine = grind (arith, nat_tests)
+
+unmarked : (marker : Bool) (c : Option Cause) → (if marker then Some cause.IntegerMarker else c) ≡ None → c ≡ None
+unmarked true c fine = cc
+unmarked false c fine = fine
+
+unsplit : (before : List TextLine) (column : List ℕ) (pairs limit : Option Cause) → (split_fault before column orelse (pairs orelse limit)) ≡ None → (split_fault before column ≡ None) × (limit ≡ None)
+unsplit before column pairs limit fine =
+    let both = orelse_none (split_fault before column) (pairs orelse limit) fine in
+    (both.0, (orelse_none pairs limit both.1).1)
+
+line_sound : (before : List TextLine) (column : List ℕ) (rest : List (List ℕ)) → Sound (data_on before) → last_section before ≡ sections.Columns → split_fault before column ≡ None → limit_of (with_pairs before column (pairs_after column rest)) ≡ None → Sound (with_pairs before column (pairs_after column rest))
+line_sound before column rest sound at whole limit =
+    let none : (data_on before).bounds ≡ [] = sound.early.no_bounds (ap (λ section. nat_lt (rank section) 6) at) in
+    let by = column_step before column sound none in
+    let opened = by.opened whole in
+    let d : Data = with_pairs before column (pairs_after column rest) in
+    record {
+      rows = sound.rows;
+      columns = record {
+        few = unlimited (length (names_in d)) (nat_lt most_columns (length (names_in d))) _ refl limit;
+        fresh = λ name row missing.
+            let old : Missing (names_in (data_on before)) name = missing_old (columns before) column name (is_some (place_of (columns before) column)) (subst (λ names. Missing names name) (new_names (data_on before) column) missing) in
+            let last : by.names ≡ front by.names ++ column ∷ [] = front_last by.names column opened.last in
+            let apart : same_name name column ≡ false = (missing_front (front by.names) column name (subst (λ names. Missing names name) (opened.is ∙ last) missing)).1 in
+            value_on-append (entry_pairs before) (pairs_after column rest) name row ∙ ap (λ known. or_later known (value_on (pairs_after column rest) name row)) (sound.columns.fresh name row old) ∙ pairs_elsewhere column rest name row apart;
+      };
+      early = record {
+        no_named = λ early. let never : nat_lt 3 3 ≡ true = ap (λ section. nat_lt (rank section) 3) (sym at) ∙ early in absurd (cc);
+        no_pairs = λ early. let never : nat_lt 3 3 ≡ true = ap (λ section. nat_lt (rank section) 3) (sym at) ∙ early in absurd (cc);
+        no_rhs_set = sound.early.no_rhs_set;
+        no_rhs_pairs = sound.early.no_rhs_pairs;
+        no_range_set = sound.early.no_range_set;
+        no_range_pairs = sound.early.no_range_pairs;
+        no_bounds = sound.early.no_bounds;
+      };
+      objective = sound.objective;
+      in_order = sound.in_order;
+    }
+
+limit_is : (before : List TextLine) (line : TextLine) (d : Data) → data_on (before ++ line ∷ []) ≡ d → limit_fault (before ++ line ∷ []) ≡ None → limit_of d ≡ None
+limit_is before line d is fine = ap limit_of (sym is) ∙ fine
+
+pub column_sound : (before : List TextLine) (line : TextLine) (fields : List (List ℕ)) → Sound (data_on before) → last_section before ≡ sections.Columns → data_on (before ++ line ∷ []) ≡ column_data_of before fields → column_fault before line fields ≡ None → Sound (column_data_of before fields)
+column_sound before line [] sound at is fine = cc
+column_sound before line (_ ∷ []) sound at is fine = cc
+column_sound before line (_ ∷ _ ∷ []) sound at is fine = cc
+column_sound before line (column ∷ row ∷ word ∷ []) sound at is fine =
+    let both = unsplit before column _ (limit_fault (before ++ line ∷ [])) (unmarked (same_name row (codes "'MARKER'")) _ fine) in
+    line_sound before column (row ∷ word ∷ []) sound at both.0 (limit_is before line (with_pairs before column (pairs_after column (row ∷ word ∷ []))) is both.1)
+column_sound before line (_ ∷ _ ∷ _ ∷ _ ∷ []) sound at is fine = cc
+column_sound before line (column ∷ row ∷ word ∷ second ∷ other ∷ []) sound at is fine =
+    let both = unsplit before column _ (limit_fault (before ++ line ∷ [])) fine in
+    line_sound before column (row ∷ word ∷ second ∷ other ∷ []) sound at both.0 (limit_is before line (with_pairs before column (pairs_after column (row ∷ word ∷ second ∷ other ∷ []))) is both.1)
+column_sound before line (_ ∷ _ ∷ _ ∷ _ ∷ _ ∷ _ ∷ _) sound at is fine = cc
