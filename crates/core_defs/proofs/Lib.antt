@@ -5,3 +5,5 @@ pub mod LineLemmas
 pub mod RowSteps
 pub mod PairLemmas
 pub mod ColumnSteps
+pub mod SetSteps
+pub mod BoundSteps
