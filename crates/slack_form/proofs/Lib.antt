@@ -1,0 +1,5 @@
+pub mod Turns
+pub mod Equations
+pub mod Program
+pub mod Points
+pub mod Multipliers
