@@ -25,3 +25,4 @@ number_of_cause cause.NoObjective = 26
 number_of_cause cause.RangeOnFree = 27
 number_of_cause cause.ColumnUnknown = 28
 number_of_cause cause.CoreLimit = 29
+number_of_cause (cause.Passes p) = 57

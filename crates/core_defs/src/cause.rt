@@ -1,6 +1,8 @@
 //! Why a text is refused.
 ghost use Rattle.std.specs.Prelude.{◌≡◌};
 
+use frac128::Passed;
+
 /// Why a line is refused.
 #[derive(Clone, Copy, Debug, PartialEq, Eq)]
 pub enum Cause {
@@ -46,6 +48,8 @@ pub enum Cause {
     ColumnUnknown,
     /// 29: a limit of the core is exceeded.
     CoreLimit,
+    /// 57: this operation of a row's interval passes 128 bits.
+    Passes(Passed),
 }
 
 impl Cause {
@@ -77,6 +81,7 @@ impl Cause {
             Cause::RangeOnFree => 27,
             Cause::ColumnUnknown => 28,
             Cause::CoreLimit => 29,
+            Cause::Passes(_) => 57,
         }
     }
 }
