@@ -1,9 +1,9 @@
 -- More than six fields fit no line.
-use Rattle.std.proofs.Common.{◌≡◌, ℕ, List, [], ◌∷◌, length, Err, refl, arith}
+use Rattle.std.proofs.Common.{◌≡◌, ◌+◌, ◌<◌, ℕ, List, [], ◌∷◌, length, Err, refl, arith}
 use Rattle.core_defs.specs.declared.kinds.BoundKind.{BoundKind}
 use Rattle.core_defs.specs.declared.cause.Cause.TheVariants as cause
 use Rattle.core_defs.specs.Filed.{Filed}
-use Rattle.core_defs.specs.Step.{row_line, column_line, rhs_line, range_line, value_line, plain_line}
+use Rattle.core_defs.specs.Step.{row_line, column_line, rhs_line, range_line, value_line, plain_line, bound_line}
 
 pub long_row : (f : Filed) (fields : List (List ℕ)) → length fields ≡ 7 → row_line f fields ≡ Err cause.FieldCount
 unfolding row_line
@@ -41,3 +41,22 @@ long_range f (_ ∷ _ ∷ _ ∷ []) seven = absurd (omega arith)
 long_range f (_ ∷ _ ∷ _ ∷ _ ∷ []) seven = absurd (omega arith)
 long_range f (_ ∷ _ ∷ _ ∷ _ ∷ _ ∷ []) seven = absurd (omega arith)
 long_range f (_ ∷ _ ∷ _ ∷ _ ∷ _ ∷ _ ∷ _) seven = refl
+
+-- Nor do more than three behind a kind of bounds.
+pub long_value : (f : Filed) (kind : BoundKind) (fields : List (List ℕ)) → 3 < length fields → value_line f kind fields ≡ Err cause.FieldCount
+unfolding value_line
+long_value f kind [] long = absurd (omega arith)
+long_value f kind (_ ∷ []) long = absurd (omega arith)
+long_value f kind (_ ∷ _ ∷ []) long = absurd (omega arith)
+long_value f kind (_ ∷ _ ∷ _ ∷ []) long = absurd (omega arith)
+long_value f kind (_ ∷ _ ∷ _ ∷ _ ∷ _) long = refl
+
+pub long_plain : (f : Filed) (kind : BoundKind) (fields : List (List ℕ)) → 3 < length fields → plain_line f kind fields ≡ Err cause.FieldCount
+unfolding plain_line
+long_plain f kind [] long = absurd (omega arith)
+long_plain f kind (_ ∷ []) long = absurd (omega arith)
+long_plain f kind (_ ∷ _ ∷ []) long = absurd (omega arith)
+long_plain f kind (_ ∷ _ ∷ _ ∷ []) long = absurd (omega arith)
+long_plain f kind (_ ∷ _ ∷ _ ∷ _ ∷ _) long = refl
+
+pub ruleset bound_lines = (long_value, long_plain)

@@ -1,12 +1,16 @@
 //! Core files: the reader of the MPS format, and the linear program that it gives.
 #![tactic(auto)]
 
+mod bounds;
 mod columns;
 mod draft;
 mod keywords;
+mod limits;
+mod lines;
 mod number;
 mod places;
 mod ranges;
+mod reading;
 mod rhs;
 mod rows;
 mod sets;

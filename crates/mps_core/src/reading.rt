@@ -1,0 +1,50 @@
+//! Reading a whole text.
+ghost use Rattle.std.specs.Prelude.{◌≡◌, ◌<◌, ◌-◌, ◌^◌, length};
+ghost use Rattle.core_defs.specs.Step.{filed_text};
+ghost use Rattle.core_defs.specs.declared.cause.Cause.TheVariants as cause;
+ghost use Rattle.core_defs.specs.declared.cause.ReadFail.TheVariants as fail;
+ghost use Rattle.mps_core.specs.View.{Reads};
+
+use crate::draft::Draft;
+use crate::stop::Stop;
+use core_defs::{Cause, ReadFail, Refusal, Section};
+use smps_words::Lines;
+use std::alloc::Global;
+
+/// The line behind the last, where a section is missing.
+fn missing(lines: &Lines) -> ReadFail
+    ensures { result ≡ fail.Refused (record { line = lines.now.end_line; cause = cause.SectionMissing }) }
+{
+    ReadFail::Refused(Refusal {
+        line: lines.end_line(),
+        cause: Cause::SectionMissing,
+    })
+}
+
+/// Files the lines of a text up to ENDATA.
+pub(crate) fn file_text(alloc: Global, text: &[u8]) -> Result<Draft, ReadFail>
+    requires { length text.now < 2 ^ 32 - 1 }
+    ensures { Reads result (filed_text text.now) }
+{
+    let mut lines = Lines::over(text);
+    let mut draft = Draft::empty(alloc);
+    while let Some(line) = lines.next() {
+        match draft.step(&line) {
+            Ok(()) => {}
+            Err(Stop::Memory) => return Err(ReadFail::Memory),
+            Err(Stop::Fault(cause)) => {
+                return Err(ReadFail::Refused(Refusal {
+                    line: line.number,
+                    cause,
+                }));
+            }
+        }
+        if draft.section == Section::End {
+            if draft.has_columns {
+                return Ok(draft);
+            }
+            return Err(missing(&lines));
+        }
+    }
+    Err(missing(&lines))
+}
