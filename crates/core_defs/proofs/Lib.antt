@@ -7,3 +7,4 @@ pub mod PairLemmas
 pub mod ColumnSteps
 pub mod SetSteps
 pub mod BoundSteps
+pub mod HeaderSteps
