@@ -271,7 +271,7 @@ by_marker : (marker : Bool) (r : Result Filed Cause) (c : Option Cause) (g : Fil
 by_marker true r c g e = refl
 by_marker false r c g e = e
 
-abbrev column_data_of : List TextLine → List (List ℕ) → Data
+abbrev pub column_data_of : List TextLine → List (List ℕ) → Data
 column_data_of before [] = data_on before
 column_data_of before (column ∷ rest) = with_pairs before column (pairs_after column rest)
 

@@ -8,3 +8,5 @@ pub mod ColumnSteps
 pub mod SetSteps
 pub mod BoundSteps
 pub mod HeaderSteps
+pub mod Steps
+pub mod Judged
