@@ -10,3 +10,5 @@ pub mod BoundSteps
 pub mod HeaderSteps
 pub mod Steps
 pub mod Judged
+pub mod CoreLemmas
+pub mod MeansLemmas
