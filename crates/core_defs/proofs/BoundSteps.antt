@@ -11,7 +11,6 @@ use Rattle.core_defs.specs.declared.bounds.ColumnBounds.{ColumnBounds}
 use Rattle.core_defs.specs.declared.cause.Cause.{Cause}
 use Rattle.core_defs.specs.declared.cause.Cause.TheVariants as cause
 use Rattle.core_defs.specs.declared.kinds.BoundKind.{BoundKind}
-use Rattle.core_defs.specs.declared.section.Section.{Section}
 use Rattle.core_defs.specs.declared.section.Section.TheVariants as sections
 use Rattle.core_defs.specs.Bounds.{bound_kind, Bound, has_value, with_word, without_word, bound_of, bound_on, bounds_on, first_bound_set, bounds_used, bounded, bounds_after, first_bounds, bounds_by, bounds_in}
 use Rattle.core_defs.specs.Fault.{◌orelse◌, is_there, word_fault, bounds_fault, used_bound_fault, first_bound_fault, bound_fault}
@@ -21,8 +20,8 @@ use Rattle.core_defs.specs.Number.{number_or_cause, cause_of}
 use Rattle.core_defs.specs.Section.{rank}
 use Rattle.core_defs.specs.Stated.{columns, number_in, number_or_zero, same_set, chosen}
 use Rattle.core_defs.specs.Step.{◌>>=◌, needs, choosing_bound, in_bound_set, is_sudden, are_crossed, with_bound_at, with_bound, without_bound, value_line, plain_line, bound_line}
-use Rattle.core_defs.proofs.NameLemmas.{At, Distinct, Changes, name_is, place_at, map_set, map_get, all_distinct}
-use Rattle.core_defs.proofs.Gathered.{Data, data_on, names_in, filed_of, IsEarly, Sound, judged}
+use Rattle.core_defs.proofs.NameLemmas.{Changes, name_is, place_at, map_set, map_get, all_distinct}
+use Rattle.core_defs.proofs.Gathered.{Data, data_on, names_in, filed_of, Sound, judged}
 use Rattle.core_defs.proofs.PairLemmas.{orelse_none}
 
 -- ---- one more line
@@ -85,8 +84,8 @@ used_filed : (d : Data) (bound : Bound) (place : ℕ) → is_used_bound d.bounds
 used_filed d bound place is at =
     ap (λ used. record (filed_of d) { bound_set = used; bounds = set (map (bounds_by d.bounds) (names_in d)) place (bounded (bounds_by d.bounds bound.column) bound.kind (number_in bound.word)) }) (sym (first_bound_snoc d.bounds bound))
     ∙ ap (λ (bounds : List ColumnBounds). record (filed_of (with_bounds d (bound ∷ []))) { bounds = bounds })
-        (ap (set (map (bounds_by d.bounds) (names_in d)) place) (sym (bound_here d.bounds bound is))
-        ∙ map_set (names_in d) place bound.column (bounds_by d.bounds) (bounds_by (d.bounds ++ bound ∷ [])) (all_distinct [] d.named tt) (place_at (names_in d) bound.column place at) (bound_changes d.bounds bound is))
+    (ap (set (map (bounds_by d.bounds) (names_in d)) place) (sym (bound_here d.bounds bound is))
+    ∙ map_set (names_in d) place bound.column (bounds_by d.bounds) (bounds_by (d.bounds ++ bound ∷ [])) (all_distinct [] d.named tt) (place_at (names_in d) bound.column place at) (bound_changes d.bounds bound is))
 
 -- ---- a line
 
@@ -103,11 +102,11 @@ at_step before bound place value used at is =
     let all : List ColumnBounds = map (bounds_by (bounds_on before)) (columns before) in
     let f = choosing_bound (filed_of (data_on before)) bound.set in
     ap (λ (known : ℚ). if is_sudden bound.kind known (get_or all place first_bounds) then Err cause.UpperNegative
-        else (if are_crossed (bounded (get_or all place first_bounds) bound.kind known) then Err cause.BoundsCross
-        else Ok (record f { bounds = set all place (bounded (get_or all place first_bounds) bound.kind known) }))) is
+    else (if are_crossed (bounded (get_or all place first_bounds) bound.kind known) then Err cause.BoundsCross
+    else Ok (record f { bounds = set all place (bounded (get_or all place first_bounds) bound.kind known) }))) is
     ∙ ap (λ (known : ColumnBounds). if is_sudden bound.kind (number_in bound.word) known then Err cause.UpperNegative
-        else (if are_crossed (bounded known bound.kind (number_in bound.word)) then Err cause.BoundsCross
-        else Ok (record f { bounds = set all place (bounded known bound.kind (number_in bound.word)) }))) (map_get (columns before) place bound.column (bounds_by (bounds_on before)) first_bounds (place_at (columns before) bound.column place at))
+    else (if are_crossed (bounded known bound.kind (number_in bound.word)) then Err cause.BoundsCross
+    else Ok (record f { bounds = set all place (bounded known bound.kind (number_in bound.word)) }))) (map_get (columns before) place bound.column (bounds_by (bounds_on before)) first_bounds (place_at (columns before) bound.column place at))
     ∙ by_bounds (is_sudden bound.kind (number_in bound.word) (bounds_in before bound.column)) (are_crossed (bounded (bounds_in before bound.column) bound.kind (number_in bound.word))) _ _ (used_filed (data_on before) bound place used at)
 
 abbrev bound_with : BoundKind → Option (List ℕ) → List ℕ → List ℕ → Bound
@@ -143,7 +142,7 @@ value_set_step before kind used column word valued =
     let bound : Bound = bound_with kind used column word in
     by_set (is_used_bound (bounds_on before) bound) before bound _ (if not (is_there (columns before) column) then Some cause.ColumnUnknown else (word_fault bound orelse bounds_fault before bound)) refl
     (λ is. value_by before kind used column word (place_of (columns before) column) (read_number word) is refl refl
-        ∙ ap (λ has. judged (if not (is_there (columns before) column) then Some cause.ColumnUnknown else ((if has then cause_of (read_number word) else None) orelse bounds_fault before bound)) (filed_of (with_bounds (data_on before) (bound ∷ [])))) (sym valued))
+    ∙ ap (λ has. judged (if not (is_there (columns before) column) then Some cause.ColumnUnknown else ((if has then cause_of (read_number word) else None) orelse bounds_fault before bound)) (filed_of (with_bounds (data_on before) (bound ∷ [])))) (sym valued))
 
 plain_set_step : (before : List TextLine) (kind : BoundKind) (used : Option (List ℕ)) (column : List ℕ) → has_value kind ≡ false →
     in_bound_set (filed_of (data_on before)) used (λ g. without_bound g kind column) ≡ judged (used_bound_fault before (bound_with kind used column [])) (filed_of (with_bounds (data_on before) (bound_with kind used column [] ∷ [])))
@@ -152,7 +151,7 @@ plain_set_step before kind used column plain =
     let bound : Bound = bound_with kind used column [] in
     by_set (is_used_bound (bounds_on before) bound) before bound _ (if not (is_there (columns before) column) then Some cause.ColumnUnknown else (word_fault bound orelse bounds_fault before bound)) refl
     (λ is. plain_by before kind used column (place_of (columns before) column) is refl
-        ∙ ap (λ has. judged (if not (is_there (columns before) column) then Some cause.ColumnUnknown else ((if has then cause_of (read_number []) else None) orelse bounds_fault before bound)) (filed_of (with_bounds (data_on before) (bound ∷ [])))) (sym plain))
+    ∙ ap (λ has. judged (if not (is_there (columns before) column) then Some cause.ColumnUnknown else ((if has then cause_of (read_number []) else None) orelse bounds_fault before bound)) (filed_of (with_bounds (data_on before) (bound ∷ [])))) (sym plain))
 
 value_line_step : (before : List TextLine) (kind : BoundKind) (rest : List (List ℕ)) → has_value kind ≡ true → value_line (filed_of (data_on before)) kind rest ≡ judged (first_bound_fault before (with_word kind rest)) (filed_of (with_bounds (data_on before) (with_word kind rest)))
 unfolding value_line

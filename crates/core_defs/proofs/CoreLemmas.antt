@@ -1,11 +1,11 @@
 -- The rows and columns of the core of what is filed.
-use Rattle.std.proofs.Common.{◌≡◌, ◌∙◌, ◌++◌, ◌+◌, ◌<◌, ◌≤◌, ap, map, flat_map, length, length-append, get_or, suc, ℕ, Bool, true, false, List, [], ◌∷◌, Option, Some, None, refl, sym, subst, append_assoc, append-nil, arith}
+use Rattle.std.proofs.Common.{◌≡◌, ◌∙◌, ◌++◌, ◌+◌, ap, map, flat_map, length, length-append, get_or, ℕ, false, List, [], ◌∷◌, Option, Some, None, refl, sym, subst, append_assoc, arith}
 use Rattle.std.specs.Prelude.{All}
 use Rattle.std.specs.Option.{unwrap_or}
 use Rattle.std.specs.Ordering.{is_gt, MatchOrdering}
 use Rattle.std.specs.declared.cmp.Ordering.{Ordering}
 use Rattle.std.specs.declared.cmp.Ordering.TheVariants.{Less, Equal, Greater}
-use Rattle.std.proofs.lemmas.List.{length-map, map-append}
+use Rattle.std.proofs.lemmas.List.{length-map}
 use Rattle.std.proofs.lemmas.List.Elements.{All-cons, All-nil}
 use Rattle.rationals.specs.Rational.{ℚ, zero_ℚ, ◌≤ℚ◌, ◌<ℚ◌, lt_le_ℚ, le_of_same_ℚ}
 use Rattle.rationals.specs.Order.{compare}
@@ -82,8 +82,8 @@ rows_all d P front (name ∷ rest) place is at each =
     let rhs : get_or (map (value_on d.rhs_pairs []) (rows_in d)) place None ≡ value_on d.rhs_pairs [] name = ap (λ names. get_or (map (value_on d.rhs_pairs []) names) place None) is ∙ mapped_seam (value_on d.rhs_pairs []) front rest name None place at in
     let range : get_or (map (value_on d.range_pairs []) (rows_in d)) place None ≡ value_on d.range_pairs [] name = ap (λ names. get_or (map (value_on d.range_pairs []) names) place None) is ∙ mapped_seam (value_on d.range_pairs []) front rest name None place at in
     let row : row_def (filed_of d) place name ≡ record { name = name; kind = kind; rhs = unwrap_or (value_on d.rhs_pairs [] name) zero_ℚ; range = value_on d.range_pairs [] name } =
-        ap (λ (value : Option ℚ). record { name = name; kind = kind; rhs = unwrap_or value zero_ℚ; range = get_or (map (value_on d.range_pairs []) (rows_in d)) place None }) rhs
-        ∙ ap (λ (value : Option ℚ). record { name = name; kind = kind; rhs = unwrap_or (value_on d.rhs_pairs [] name) zero_ℚ; range = value }) range in
+    ap (λ (value : Option ℚ). record { name = name; kind = kind; rhs = unwrap_or value zero_ℚ; range = get_or (map (value_on d.range_pairs []) (rows_in d)) place None }) rhs
+    ∙ ap (λ (value : Option ℚ). record { name = name; kind = kind; rhs = unwrap_or (value_on d.rhs_pairs [] name) zero_ℚ; range = value }) range in
     All-cons P (row_def (filed_of d) place name) (row_defs (filed_of d) (place + 1) rest) (subst P (sym row) (each name kind))
     (rows_all d P (front ++ name ∷ []) rest (place + 1) (is ∙ sym (append_assoc front (name ∷ []) rest)) (omega (arith, length-append front (name ∷ []))) each)
 
@@ -106,7 +106,7 @@ columns_from d front (name ∷ rest) place is at =
     let known : get_or (names_in d) place [] ≡ name = ap (λ (names : List (List ℕ)). get_or names place []) is ∙ seam front rest name [] place at in
     let bounds : get_or (map (bounds_by d.bounds) (names_in d)) place first_bounds ≡ bounds_by d.bounds name = ap (λ names. get_or (map (bounds_by d.bounds) names) place first_bounds) is ∙ mapped_seam (bounds_by d.bounds) front rest name first_bounds place at in
     let column : column_def (filed_of d) place part ≡ column_in d name =
-        ap (λ (name : List ℕ). record (column_def (filed_of d) place part) { name = name }) known ∙ ap (λ all. record (column_in d name) { lower = all.lower; upper = all.upper }) bounds in
+    ap (λ (name : List ℕ). record (column_def (filed_of d) place part) { name = name }) known ∙ ap (λ all. record (column_in d name) { lower = all.lower; upper = all.upper }) bounds in
     ap (λ (first : ColumnDef). first ∷ column_defs (filed_of d) (place + 1) (map (part_in d.pairs (free_in d) (rows_in d)) rest)) column
     ∙ ap (λ later. column_in d name ∷ later) (columns_from d (front ++ name ∷ []) rest (place + 1) (is ∙ sym (append_assoc front (name ∷ []) rest)) (omega (arith, length-append front (name ∷ []))))
 

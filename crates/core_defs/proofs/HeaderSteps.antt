@@ -12,7 +12,7 @@ use Rattle.core_defs.specs.Lines.{first_word, last_section, has_section}
 use Rattle.core_defs.specs.Section.{section_of, rank, same_section, is_end}
 use Rattle.core_defs.specs.Stated.{free_rows}
 use Rattle.core_defs.specs.Step.{◌>>=◌, needs, enter, header_word, header_line}
-use Rattle.core_defs.proofs.Gathered.{Data, data_on, free_in, filed_of, IsEarly, Sound, judged}
+use Rattle.core_defs.proofs.Gathered.{Data, data_on, free_in, filed_of, Sound, judged}
 use Rattle.core_defs.proofs.LineLemmas.{or_false, header_text, header_data}
 
 -- the section and whether COLUMNS was there

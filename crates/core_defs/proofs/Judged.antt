@@ -1,62 +1,91 @@
 -- Whole texts: what is filed, and the first line that is refused.
-use Rattle.std.proofs.Common.{◌⊎◌, inl, inr, ◌≡◌, ◌∙◌, ◌++◌, ap, ℕ, Bool, true, false, List, [], ◌∷◌, Option, Some, None, Result, Ok, Err, refl, sym, subst, append_assoc, append-nil, if◌then◌else◌}
+use Rattle.std.proofs.Common.{inl, inr, ◌≡◌, ◌∙◌, ◌++◌, ◌&&◌, ◌||◌, ap, ℕ, Bool, true, false, List, [], ◌∷◌, Option, Some, None, Result, Ok, Err, refl, sym, subst, append_assoc, append-nil, if◌then◌else◌}
 use Rattle.smps_words.specs.Line.{TextLine}
 use Rattle.core_defs.specs.declared.cause.Cause.{Cause}
 use Rattle.core_defs.specs.declared.cause.Cause.TheVariants as cause
 use Rattle.core_defs.specs.declared.cause.Refusal.{Refusal}
 use Rattle.core_defs.specs.declared.section.Section.{Section}
 use Rattle.core_defs.specs.declared.section.Section.TheVariants as sections
-use Rattle.core_defs.specs.Fault.{fault, NoFaultBehind, NoFault, IsCoreFile, IsFirstFault, IsMissing, IsFault}
+use Rattle.core_defs.specs.Fault.{fault, NoFaultBehind, NoFault, IsFault}
 use Rattle.core_defs.specs.Filed.{Filed, nothing_filed}
-use Rattle.core_defs.specs.Lines.{section_behind, section_after, last_section, has_section}
-use Rattle.core_defs.specs.Section.{is_end}
-use Rattle.core_defs.specs.Step.{step, on_line, finish, read_from}
-use Rattle.core_defs.proofs.Gathered.{Data, data_on, filed_of, Sound, judged}
+use Rattle.core_defs.specs.Lines.{section_behind, section_after, last_section, has_after, has_section, fields_in, data_in, data_of}
+use Rattle.core_defs.specs.Section.{same_section, is_end}
+use Rattle.core_defs.specs.Step.{on_line, finish, read_from}
+use Rattle.core_defs.proofs.Gathered.{data_on, filed_of, Sound, judged}
+use Rattle.core_defs.proofs.LineLemmas.{or_assoc, or_false, made_same}
+use Rattle.core_defs.proofs.PairLemmas.{and_false}
 use Rattle.core_defs.proofs.Steps.{step_is, step_sound, nothing_sound}
+
+or_true : (b : Bool) → (b || true) ≡ true
+or_true true = refl
+or_true false = refl
 
 pub no_fault_snoc : (before lines : List TextLine) (line : TextLine) → NoFaultBehind before lines → fault (before ++ lines) line ≡ None → NoFaultBehind before (lines ++ line ∷ [])
 no_fault_snoc before [] line all fine = (ap (λ (known : List TextLine). fault known line) (sym (append-nil before)) ∙ fine, tt)
 no_fault_snoc before (first ∷ lines) line all fine =
     (all.0, no_fault_snoc (before ++ first ∷ []) lines line all.1 (ap (λ (known : List TextLine). fault known line) (append_assoc before (first ∷ []) lines) ∙ fine))
 
--- ---- a refused text is no core file
+-- ---- nothing comes behind ENDATA
 
-pub end_stays : (section : Section) (lines : List TextLine) → is_end section ≡ true → section_after section lines ≡ section
+end_stays : (section : Section) (lines : List TextLine) → is_end section ≡ true → section_after section lines ≡ section
 end_stays section [] end = refl
 end_stays section (line ∷ lines) end =
     let here : section_behind section line ≡ section = rw end refl in
     ap (λ at. section_after at lines) here ∙ end_stays section lines end
 
-pub after_append : (before : Section) (lines more : List TextLine) → section_after before (lines ++ more) ≡ section_after (section_after before lines) more
+after_append : (before : Section) (lines more : List TextLine) → section_after before (lines ++ more) ≡ section_after (section_after before lines) more
 after_append before [] more = refl
 after_append before (line ∷ lines) more = after_append (section_behind before line) lines more
 
-end_more : (behind more : List TextLine) → is_end (last_section behind) ≡ true → is_end (last_section (behind ++ more)) ≡ true
-end_more behind more end = ap is_end (after_append sections.Start behind more ∙ end_stays (last_section behind) more end) ∙ end
+pub end_more : (behind more : List TextLine) → is_end (last_section behind) ≡ true → last_section (behind ++ more) ≡ last_section behind
+end_more behind more end = after_append sections.Start behind more ∙ end_stays (last_section behind) more end
 
-abbrev refused : Cause → Option Cause
-refused c = Some c
+end_is : (section : Section) → is_end section ≡ true → section ≡ sections.End
+end_is sections.Start e = cc
+end_is sections.Name e = cc
+end_is sections.Rows e = cc
+end_is sections.Columns e = cc
+end_is sections.Rhs e = cc
+end_is sections.Ranges e = cc
+end_is sections.Bounds e = cc
+end_is sections.End e = refl
 
--- the lines up to ENDATA can't be without fault where a line before ENDATA is refused
-apart : (behind read rest before : List TextLine) (line : TextLine) (after : List TextLine) (c : Cause) → read ++ rest ≡ before ++ line ∷ after → NoFaultBehind behind read → is_end (last_section (behind ++ read)) ≡ true →
-    is_end (last_section (behind ++ before)) ≡ false → fault (behind ++ before) line ≡ refused c → ⊥
-apart behind [] rest before line after c same fit end open_ refused =
-    let here : is_end (last_section behind) ≡ true = ap (λ (all : List TextLine). is_end (last_section all)) (sym (append-nil behind)) ∙ end in
-    let there : is_end (last_section (behind ++ before)) ≡ true = end_more behind before here in
-    absurd (cc)
-apart behind (first ∷ read) rest [] line after c same fit end open_ refused =
-    let equal : first ≡ line = cc in
-    let fine : fault (behind ++ []) line ≡ None = ap (λ (known : List TextLine). fault known line) (append-nil behind) ∙ ap (fault behind) (sym equal) ∙ fit.0 in
-    absurd (cc)
-apart behind (first ∷ read) rest (head ∷ before) line after c same fit end open_ refused =
-    let equal : first ≡ head = cc in
-    let tail : read ++ rest ≡ before ++ line ∷ after = cc in
-    let more : behind ++ head ∷ before ≡ (behind ++ first ∷ []) ++ before = ap (λ (next : TextLine). behind ++ next ∷ before) (sym equal) ∙ sym (append_assoc behind (first ∷ []) before) in
-    apart (behind ++ first ∷ []) read rest before line after c tail fit.1 (ap (λ (all : List TextLine). is_end (last_section all)) (append_assoc behind (first ∷ []) read) ∙ end)
-    (ap (λ (all : List TextLine). is_end (last_section all)) (sym more) ∙ open_) (ap (λ (known : List TextLine). fault known line) (sym more) ∙ refused)
+ended_has : (lines : List TextLine) → has_after sections.Columns sections.End lines ≡ false
+ended_has [] = refl
+ended_has (line ∷ lines) = ap (λ here. here || has_after sections.Columns sections.End lines) (and_false line.header) ∙ ended_has lines
 
-pub not_first : (lines : List TextLine) (refusal : Refusal) → IsFirstFault lines refusal → IsCoreFile lines → ⊥
-not_first lines refusal first file = apart [] file.read file.rest first.before first.line first.after refusal.cause (sym file.split ∙ first.split) file.fit file.end first.open_ first.cause_is
+ended_data : (wanted : Section) (lines : List TextLine) → same_section sections.End wanted ≡ false → data_in wanted sections.End lines ≡ []
+ended_data wanted [] other = refl
+ended_data wanted (line ∷ lines) other =
+    let none : fields_in wanted sections.End line ≡ [] = rw (other, or_true line.header) refl in
+    ap (λ front. front ++ data_in wanted sections.End lines) none ∙ ended_data wanted lines other
+
+has_append : (wanted before : Section) (lines more : List TextLine) → has_after wanted before (lines ++ more) ≡ (has_after wanted before lines || has_after wanted (section_after before lines) more)
+has_append wanted before [] more = refl
+has_append wanted before (line ∷ lines) more =
+    let here : Bool = line.header && same_section (section_behind before line) wanted in
+    ap (λ b. here || b) (has_append wanted (section_behind before line) lines more) ∙ or_assoc here (has_after wanted (section_behind before line) lines) (has_after wanted (section_after (section_behind before line) lines) more)
+
+data_append : (wanted before : Section) (lines more : List TextLine) → data_in wanted before (lines ++ more) ≡ data_in wanted before lines ++ data_in wanted (section_after before lines) more
+data_append wanted before [] more = refl
+data_append wanted before (line ∷ lines) more =
+    ap (λ rest. fields_in wanted before line ++ rest) (data_append wanted (section_behind before line) lines more)
+    ∙ sym (append_assoc (fields_in wanted before line) (data_in wanted (section_behind before line) lines) (data_in wanted (section_after (section_behind before line) lines) more))
+
+pub has_more : (behind more : List TextLine) → is_end (last_section behind) ≡ true → has_section sections.Columns (behind ++ more) ≡ has_section sections.Columns behind
+has_more behind more end =
+    has_append sections.Columns sections.Start behind more ∙ ap (λ at. has_section sections.Columns behind || has_after sections.Columns at more) (end_is (last_section behind) end)
+    ∙ ap (λ b. has_section sections.Columns behind || b) (ended_has more) ∙ or_false (has_section sections.Columns behind)
+
+data_more : (wanted : Section) (behind more : List TextLine) → is_end (last_section behind) ≡ true → same_section sections.End wanted ≡ false → data_of wanted (behind ++ more) ≡ data_of wanted behind
+data_more wanted behind more end other =
+    data_append wanted sections.Start behind more ∙ ap (λ at. data_of wanted behind ++ data_in wanted at more) (end_is (last_section behind) end) ∙ ap (λ rest. data_of wanted behind ++ rest) (ended_data wanted more other) ∙ append-nil (data_of wanted behind)
+
+-- the lines behind ENDATA state nothing
+pub data_behind : (read rest : List TextLine) → is_end (last_section read) ≡ true → data_on (read ++ rest) ≡ data_on read
+data_behind read rest end =
+    made_same _ _ _ _ _ _ _ _ _ _ _ _ _ _ (end_more read rest end) (has_more read rest end) (data_more sections.Rows read rest end refl) (data_more sections.Columns read rest end refl)
+    (data_more sections.Rhs read rest end refl) (data_more sections.Ranges read rest end refl) (data_more sections.Bounds read rest end refl)
 
 -- ---- whole texts
 
@@ -75,7 +104,7 @@ Judged all end_line (Ok f) = IsFiled all f
 Judged all end_line (Err refusal) = IsFault all end_line refusal
 
 -- what holds behind some lines
-record Behind (before : List TextLine) : Type 0 where
+pub record Behind (before : List TextLine) : Type 0 where
   pub fit : NoFault before
   pub sound : Sound (data_on before)
 

@@ -12,3 +12,4 @@ pub mod Steps
 pub mod Judged
 pub mod CoreLemmas
 pub mod MeansLemmas
+pub mod Texts

@@ -1,19 +1,16 @@
 -- The core of what is filed is the one that the lines mean.
-use Rattle.std.proofs.Common.{◌≡◌, ◌∙◌, ◌++◌, ◌<◌, ap, map, length, get_or, ℕ, true, List, [], ◌∷◌, Option, refl, sym, subst, arith}
+use Rattle.std.proofs.Common.{◌≡◌, ◌∙◌, ap, map, get_or, ℕ, List, [], ◌∷◌, Option, refl, sym, subst, arith}
 use Rattle.std.specs.Prelude.{All}
 use Rattle.std.specs.Option.{unwrap_or}
 use Rattle.rationals.specs.Rational.{ℚ, zero_ℚ}
-use Rattle.rationals.specs.Sparse.{coefficient}
 use Rattle.smps_words.specs.Line.{TextLine}
-use Rattle.smps_words.specs.declared.row_kind.RowKind.{RowKind}
 use Rattle.smps_words.proofs.NumberedNames.{same_name_refl}
-use Rattle.core_defs.specs.declared.parts.ColumnDef.{ColumnDef}
 use Rattle.core_defs.specs.declared.parts.RowDef.{RowDef}
 use Rattle.core_defs.specs.declared.program.Core.{Core}
 use Rattle.core_defs.specs.Core.{row_names, column_names}
 use Rattle.core_defs.specs.Finished.{IsCoreOf}
 use Rattle.core_defs.specs.Means.{IsStatedColumn, IsStatedRow, Means}
-use Rattle.core_defs.specs.Stated.{free_rows, constraints, columns, entry_pairs, value_on, entry_in}
+use Rattle.core_defs.specs.Stated.{free_rows, constraints, columns, entry_pairs, value_on}
 use Rattle.core_defs.proofs.NameLemmas.{At, Distinct, own_at}
 use Rattle.core_defs.proofs.TermLemmas.{terms_rise, find_at, coefficient_is}
 use Rattle.core_defs.proofs.Gathered.{Data, data_on, values_of, filed_of, Sound}

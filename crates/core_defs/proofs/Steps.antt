@@ -1,5 +1,5 @@
 -- A line is filed, or refused as its fault says.
-use Rattle.std.proofs.Common.{◌≡◌, ◌∙◌, ◌++◌, ap, ℕ, Bool, true, false, List, [], ◌∷◌, Option, Some, None, refl, sym, subst, append-nil, arith}
+use Rattle.std.proofs.Common.{◌≡◌, ◌∙◌, ◌++◌, ap, ℕ, Bool, true, false, List, [], ◌∷◌, None, refl, sym, subst, append-nil, arith}
 use Rattle.smps_words.specs.Line.{TextLine}
 use Rattle.core_defs.specs.declared.section.Section.{Section}
 use Rattle.core_defs.specs.declared.section.Section.TheVariants as sections
@@ -8,12 +8,11 @@ use Rattle.core_defs.specs.Filed.{nothing_filed}
 use Rattle.core_defs.specs.Lines.{last_section}
 use Rattle.core_defs.specs.Section.{is_end}
 use Rattle.core_defs.specs.Step.{data_line, step}
-use Rattle.core_defs.proofs.NameLemmas.{Missing}
 use Rattle.core_defs.proofs.Gathered.{Data, data_on, filed_of, Sound, judged}
-use Rattle.core_defs.proofs.LineLemmas.{data_text, header_text, row_data, column_data, rhs_data, range_data, bound_data}
+use Rattle.core_defs.proofs.LineLemmas.{data_text, row_data, column_data, rhs_data, range_data, bound_data}
 use Rattle.core_defs.proofs.RowSteps.{row_step, row_sound}
 use Rattle.core_defs.proofs.ColumnSteps.{column_data_of, column_line_step, column_sound}
-use Rattle.core_defs.proofs.SetSteps.{rhs_data_of, rhs_line_step, rhs_sound, range_data_of, range_line_step, range_sound}
+use Rattle.core_defs.proofs.SetSteps.{rhs_line_step, rhs_sound, range_line_step, range_sound}
 use Rattle.core_defs.proofs.BoundSteps.{bound_step, bound_sound}
 use Rattle.core_defs.proofs.HeaderSteps.{header_step, header_sound}
 
