@@ -1,33 +1,31 @@
 -- Lines of COLUMNS.
-use Rattle.std.proofs.Common.{◌≡◌, ◌∙◌, ◌++◌, ◌+◌, ◌&&◌, ◌||◌, ◌<◌, ◌≤◌, ap, map, flat_map, length, ℕ, Bool, true, false, List, [], ◌∷◌, Option, Some, None, Result, Ok, Err, not, is_some, refl, sym, subst, append_assoc, append-nil, nat_lt, zero, arith, if◌then◌else◌}
+use Rattle.std.proofs.Common.{◌≡◌, ◌∙◌, ◌++◌, ◌+◌, ◌&&◌, ◌||◌, ◌≤◌, ap, map, flat_map, length, ℕ, Bool, true, false, List, [], ◌∷◌, Option, Some, None, Result, Ok, Err, not, is_some, refl, sym, subst, append_assoc, nat_lt, arith, if◌then◌else◌}
 use Rattle.std.specs.Prelude.{codes}
 use Rattle.std.proofs.lemmas.Bool.Decides.{nat_tests}
 use Rattle.std.proofs.lemmas.List.{map-append}
 use Rattle.rationals.specs.Rational.{ℚ}
 use Rattle.rationals.specs.Sparse.{Entry}
-use Rattle.rationals.specs.Forms.{find, is_zero}
+use Rattle.rationals.specs.Forms.{is_zero}
 use Rattle.frac128.specs.Numbers.{read_number}
 use Rattle.frac128.specs.declared.text.NumFault.{NumFault}
 use Rattle.smps_words.specs.Line.{TextLine}
 use Rattle.smps_words.specs.Names.{same_name, place_of}
-use Rattle.smps_words.proofs.NumberedNames.{same_name_refl}
 use Rattle.core_defs.specs.declared.cause.Cause.{Cause}
 use Rattle.core_defs.specs.declared.cause.Cause.TheVariants as cause
 use Rattle.core_defs.specs.declared.parts.ColumnPart.{ColumnPart}
-use Rattle.core_defs.specs.declared.section.Section.{Section}
 use Rattle.core_defs.specs.declared.section.Section.TheVariants as sections
 use Rattle.core_defs.specs.Bounds.{Bound, first_bound_set, bounds_by, first_bounds}
-use Rattle.core_defs.specs.Fault.{◌orelse◌, is_there, is_row, split_fault, pair_fault, pairs_fault, counts, count_entries, limit_fault, column_fault}
+use Rattle.core_defs.specs.Fault.{◌orelse◌, is_row, split_fault, pair_fault, pairs_fault, count_entries, limit_fault, column_fault}
 use Rattle.core_defs.specs.Filed.{Filed, last_of, part_of, closed_at, closed}
-use Rattle.core_defs.specs.Lines.{last_section, data_of}
+use Rattle.core_defs.specs.Lines.{last_section}
 use Rattle.core_defs.specs.Number.{number_or_cause, cause_of}
 use Rattle.core_defs.specs.Section.{rank}
-use Rattle.core_defs.specs.Stated.{constraint_kind, free_rows, constraints, Pair, pairs_after, columns, entry_pairs, number_in, number_or_zero, value_on, with_new, distinct_from}
-use Rattle.core_defs.specs.Step.{◌>>=◌, needs, most_columns, most_entries, is_named, place_among, row_at, opened, with_column, count_of, with_value_at, with_value, within_limits, column_line}
+use Rattle.core_defs.specs.Stated.{constraint_kind, free_rows, constraints, Pair, pairs_after, columns, entry_pairs, number_in, number_or_zero, value_on, with_new}
+use Rattle.core_defs.specs.Step.{◌>>=◌, needs, most_columns, most_entries, is_named, place_among, opened, with_column, count_of, with_value_at, with_value, within_limits, column_line}
 use Rattle.core_defs.specs.Terms.{with_term}
-use Rattle.core_defs.proofs.NameLemmas.{At, Missing, Distinct, Changes, name_is, same_either_way, place_at, place_missing, not_there, missing_at, missing_front, distinct_last, map_missing, front, front_last, last_none, last_snoc, front_snoc, distinct_from-snoc, all_distinct}
-use Rattle.core_defs.proofs.TermLemmas.{terms_at, find_at, terms_missing, terms_same, terms_none, with_at}
-use Rattle.core_defs.proofs.Gathered.{Data, data_on, free_in, rows_in, names_in, values_of, last_values, part_in, filed_of, IsEarly, AreRows, AreColumns, Sound, judged}
+use Rattle.core_defs.proofs.NameLemmas.{At, Missing, Distinct, name_is, same_either_way, place_at, place_missing, not_there, missing_front, distinct_last, map_missing, front, front_last, last_none, last_snoc, front_snoc, distinct_from-snoc, all_distinct}
+use Rattle.core_defs.proofs.TermLemmas.{find_at, terms_missing, terms_same, terms_none, with_at}
+use Rattle.core_defs.proofs.Gathered.{Data, data_on, free_in, rows_in, names_in, values_of, last_values, part_in, filed_of, AreRows, AreColumns, Sound, judged}
 use Rattle.core_defs.proofs.LineLemmas.{then_judged}
 use Rattle.core_defs.proofs.PairLemmas.{or_later, value_on-append, other_column, pair_of, pair_changes, first_value, count_snoc, no_more, orelse_assoc, orelse_none}
 
@@ -77,7 +75,7 @@ opened_filed d name sound none missing =
     let names = names_in d in
     ap (λ (f : Filed). record f { names = f.names ++ name ∷ []; bounds = f.bounds ++ first_bounds ∷ [] }) (closed_filed d)
     ∙ ap (λ (parts : List ColumnPart). record (filed_by d (names ++ name ∷ []) None d.pairs) { parts = parts; bounds = map (bounds_by d.bounds) names ++ first_bounds ∷ [] })
-        (ap (map (part_in d.pairs (free_in d) (rows_in d))) (sym (front_snoc names name)))
+    (ap (map (part_in d.pairs (free_in d) (rows_in d))) (sym (front_snoc names name)))
     ∙ ap (λ (all : List Bound). record (filed_by d (names ++ name ∷ []) None d.pairs) { bounds = map (bounds_by d.bounds) names ++ bounds_by all name ∷ [] }) (sym none)
     ∙ ap (λ bounds. record (filed_by d (names ++ name ∷ []) None d.pairs) { bounds = bounds }) (sym (map-append (bounds_by d.bounds) names (name ∷ [])))
     ∙ ap (λ (costs : List Entry). record (filed_by d (names ++ name ∷ []) None d.pairs) { costs = costs }) (sym (fresh_values d (free_in d) name sound.columns missing))
@@ -107,17 +105,21 @@ column_by : (before : List TextLine) (column : List ℕ) (last : Option (List �
     × ((if same then Ok (filed_of (data_on before)) else (if there then Err cause.ColumnSplit else Ok (opened (filed_of (data_on before)) column))) ≡ judged (if not same && there then Some cause.ColumnSplit else None) (filed_by (data_on before) names (Some column) (entry_pairs before)))
 column_by before column last true there sound none at named is =
     let found : there ≡ true = last_there (columns before) last column there at named is in
-    let whole = known last named at in
-    (columns before, (λ fine. record { is = new_names (data_on before) column ∙ ap (λ b. if b then columns before else columns before ++ column ∷ []) (is ∙ found); last = whole }),
-      ap (λ last. Ok (filed_by (data_on before) (columns before) last (entry_pairs before))) whole)
+    let whole = known last named at in (
+      columns before,
+      (λ fine. record { is = new_names (data_on before) column ∙ ap (λ b. if b then columns before else columns before ++ column ∷ []) (is ∙ found); last = whole }),
+      ap (λ last. Ok (filed_by (data_on before) (columns before) last (entry_pairs before))) whole,
+    )
   where
     known : (last : Option (List ℕ)) → is_named last column ≡ true → last_of (columns before) ≡ last → last_of (columns before) ≡ Some column
     known None named at = cc
     known (Some held) named at = at ∙ ap Some (name_is held column named)
 column_by before column last false true sound none at named is = (columns before, (λ fine. cc), refl)
-column_by before column last false false sound none at named is =
-    (columns before ++ column ∷ [], (λ fine. record { is = new_names (data_on before) column ∙ ap (λ b. if b then columns before else columns before ++ column ∷ []) is; last = last_snoc (columns before) column }),
-      ap Ok (opened_filed (data_on before) column sound none (not_there (columns before) column is)))
+column_by before column last false false sound none at named is = (
+  columns before ++ column ∷ [],
+  (λ fine. record { is = new_names (data_on before) column ∙ ap (λ b. if b then columns before else columns before ++ column ∷ []) is; last = last_snoc (columns before) column }),
+  ap Ok (opened_filed (data_on before) column sound none (not_there (columns before) column is)),
+)
 
 record ColumnStep (before : List TextLine) (column : List ℕ) : Type 0 where
   pub names : List (List ℕ)
@@ -170,8 +172,8 @@ entry_filed d names column row word pairs place value known distinct last at rea
     let terms = with_at 0 place (rows_in d) place row (value_on pairs column) (value_on more column) value known.rows_differ there (omega arith) (pair_changes pairs column row word) none (first_value pairs column row word value none read) in
     let costs = terms_missing 0 (free_in d) row (value_on pairs column) (value_on more column) (known.apart row place there) (pair_changes pairs column row word) in
     let entries : count_entries (rows_in d) more ≡ count_entries (rows_in d) pairs + count_of value =
-        count_snoc (rows_in d) pairs (pair_of column row word) ∙ ap (λ found. count_entries (rows_in d) pairs + (if is_some found && not (is_zero (number_in word)) then 1 else 0)) at
-        ∙ ap (λ read. count_entries (rows_in d) pairs + (if not (is_zero (number_or_zero read)) then 1 else 0)) read ∙ ap (λ (one : ℕ). count_entries (rows_in d) pairs + one) (sym (counted (is_zero value))) in
+    count_snoc (rows_in d) pairs (pair_of column row word) ∙ ap (λ found. count_entries (rows_in d) pairs + (if is_some found && not (is_zero (number_in word)) then 1 else 0)) at
+    ∙ ap (λ read. count_entries (rows_in d) pairs + (if not (is_zero (number_or_zero read)) then 1 else 0)) read ∙ ap (λ (one : ℕ). count_entries (rows_in d) pairs + one) (sym (counted (is_zero value))) in
     ap (λ (known : List Entry). record (filed_by d names (Some column) pairs) { terms = known; entries = count_entries (rows_in d) pairs + count_of value }) terms
     ∙ ap (λ (known : List Entry). record (filed_by d names (Some column) pairs) { costs = known; terms = values_of more (rows_in d) column; entries = count_entries (rows_in d) pairs + count_of value }) (sym costs)
     ∙ ap (λ (known : List ColumnPart). record (filed_by d names (Some column) more) { parts = known; entries = count_entries (rows_in d) pairs + count_of value }) (sym (parts_kept d names column row word pairs distinct last))
@@ -243,9 +245,9 @@ one_pair before column row word sound none =
     let limit = limit_of (with_pairs before column (pair ∷ [])) in
     let g = filed_of (with_pairs before column (pair ∷ [])) in
     then_judged (with_column (filed_of (data_on before)) column) (λ g. with_value g row word >>= λ h. within_limits h) (split_fault before column) ((fault orelse None) orelse limit) _ g by.step (λ fine.
-        let opened = by.opened fine in
-        then_judged _ (λ h. within_limits h) fault limit _ g (value_step before by.names column row word (entry_pairs before) sound.rows (names_distinct before column by.names opened) opened.last) (λ fine. ending before column by.names (pair ∷ []) opened)
-        ∙ ap (λ first. judged (first orelse limit) g) (sym (no_more fault)))
+    let opened = by.opened fine in
+    then_judged _ (λ h. within_limits h) fault limit _ g (value_step before by.names column row word (entry_pairs before) sound.rows (names_distinct before column by.names opened) opened.last) (λ fine. ending before column by.names (pair ∷ []) opened)
+    ∙ ap (λ first. judged (first orelse limit) g) (sym (no_more fault)))
 
 two_pairs : (before : List TextLine) (column row word second other : List ℕ) → Sound (data_on before) → (data_on before).bounds ≡ [] →
     (with_column (filed_of (data_on before)) column >>= λ g. with_value g row word >>= λ h. with_value h second other >>= λ i. within_limits i)
@@ -260,18 +262,18 @@ two_pairs before column row word second other sound none =
     let limit = limit_of (with_pairs before column (pair ∷ next ∷ [])) in
     let g = filed_of (with_pairs before column (pair ∷ next ∷ [])) in
     then_judged (with_column (filed_of (data_on before)) column) (λ g. with_value g row word >>= λ h. with_value h second other >>= λ i. within_limits i) (split_fault before column) ((fault orelse (later orelse None)) orelse limit) _ g by.step (λ fine.
-        let opened = by.opened fine in
-        let distinct = names_distinct before column by.names opened in
-        then_judged _ (λ h. with_value h second other >>= λ i. within_limits i) fault (later orelse limit) _ g (value_step before by.names column row word pairs sound.rows distinct opened.last) (λ fine.
-            then_judged _ (λ i. within_limits i) later limit _ g (value_step before by.names column second other (pairs ++ pair ∷ []) sound.rows distinct opened.last) (λ fine.
-                ap (λ all. within_limits (filed_by (data_on before) by.names (Some column) all)) (append_assoc pairs (pair ∷ []) (next ∷ [])) ∙ ending before column by.names (pair ∷ next ∷ []) opened))
-        ∙ ap (λ all. judged all g) (ap (λ last. fault orelse (last orelse limit)) (sym (no_more later)) ∙ sym (orelse_assoc fault (later orelse None) limit)))
+    let opened = by.opened fine in
+    let distinct = names_distinct before column by.names opened in
+    then_judged _ (λ h. with_value h second other >>= λ i. within_limits i) fault (later orelse limit) _ g (value_step before by.names column row word pairs sound.rows distinct opened.last) (λ fine.
+    then_judged _ (λ i. within_limits i) later limit _ g (value_step before by.names column second other (pairs ++ pair ∷ []) sound.rows distinct opened.last) (λ fine.
+    ap (λ all. within_limits (filed_by (data_on before) by.names (Some column) all)) (append_assoc pairs (pair ∷ []) (next ∷ [])) ∙ ending before column by.names (pair ∷ next ∷ []) opened))
+    ∙ ap (λ all. judged all g) (ap (λ last. fault orelse (last orelse limit)) (sym (no_more later)) ∙ sym (orelse_assoc fault (later orelse None) limit)))
 
 by_marker : (marker : Bool) (r : Result Filed Cause) (c : Option Cause) (g : Filed) → r ≡ judged c g → (if marker then Err cause.IntegerMarker else r) ≡ judged (if marker then Some cause.IntegerMarker else c) g
 by_marker true r c g e = refl
 by_marker false r c g e = e
 
-abbrev column_data_of : List TextLine → List (List ℕ) → Data
+abbrev pub column_data_of : List TextLine → List (List ℕ) → Data
 column_data_of before [] = data_on before
 column_data_of before (column ∷ rest) = with_pairs before column (pairs_after column rest)
 

@@ -1,6 +1,5 @@
 -- What counts of the lines so far, and how it is filed.
-use Rattle.std.proofs.Common.{◌≡◌, ◌<◌, ◌≤◌, ◌++◌, ℕ, Bool, true, false, List, [], ◌∷◌, Option, Some, None, Result, Ok, Err, map, flat_map, length, nat_lt}
-use Rattle.rationals.specs.Rational.{ℚ}
+use Rattle.std.proofs.Common.{◌≡◌, ◌≤◌, ℕ, Bool, true, false, List, [], Option, Some, None, Result, Ok, Err, map, flat_map, length, nat_lt}
 use Rattle.rationals.specs.Sparse.{Entry}
 use Rattle.smps_words.specs.Line.{TextLine}
 use Rattle.core_defs.specs.declared.cause.Cause.{Cause}

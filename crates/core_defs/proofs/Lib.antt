@@ -7,3 +7,9 @@ pub mod PairLemmas
 pub mod ColumnSteps
 pub mod SetSteps
 pub mod BoundSteps
+pub mod HeaderSteps
+pub mod Steps
+pub mod Judged
+pub mod CoreLemmas
+pub mod MeansLemmas
+pub mod Texts

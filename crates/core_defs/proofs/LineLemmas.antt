@@ -1,5 +1,5 @@
 -- One more line.
-use Rattle.std.proofs.Common.{◌≡◌, ◌∙◌, ◌++◌, ◌&&◌, ◌||◌, ap, map, flat_map, ℕ, Bool, true, false, List, [], ◌∷◌, Option, Some, None, Result, Ok, Err, refl, sym, subst, append_assoc, append-nil, if◌then◌else◌}
+use Rattle.std.proofs.Common.{◌≡◌, ◌∙◌, ◌++◌, ◌&&◌, ◌||◌, ap, flat_map, ℕ, Bool, true, false, List, [], ◌∷◌, Option, Some, None, Result, refl, sym, append_assoc, append-nil, if◌then◌else◌}
 use Rattle.std.specs.Option.{unwrap_or}
 use Rattle.std.proofs.lemmas.Grind.{flat_map-append}
 use Rattle.smps_words.specs.Line.{TextLine}
@@ -58,7 +58,7 @@ same_data : (wanted : Section) (lines : List TextLine) (line : TextLine) → fie
 same_data wanted lines line e = gains wanted lines line [] e ∙ append-nil (data_of wanted lines)
 
 -- the parts that count, by the data of the sections
-abbrev made : Section → Bool → List (List (List ℕ)) → List (List (List ℕ)) → List (List (List ℕ)) → List (List (List ℕ)) → List (List (List ℕ)) → Data
+abbrev pub made : Section → Bool → List (List (List ℕ)) → List (List (List ℕ)) → List (List (List ℕ)) → List (List (List ℕ)) → List (List (List ℕ)) → Data
 made section has rows columns rhs ranges bounds = record {
   section = section;
   has_columns = has;
@@ -72,7 +72,7 @@ made section has rows columns rhs ranges bounds = record {
   bounds = flat_map bound_on bounds;
 }
 
-made_same : (s s' : Section) (t t' : Bool) (r r' c c' h h' a a' b b' : List (List (List ℕ))) → s ≡ s' → t ≡ t' → r ≡ r' → c ≡ c' → h ≡ h' → a ≡ a' → b ≡ b' → made s t r c h a b ≡ made s' t' r' c' h' a' b'
+pub made_same : (s s' : Section) (t t' : Bool) (r r' c c' h h' a a' b b' : List (List (List ℕ))) → s ≡ s' → t ≡ t' → r ≡ r' → c ≡ c' → h ≡ h' → a ≡ a' → b ≡ b' → made s t r c h a b ≡ made s' t' r' c' h' a' b'
 made_same s s' t t' r r' c c' h h' a a' b b' is it ir ic ih ia ib =
     ap (λ x. made x t r c h a b) is ∙ ap (λ x. made s' x r c h a b) it ∙ ap (λ x. made s' t' x c h a b) ir ∙ ap (λ x. made s' t' r' x h a b) ic ∙ ap (λ x. made s' t' r' c' x a b) ih
     ∙ ap (λ x. made s' t' r' c' h' x b) ia ∙ ap (λ x. made s' t' r' c' h' a' x) ib

@@ -1,5 +1,5 @@
 -- Lists of different names, and what is stated name by name.
-use Rattle.std.proofs.Common.{◌⊎◌, inl, inr, ◌≡◌, ◌∙◌, ◌++◌, ◌+◌, ◌<◌, ap, map, length, get_or, set, zero, suc, ℕ, Bool, true, false, List, [], ◌∷◌, Option, Some, None, is_some, refl, sym, subst, append_assoc, append-nil, if◌then◌else◌, arith}
+use Rattle.std.proofs.Common.{◌⊎◌, inl, inr, ◌≡◌, ◌∙◌, ◌++◌, ◌+◌, ◌<◌, ap, map, length, get_or, set, zero, suc, ℕ, Bool, true, false, List, [], ◌∷◌, Option, Some, None, is_some, refl, sym, subst, if◌then◌else◌, arith}
 use Rattle.std.specs.Cmp.Lexicographic.{same_text}
 use Rattle.smps_words.specs.Names.{same_name, place_from, place_of, IsNumbered}
 use Rattle.smps_words.proofs.NumberedNames.{same_name_refl}

@@ -1,14 +1,13 @@
 -- Values on field pairs.
-use Rattle.std.proofs.Common.{◌≡◌, ◌∙◌, ◌++◌, ◌+◌, ◌&&◌, ◌||◌, ap, ℕ, Bool, true, false, List, [], ◌∷◌, Option, Some, None, Result, Ok, Err, not, is_some, refl, sym, if◌then◌else◌, add_assoc, zero-add, arith}
+use Rattle.std.proofs.Common.{◌≡◌, ◌∙◌, ◌++◌, ◌+◌, ◌&&◌, ap, ℕ, Bool, true, false, List, [], ◌∷◌, Option, Some, None, Ok, refl, sym, if◌then◌else◌, add_assoc, arith}
 use Rattle.rationals.specs.Rational.{ℚ}
 use Rattle.frac128.specs.Numbers.{read_number}
-use Rattle.frac128.specs.declared.text.NumFault.{NumFault}
-use Rattle.smps_words.specs.Names.{same_name, place_of}
+use Rattle.smps_words.specs.Names.{same_name}
 use Rattle.smps_words.proofs.NumberedNames.{same_name_refl}
 use Rattle.core_defs.specs.declared.cause.Cause.{Cause}
 use Rattle.core_defs.specs.Fault.{◌orelse◌, counts, count_entries}
 use Rattle.core_defs.specs.Stated.{Pair, number_in, number_or_zero, value_on}
-use Rattle.core_defs.proofs.NameLemmas.{Changes, same_either_way}
+use Rattle.core_defs.proofs.NameLemmas.{Changes}
 
 abbrev pub or_later : {A : Type 0} → Option A → Option A → Option A
 or_later (Some x) later = Some x
@@ -28,7 +27,7 @@ or_none : {A : Type 0} (o : Option A) → or_later o None ≡ o
 or_none None = refl
 or_none (Some x) = refl
 
-and_false : (b : Bool) → (b && false) ≡ false
+pub and_false : (b : Bool) → (b && false) ≡ false
 and_false true = refl
 and_false false = refl
 

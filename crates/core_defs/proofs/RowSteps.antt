@@ -1,25 +1,24 @@
 -- Lines of ROWS.
-use Rattle.std.proofs.Common.{◌⊎◌, inl, inr, ◌≡◌, ◌∙◌, ◌++◌, ◌||◌, ◌<◌, ◌≤◌, ap, map, flat_map, length, length-append, ℕ, Bool, true, false, List, [], ◌∷◌, Option, Some, None, Result, Ok, Err, is_some, refl, sym, subst, append-nil, nat_lt, arith, if◌then◌else◌}
+use Rattle.std.proofs.Common.{inl, inr, ◌≡◌, ◌∙◌, ◌++◌, ◌||◌, ◌<◌, ap, map, flat_map, length, length-append, ℕ, Bool, true, false, List, [], ◌∷◌, Option, Some, None, Result, Ok, Err, is_some, refl, sym, subst, append-nil, nat_lt, arith, if◌then◌else◌}
 use Rattle.std.proofs.lemmas.Bool.Decides.{nat_tests}
 use Rattle.std.proofs.lemmas.List.{map-append}
 use Rattle.smps_words.specs.Line.{TextLine}
-use Rattle.smps_words.specs.Names.{same_name, place_of}
+use Rattle.smps_words.specs.Names.{place_of}
 use Rattle.smps_words.specs.declared.row_kind.RowKind.{RowKind}
 use Rattle.core_defs.specs.declared.cause.Cause.{Cause}
 use Rattle.core_defs.specs.declared.cause.Cause.TheVariants as cause
 use Rattle.core_defs.specs.declared.kinds.RowUse.{RowUse}
 use Rattle.core_defs.specs.declared.kinds.RowUse.TheVariants as uses
-use Rattle.core_defs.specs.declared.section.Section.{Section}
 use Rattle.core_defs.specs.declared.section.Section.TheVariants as sections
-use Rattle.core_defs.specs.Bounds.{Bound, first_bound_set}
+use Rattle.core_defs.specs.Bounds.{first_bound_set}
 use Rattle.core_defs.specs.Fault.{is_there, is_row, use_fault, kind_fault, row_fault}
 use Rattle.core_defs.specs.Filed.{Filed}
 use Rattle.core_defs.specs.Lines.{last_section, data_of}
 use Rattle.core_defs.specs.Section.{rank}
 use Rattle.core_defs.specs.Stated.{use_of, free_with, constraint_with, kind_with, free_name, constraint_name, constraint_kind, free_rows, constraints, Pair, value_on}
 use Rattle.core_defs.specs.Step.{◌>>=◌, needs, most_rows, place_among, row_at, with_free, with_row, with_use, row_of, row_line}
-use Rattle.core_defs.proofs.NameLemmas.{At, Missing, Distinct, not_there, missing_at, missing_snoc, distinct_snoc, at_snoc, name_is, same_either_way}
-use Rattle.core_defs.proofs.Gathered.{Data, data_on, free_in, rows_in, names_in, filed_of, AreRows, Sound, judged}
+use Rattle.core_defs.proofs.NameLemmas.{At, Missing, not_there, missing_at, missing_snoc, distinct_snoc, at_snoc, name_is, same_either_way}
+use Rattle.core_defs.proofs.Gathered.{Data, data_on, free_in, rows_in, filed_of, AreRows, Sound, judged}
 use Rattle.core_defs.proofs.LineLemmas.{flat_snoc}
 
 -- ---- a known name

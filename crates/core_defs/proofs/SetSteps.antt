@@ -1,5 +1,5 @@
 -- Lines of RHS and RANGES.
-use Rattle.std.proofs.Common.{◌≡◌, ◌∙◌, ◌++◌, ◌+◌, ◌&&◌, ◌||◌, ap, map, set, length, ℕ, Bool, true, false, List, [], ◌∷◌, Option, Some, None, Result, Ok, Err, not, is_some, refl, sym, append_assoc, append-nil, nat_lt, arith, if◌then◌else◌}
+use Rattle.std.proofs.Common.{◌≡◌, ◌∙◌, ◌++◌, ◌&&◌, ◌||◌, ap, map, set, length, ℕ, Bool, true, false, List, [], ◌∷◌, Option, Some, None, Result, Ok, Err, not, is_some, refl, sym, append_assoc, append-nil, nat_lt, arith, if◌then◌else◌}
 use Rattle.std.proofs.lemmas.Bool.Decides.{nat_tests}
 use Rattle.rationals.specs.Rational.{ℚ}
 use Rattle.rationals.specs.Forms.{is_zero}
@@ -9,17 +9,16 @@ use Rattle.smps_words.specs.Line.{TextLine}
 use Rattle.smps_words.specs.Names.{place_of}
 use Rattle.core_defs.specs.declared.cause.Cause.{Cause}
 use Rattle.core_defs.specs.declared.cause.Cause.TheVariants as cause
-use Rattle.core_defs.specs.declared.section.Section.{Section}
 use Rattle.core_defs.specs.declared.section.Section.TheVariants as sections
 use Rattle.core_defs.specs.Fault.{◌orelse◌, is_row, is_first, fits_set, is_used, rhs_pair_fault, rhs_pairs_fault, rhs_fault, range_pair_fault, range_pairs_fault, range_fault}
 use Rattle.core_defs.specs.Filed.{Filed}
-use Rattle.core_defs.specs.Lines.{last_section, data_of}
+use Rattle.core_defs.specs.Lines.{data_of}
 use Rattle.core_defs.specs.Number.{number_or_cause, cause_of}
 use Rattle.core_defs.specs.Section.{rank}
-use Rattle.core_defs.specs.Stated.{free_rows, constraints, Pair, number_in, number_or_zero, value_on, set_on, set_pairs, same_set, chosen, pairs_of_set}
-use Rattle.core_defs.specs.Step.{◌>>=◌, needs, place_among, in_rhs_set, is_cost_rhs, with_rhs_at, with_rhs, rhs_line, in_range_set, constraint_at, with_range_at, with_range, range_line}
-use Rattle.core_defs.proofs.NameLemmas.{At, Missing, Distinct, Changes, place_at, place_missing, map_missing, map_set, map_get}
-use Rattle.core_defs.proofs.Gathered.{Data, data_on, free_in, rows_in, filed_of, IsEarly, AreRows, Sound, judged}
+use Rattle.core_defs.specs.Stated.{free_rows, constraints, Pair, number_or_zero, value_on, set_on, set_pairs, same_set, chosen, pairs_of_set}
+use Rattle.core_defs.specs.Step.{◌>>=◌, needs, place_among, is_cost_rhs, with_rhs_at, with_rhs, rhs_line, constraint_at, with_range_at, with_range, range_line}
+use Rattle.core_defs.proofs.NameLemmas.{At, Missing, Distinct, place_at, place_missing, map_missing, map_set, map_get}
+use Rattle.core_defs.proofs.Gathered.{Data, data_on, free_in, rows_in, filed_of, AreRows, Sound, judged}
 use Rattle.core_defs.proofs.LineLemmas.{then_judged}
 use Rattle.core_defs.proofs.PairLemmas.{pair_of, pair_changes, first_value, no_more}
 
@@ -72,8 +71,8 @@ rhs_filed d used pairs row word place value known at read none =
 rhs_by : (d : Data) (used : Option (Option (List ℕ))) (pairs : List Pair) (row word : List ℕ) (in_rows in_free : Option ℕ) (read : Result ℚ NumFault) → AreRows (free_in d) (rows_in d) → place_of (rows_in d) row ≡ in_rows → place_of (free_in d) row ≡ in_free → read_number word ≡ read →
     (needs cause.RowUnknown (place_among in_rows in_free) >>= λ place. number_or_cause read >>= λ value. with_rhs_at (filed_of (with_rhs_pairs d used pairs)) value place)
     ≡ judged (if not (is_some in_rows || is_some in_free) then Some cause.RowUnknown
-              else (cause_of read orelse (if (not (is_some in_rows) && is_first in_free) && not (is_zero (number_or_zero read)) then Some cause.ObjectiveRhs else (if is_some (value_on pairs [] row) then Some cause.EntryTwice else None))))
-             (filed_of (with_rhs_pairs d used (pairs ++ pair_of [] row word ∷ [])))
+    else (cause_of read orelse (if (not (is_some in_rows) && is_first in_free) && not (is_zero (number_or_zero read)) then Some cause.ObjectiveRhs else (if is_some (value_on pairs [] row) then Some cause.EntryTwice else None))))
+    (filed_of (with_rhs_pairs d used (pairs ++ pair_of [] row word ∷ [])))
 rhs_by d used pairs row word None None read known is_row is_free reads = refl
 rhs_by d used pairs row word None (Some place) (Err fault) known is_row is_free reads = refl
 rhs_by d used pairs row word None (Some place) (Ok value) known is_row is_free reads =
@@ -97,8 +96,8 @@ two_rhs : (before : List TextLine) (used : Option (Option (List ℕ))) (pairs : 
     ≡ judged (rhs_pairs_fault before pairs (pair_of [] row word ∷ pair_of [] second other ∷ [])) (filed_of (with_rhs_pairs (data_on before) used (pairs ++ pair_of [] row word ∷ pair_of [] second other ∷ [])))
 two_rhs before used pairs row word second other known =
     then_judged _ (λ h. with_rhs h second other) _ _ _ _ (rhs_step before used pairs row word known) (λ fine.
-        one_rhs before used (pairs ++ pair_of [] row word ∷ []) second other known
-        ∙ ap (λ (all : List Pair). judged (rhs_pairs_fault before (pairs ++ pair_of [] row word ∷ []) (pair_of [] second other ∷ [])) (filed_of (with_rhs_pairs (data_on before) used all))) (append_assoc pairs (pair_of [] row word ∷ []) (pair_of [] second other ∷ [])))
+    one_rhs before used (pairs ++ pair_of [] row word ∷ []) second other known
+    ∙ ap (λ (all : List Pair). judged (rhs_pairs_fault before (pairs ++ pair_of [] row word ∷ []) (pair_of [] second other ∷ [])) (filed_of (with_rhs_pairs (data_on before) used all))) (append_assoc pairs (pair_of [] row word ∷ []) (pair_of [] second other ∷ [])))
 
 by_used_rhs : (is : Bool) (d : Data) (used : Option (Option (List ℕ))) (pairs more : List Pair) (r : Result Filed Cause) (c : Option Cause) → r ≡ judged c (filed_of (with_rhs_pairs d used (pairs ++ more))) →
     (if is then r else Ok (filed_of (with_rhs_pairs d used pairs))) ≡ judged (if is then c else None) (filed_of (with_rhs_pairs d used (pairs ++ (if is then more else []))))
@@ -152,8 +151,8 @@ with_range_pairs d used pairs = record d { range_set = used; range_pairs = pairs
 range_by : (d : Data) (used : Option (Option (List ℕ))) (pairs : List Pair) (row word : List ℕ) (in_rows in_free : Option ℕ) (read : Result ℚ NumFault) → AreRows (free_in d) (rows_in d) → place_of (rows_in d) row ≡ in_rows → read_number word ≡ read →
     (needs cause.RowUnknown (place_among in_rows in_free) >>= λ place. constraint_at place >>= λ row. number_or_cause read >>= λ value. with_range_at (filed_of (with_range_pairs d used pairs)) value row)
     ≡ judged (if not (is_some in_rows || is_some in_free) then Some cause.RowUnknown
-              else (if not (is_some in_rows) then Some cause.RangeOnFree else (cause_of read orelse (if is_some (value_on pairs [] row) then Some cause.EntryTwice else None))))
-             (filed_of (with_range_pairs d used (pairs ++ pair_of [] row word ∷ [])))
+    else (if not (is_some in_rows) then Some cause.RangeOnFree else (cause_of read orelse (if is_some (value_on pairs [] row) then Some cause.EntryTwice else None))))
+    (filed_of (with_range_pairs d used (pairs ++ pair_of [] row word ∷ [])))
 range_by d used pairs row word None None read known is_row reads = refl
 range_by d used pairs row word None (Some place) read known is_row reads = refl
 range_by d used pairs row word (Some place) in_free (Err fault) known is_row reads = refl
@@ -176,8 +175,8 @@ two_ranges : (before : List TextLine) (used : Option (Option (List ℕ))) (pairs
     ≡ judged (range_pairs_fault before pairs (pair_of [] row word ∷ pair_of [] second other ∷ [])) (filed_of (with_range_pairs (data_on before) used (pairs ++ pair_of [] row word ∷ pair_of [] second other ∷ [])))
 two_ranges before used pairs row word second other known =
     then_judged _ (λ h. with_range h second other) _ _ _ _ (range_step before used pairs row word known) (λ fine.
-        one_range before used (pairs ++ pair_of [] row word ∷ []) second other known
-        ∙ ap (λ (all : List Pair). judged (range_pairs_fault before (pairs ++ pair_of [] row word ∷ []) (pair_of [] second other ∷ [])) (filed_of (with_range_pairs (data_on before) used all))) (append_assoc pairs (pair_of [] row word ∷ []) (pair_of [] second other ∷ [])))
+    one_range before used (pairs ++ pair_of [] row word ∷ []) second other known
+    ∙ ap (λ (all : List Pair). judged (range_pairs_fault before (pairs ++ pair_of [] row word ∷ []) (pair_of [] second other ∷ [])) (filed_of (with_range_pairs (data_on before) used all))) (append_assoc pairs (pair_of [] row word ∷ []) (pair_of [] second other ∷ [])))
 
 by_used_range : (is : Bool) (d : Data) (used : Option (Option (List ℕ))) (pairs more : List Pair) (r : Result Filed Cause) (c : Option Cause) → r ≡ judged c (filed_of (with_range_pairs d used (pairs ++ more))) →
     (if is then r else Ok (filed_of (with_range_pairs d used pairs))) ≡ judged (if is then c else None) (filed_of (with_range_pairs d used (pairs ++ (if is then more else []))))

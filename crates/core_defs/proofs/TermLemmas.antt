@@ -1,5 +1,5 @@
 -- Terms of what is stated name by name.
-use Rattle.std.proofs.Common.{◌≡◌, ◌∙◌, ◌+◌, ◌<◌, ◌≤◌, ◌==◌, eqb, pos, ap, length, zero, suc, ℕ, Bool, true, false, List, [], ◌∷◌, Option, Some, None, refl, sym, nat_lt, if◌then◌else◌, arith}
+use Rattle.std.proofs.Common.{◌≡◌, ◌∙◌, ◌+◌, ◌<◌, ◌≤◌, eqb, pos, ap, length, zero, suc, ℕ, Bool, true, false, List, [], ◌∷◌, Option, Some, None, refl, sym, nat_lt, if◌then◌else◌, arith}
 use Rattle.std.specs.Option.{unwrap_or}
 use Rattle.std.specs.Ordering.{int_eq}
 use Rattle.std.specs.Cmp.{signed_Decides}
@@ -9,7 +9,6 @@ use Rattle.rationals.specs.Rational.{ℚ, zero_ℚ, ◌+ℚ◌, add_zero_ℚ, ze
 use Rattle.rationals.specs.Sparse.{Entry, Ascending, Ascending-weaker, coefficient, value_if}
 use Rattle.rationals.specs.Forms.{find, pick, put_unless, is_zero, IsForm, AllNonzero, EndsBelow}
 use Rattle.rationals.proofs.Lowest.{zero_from_num, num_zero}
-use Rattle.smps_words.specs.Names.{same_name}
 use Rattle.core_defs.specs.Terms.{with_term, nonzero_terms}
 use Rattle.core_defs.proofs.NameLemmas.{At, Missing, Distinct, Changes, name_is, same_either_way}
 
