@@ -2,3 +2,4 @@ pub mod ListLemmas
 pub mod PartLemmas
 pub mod RowLemmas
 pub mod LimitLemmas
+pub mod Sides
