@@ -3,3 +3,5 @@ pub mod PartLemmas
 pub mod RowLemmas
 pub mod LimitLemmas
 pub mod Sides
+pub mod TruthLemmas
+pub mod SolvedLemmas
