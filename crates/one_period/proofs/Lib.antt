@@ -2,3 +2,6 @@ pub mod ListLemmas
 pub mod PartLemmas
 pub mod RowLemmas
 pub mod LimitLemmas
+pub mod Sides
+pub mod TruthLemmas
+pub mod SolvedLemmas

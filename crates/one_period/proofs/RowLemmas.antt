@@ -52,7 +52,10 @@ bound_limits m (c ∷ cs) = bound_limit m c.lower c.upper ++ bound_limits (behin
 
 -- ---- the walks give them
 
-ok_same : {A : Type 0} (a b : A) → Ok {T = A} {E = Operation} a ≡ Ok b → a ≡ b
+abbrev pub given : {A : Type 0} → A → Walk A
+given a = Ok a
+
+pub ok_same : {A : Type 0} (a b : A) → given a ≡ given b → a ≡ b
 ok_same a b e = cc
 
 pub right_is : (parts : List Part) (f : List Entry) (end r : ℚ) → right_walk parts end f ≡ Ok r → r ≡ end -ℚ product f (shift_at parts)

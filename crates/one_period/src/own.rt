@@ -1,5 +1,5 @@
 //! The multipliers of a program's own rows.
-ghost use Rattle.std.specs.Prelude.{◌≡◌, MatchResult, Ok, take, drop};
+ghost use Rattle.std.specs.Prelude.{◌≡◌, IfOk, MatchResult, Ok, drop, length, take};
 ghost use Rattle.rationals.specs.Totals.{sum_walk};
 ghost use Rattle.frac128.specs.Faults.{FaultOf};
 ghost use Rattle.one_period.specs.Rows.{limit_count, own_walk};
@@ -51,7 +51,8 @@ pub(crate) fn own_duals(
     rows: &[NodeRow],
     duals: &[Frac],
 ) -> Result<Vec<Frac>, FormFault>
-    ensures { MatchResult result (λ own. own_walk rows.now duals.now ≡ Ok own.items) (FaultOf (own_walk rows.now duals.now)) }
+    ensures each_row { IfOk result (λ own. length own.items ≡ length rows.now) }
+    ensures exact { MatchResult result (λ own. own_walk rows.now duals.now ≡ Ok own.items) (FaultOf (own_walk rows.now duals.now)) }
 {
     let mut own = Vec::new(alloc);
     let mut left = duals;
