@@ -1,11 +1,12 @@
 -- Which line of a core file is refused, and for which cause, by the lines before it.
-use Rattle.std.specs.Prelude.{◌≡◌, ◌≢◌, ℕ, ◌+◌, Bool, true, false, List, [], ◌∷◌, ◌++◌, Option, Some, None, Result, Ok, Err, ◌&&◌, ◌||◌, ◌⊎◌, not, is_some, nat_lt, length, codes, if◌then◌else◌}
-use Rattle.rationals.specs.Rational.{ℚ}
+use Rattle.std.specs.Prelude.{◌≡◌, ℕ, ◌+◌, Bool, true, false, List, [], ◌∷◌, ◌++◌, Option, Some, None, Result, Ok, Err, ◌&&◌, ◌||◌, ◌⊎◌, not, is_some, nat_lt, length, codes, if◌then◌else◌}
 use Rattle.rationals.specs.Forms.{is_zero}
 use Rattle.smps_words.specs.Line.{TextLine, reading_of}
 use Rattle.smps_words.specs.Names.{same_name, place_of}
 use Rattle.core_defs.specs.declared.cause.Cause.{Cause}
 use Rattle.core_defs.specs.declared.cause.Cause.TheVariants as cause
+use Rattle.core_defs.specs.declared.cause.ReadFail.{ReadFail}
+use Rattle.core_defs.specs.declared.cause.ReadFail.TheVariants as fail
 use Rattle.core_defs.specs.declared.cause.Refusal.{Refusal}
 use Rattle.core_defs.specs.declared.kinds.RowUse.{RowUse}
 use Rattle.core_defs.specs.declared.kinds.RowUse.TheVariants as uses
@@ -229,3 +230,9 @@ pub record IsMissing (lines : List TextLine) (end_line : ℕ) (refusal : Refusal
 -- The refusal is that of the first line that is refused, or of the line behind the last where a section is missing.
 abbrev pub IsFault : List TextLine → ℕ → Refusal → Type 0
 IsFault lines end_line refusal = IsFirstFault lines refusal ⊎ IsMissing lines end_line refusal
+
+-- A text is read exactly where it is a core file; else its fault is named.
+abbrev pub IsReadOrRefused : {X : Type 0} → List ℕ → Result X ReadFail → Type 0
+IsReadOrRefused text (Ok _) = IsCoreFile (reading_of 0 text).lines
+IsReadOrRefused text (Err fail.Memory) = Unit {0}
+IsReadOrRefused text (Err (fail.Refused refusal)) = (IsCoreFile (reading_of 0 text).lines → ⊥) × IsFault (reading_of 0 text).lines (reading_of 0 text).end_line refusal

@@ -11,3 +11,4 @@ pub mod Core
 pub mod Finished
 pub mod Means
 pub mod Fault
+pub mod Laws

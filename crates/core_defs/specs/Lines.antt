@@ -1,5 +1,5 @@
 -- The lines of a section: a line belongs to the section of the last header up to it, and nothing comes behind ENDATA.
-use Rattle.std.specs.Prelude.{ℕ, Bool, false, List, [], ◌∷◌, ◌++◌, ◌||◌, not, if◌then◌else◌}
+use Rattle.std.specs.Prelude.{ℕ, Bool, false, List, [], ◌∷◌, ◌++◌, ◌&&◌, ◌||◌, not, if◌then◌else◌}
 use Rattle.std.specs.Option.{unwrap_or}
 use Rattle.smps_words.specs.Line.{TextLine}
 use Rattle.core_defs.specs.declared.section.Section.{Section}
@@ -22,10 +22,10 @@ section_after before (line ∷ lines) = section_after (section_behind before lin
 abbrev pub last_section : List TextLine → Section
 last_section lines = section_after sections.Start lines
 
--- some line belongs to the section
+-- some header begins the section
 abbrev pub has_after : Section → Section → List TextLine → Bool
 has_after wanted before [] = false
-has_after wanted before (line ∷ lines) = same_section (section_behind before line) wanted || has_after wanted (section_behind before line) lines
+has_after wanted before (line ∷ lines) = (line.header && same_section (section_behind before line) wanted) || has_after wanted (section_behind before line) lines
 
 abbrev pub has_section : Section → List TextLine → Bool
 has_section wanted lines = has_after wanted sections.Start lines

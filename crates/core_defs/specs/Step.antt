@@ -1,7 +1,6 @@
 -- What a line adds to the lines filed before it, or the cause that refuses it.
 use Rattle.std.specs.Prelude.{ℕ, Bool, true, false, not, List, [], ◌∷◌, ◌++◌, ◌+◌, ◌&&◌, ◌||◌, Option, Some, None, Result, Ok, Err, is_some, nat_lt, length, codes, if◌then◌else◌, slice_index_or, slice_set}
 use Rattle.rationals.specs.Rational.{ℚ, zero_ℚ}
-use Rattle.rationals.specs.Sparse.{Entry}
 use Rattle.rationals.specs.Forms.{find, is_zero}
 use Rattle.smps_words.specs.Line.{TextLine, reading_of}
 use Rattle.smps_words.specs.Names.{same_name, place_of}
