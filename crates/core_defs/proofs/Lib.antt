@@ -12,4 +12,5 @@ pub mod Steps
 pub mod Judged
 pub mod CoreLemmas
 pub mod MeansLemmas
+pub mod OneMeaning
 pub mod Texts

@@ -132,7 +132,7 @@ pub nonzero_within : (rows : ℕ) (terms : List Entry) → EndsBelow rows terms 
 nonzero_within rows [] within = tt
 nonzero_within rows (term ∷ terms) within = put_within (is_zero term.value) rows term.column term.value (nonzero_terms terms) within.0 (nonzero_within rows terms within.1)
 
-none_below : (start row : ℕ) (terms : List Entry) → Ascending start terms → row < start → coefficient terms row ≡ zero_ℚ
+pub none_below : (start row : ℕ) (terms : List Entry) → Ascending start terms → row < start → coefficient terms row ≡ zero_ℚ
 none_below start row [] rises low = refl
 none_below start row (term ∷ terms) rises low =
     let apart : eqb term.column row ≡ false = ne_eqb term.column row (λ same. absurd (omega (arith, rises.0))) in

@@ -14,6 +14,7 @@ use Rattle.core_defs.proofs.CoreLemmas.{column_names_are, core_is}
 use Rattle.core_defs.proofs.Gathered.{data_on, filed_of, Sound, judged}
 use Rattle.core_defs.proofs.Judged.{no_fault_snoc, end_more, has_more, data_behind, IsFiled, Judged, Behind, judged_text}
 use Rattle.core_defs.proofs.MeansLemmas.{means}
+use Rattle.core_defs.proofs.OneMeaning.{one_meaning}
 use Rattle.core_defs.proofs.Steps.{step_is, step_sound, nothing_sound}
 
 -- ---- reading goes through lines without fault
@@ -151,7 +152,7 @@ pub reading : (text : List ℕ) → IsReading (reading_of 0 text).lines (reading
 reading text = reading_by (reading_of 0 text).lines (reading_of 0 text).end_line (filed_text text) (judged_text (reading_of 0 text).end_line (reading_of 0 text).lines)
 
 pub core_file_laws : CoreFileLaws
-core_file_laws = record { reading = reading; one_fault = one_fault; no_fault = no_fault }
+core_file_laws = record { reading = reading; one_fault = one_fault; no_fault = no_fault; one_meaning = one_meaning }
 
 -- the same of what is given
 pub reading_as : (text : List ℕ) (given : Result Filed Refusal) → filed_text text ≡ given → IsReading (reading_of 0 text).lines (reading_of 0 text).end_line given

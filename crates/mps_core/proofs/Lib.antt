@@ -2,3 +2,4 @@ pub mod TermLemmas
 pub mod StepLemmas
 pub mod KeywordLemmas
 pub mod PlaceLemmas
+pub mod WholeLemmas

@@ -17,5 +17,7 @@ mod sets;
 mod stop;
 mod terms;
 mod values;
+mod whole;
 
 pub use core_defs::{Cause, ColumnDef, Core, ReadFail, Refusal, RowDef};
+pub use reading::read_core;

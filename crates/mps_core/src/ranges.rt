@@ -4,7 +4,7 @@ use crate::number::number_of;
 use crate::places::row_at;
 use crate::sets::choose;
 use crate::stop::Stop;
-use crate::values::{is_stated, state};
+use crate::values::{state, stated};
 use core_defs::{Cause, RowPlace};
 use smps_words::Line;
 use std::alloc::AllocError;
@@ -38,7 +38,7 @@ impl Draft {
             return Err(Stop::Fault(Cause::RangeOnFree));
         };
         let value = number_of(word)?;
-        if is_stated(&self.ranges, row) {
+        if stated(&self.ranges, row).is_some() {
             return Err(Stop::Fault(Cause::EntryTwice));
         }
         state(&mut self.ranges, row, value);

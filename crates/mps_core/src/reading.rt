@@ -7,9 +7,24 @@ ghost use Rattle.mps_core.specs.View.{Reads};
 
 use crate::draft::Draft;
 use crate::stop::Stop;
-use core_defs::{Cause, ReadFail, Refusal, Section};
+use crate::whole::core_of;
+use core_defs::{Cause, Core, ReadFail, Refusal, Section};
 use smps_words::Lines;
 use std::alloc::Global;
+
+/// The core that the text of a core file gives.
+///
+/// The form is that of the MPS format: the sections NAME, ROWS, COLUMNS, RHS, RANGES, BOUNDS and ENDATA, behind which nothing is read.
+/// A text that isn't of the form is refused at the first line that is at fault, or behind the last line where a section is missing.
+pub fn read_core(alloc: Global, text: &[u8]) -> Result<Core, ReadFail>
+    requires { length text.now < 2 ^ 32 - 1 }
+{
+    let draft = file_text(alloc, text)?;
+    match core_of(alloc, draft) {
+        Ok(core) => Ok(core),
+        Err(_) => Err(ReadFail::Memory),
+    }
+}
 
 /// The line behind the last, where a section is missing.
 fn missing(lines: &Lines) -> ReadFail

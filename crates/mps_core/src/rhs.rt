@@ -4,7 +4,7 @@ use crate::number::{is_zero, number_of};
 use crate::places::row_at;
 use crate::sets::choose;
 use crate::stop::Stop;
-use crate::values::{is_stated, state};
+use crate::values::{state, stated};
 use core_defs::{Cause, RowPlace};
 use frac128::Frac;
 use smps_words::Line;
@@ -36,14 +36,14 @@ impl Draft {
                 if row == 0 && !is_zero(value) {
                     return Err(Stop::Fault(Cause::ObjectiveRhs));
                 }
-                if is_stated(&self.free_rhs, row) {
+                if stated(&self.free_rhs, row).is_some() {
                     return Err(Stop::Fault(Cause::EntryTwice));
                 }
                 state(&mut self.free_rhs, row, value);
                 Ok(())
             }
             RowPlace::Constraint(row) => {
-                if is_stated(&self.rhs, row) {
+                if stated(&self.rhs, row).is_some() {
                     return Err(Stop::Fault(Cause::EntryTwice));
                 }
                 state(&mut self.rhs, row, value);

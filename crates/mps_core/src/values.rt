@@ -1,17 +1,17 @@
 //! Values by the numbers of rows and columns.
-ghost use Rattle.std.specs.Prelude.{◌≡◌, Some, None, is_some, slice_index_or, slice_set};
+ghost use Rattle.std.specs.Prelude.{◌≡◌, Some, None, slice_index_or, slice_set};
 ghost use Rattle.core_defs.specs.Bounds.{first_bounds};
 
 use core_defs::ColumnBounds;
 use frac128::Frac;
 
-/// Whether the row has a value.
-pub(crate) fn is_stated(values: &Vec<Option<Frac>>, row: usize) -> bool
-    ensures { result ≡ is_some (slice_index_or values.now.items row None) }
+/// The value of the row, where it has one.
+pub(crate) fn stated(values: &Vec<Option<Frac>>, row: usize) -> Option<Frac>
+    ensures { result ≡ slice_index_or values.now.items row None }
 {
     match values.get(row) {
-        Some(value) => value.is_some(),
-        None => false,
+        Some(value) => *value,
+        None => None,
     }
 }
 
