@@ -5,3 +5,4 @@ pub mod LimitLemmas
 pub mod Sides
 pub mod TruthLemmas
 pub mod SolvedLemmas
+pub mod EndLemmas
