@@ -5,3 +5,8 @@ pub mod LimitLemmas
 pub mod Sides
 pub mod TruthLemmas
 pub mod SolvedLemmas
+pub mod EndLemmas
+pub mod Values
+pub mod Points
+pub mod Bounds
+pub mod Flat
