@@ -1,9 +1,5 @@
-pub mod BelowLemmas
 pub mod ListLemmas
-pub mod ProgramLemmas
-pub mod NameLemmas
-pub mod SolvedLemmas
-pub mod TreeLemmas
-pub mod FormMeaning
-pub mod Meaning
-pub mod TruthLemmas
+pub mod PartLemmas
+pub mod RowLemmas
+pub mod LimitLemmas
+pub mod Sides
