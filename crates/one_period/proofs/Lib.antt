@@ -3,3 +3,5 @@ pub mod PartLemmas
 pub mod RowLemmas
 pub mod LimitLemmas
 pub mod Sides
+pub mod Moves
+pub mod Intervals
