@@ -5,3 +5,6 @@ pub mod LimitLemmas
 pub mod Sides
 pub mod Moves
 pub mod Intervals
+pub mod TruthLemmas
+pub mod SolvedLemmas
+pub mod EndLemmas
