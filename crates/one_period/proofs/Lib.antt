@@ -3,6 +3,8 @@ pub mod PartLemmas
 pub mod RowLemmas
 pub mod LimitLemmas
 pub mod Sides
+pub mod Moves
+pub mod Intervals
 pub mod TruthLemmas
 pub mod SolvedLemmas
 pub mod EndLemmas
