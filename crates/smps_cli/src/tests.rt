@@ -213,7 +213,7 @@ LOWER none
 UPPER 0
 POLICY 0
 END
-solve --core F|whole|Refused(Core, 3, RowKind)
+#solve --core F|whole|Refused(Core, 3, RowKind)
 ROWS
  N COST
  Q NEED
