@@ -20,7 +20,7 @@ use Rattle.core_defs.specs.declared.parts.ColumnPart.{ColumnPart}
 use Rattle.core_defs.specs.declared.parts.RowDef.{RowDef}
 use Rattle.core_defs.specs.declared.program.Core.{Core}
 use Rattle.core_defs.specs.Bounds.{first_bounds, bounds_by, crossed}
-use Rattle.core_defs.specs.Core.{row_names, column_names, InOrder, IsCore}
+use Rattle.core_defs.specs.Core.{row_names, column_names, IsField, InOrder, IsCore}
 use Rattle.core_defs.specs.Filed.{Filed, closed}
 use Rattle.core_defs.specs.Finished.{row_def, row_defs, column_def, column_defs, IsCoreOf}
 use Rattle.core_defs.specs.Stated.{use_of, constraint_with, kind_with, constraint_name, constraint_kind, value_on}
@@ -142,8 +142,8 @@ uncrossed None upper e = tt
 uncrossed (Some lower) None e = tt
 uncrossed (Some lower) (Some upper) e = not_above lower upper (compare lower upper) (compare_means lower upper) e
 
-pub core_is : (d : Data) (core : Core) → Sound d → IsCoreOf (filed_of d) core → IsCore core
-core_is d core sound is =
+pub core_is : (d : Data) (core : Core) → Sound d → All IsField (rows_in d) → All IsField (names_in d) → IsCoreOf (filed_of d) core → IsCore core
+core_is d core sound row_fields column_fields is =
     let rows : row_names core.rows.items ≡ rows_in d = ap row_names is.rows ∙ row_names_are (filed_of d) 0 (rows_in d) in
     let columns : core.columns.items ≡ map (column_in d) (names_in d) = is.columns ∙ columns_are d in
     let names : column_names core.columns.items ≡ names_in d = ap column_names columns ∙ named_in d (names_in d) in
@@ -154,6 +154,8 @@ core_is d core sound is =
       few_columns = omega (arith, sound.columns.few, column_count);
       rows_differ = numbered (row_names core.rows.items) (subst Distinct (sym rows) sound.rows.rows_differ);
       columns_differ = numbered (column_names core.columns.items) (subst Distinct (sym names) (all_distinct [] d.named tt));
+      row_fields = subst (All IsField) (sym rows) row_fields;
+      column_fields = subst (All IsField) (sym names) column_fields;
       forms = subst (All (λ (column : ColumnDef). IsForm column.entries)) (sym columns) (columns_all d (λ (column : ColumnDef). IsForm column.entries) (names_in d) (form_in d));
       within = subst (λ (count : ℕ). All (λ (column : ColumnDef). EndsBelow count column.entries) core.columns.items) (sym row_count)
           (subst (All (λ (column : ColumnDef). EndsBelow (length (rows_in d)) column.entries)) (sym columns) (columns_all d (λ (column : ColumnDef). EndsBelow (length (rows_in d)) column.entries) (names_in d) (within_in d)));

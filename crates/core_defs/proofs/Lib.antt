@@ -10,6 +10,7 @@ pub mod BoundSteps
 pub mod HeaderSteps
 pub mod Steps
 pub mod Judged
+pub mod FieldLemmas
 pub mod CoreLemmas
 pub mod MeansLemmas
 pub mod OneMeaning

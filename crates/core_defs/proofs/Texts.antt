@@ -11,6 +11,7 @@ use Rattle.core_defs.specs.Lines.{last_section, has_section}
 use Rattle.core_defs.specs.Section.{is_end}
 use Rattle.core_defs.specs.Step.{on_line, finish, read_from, filed_text}
 use Rattle.core_defs.proofs.CoreLemmas.{column_names_are, core_is}
+use Rattle.core_defs.proofs.FieldLemmas.{AreFields, text_fields, row_fields, column_fields}
 use Rattle.core_defs.proofs.Gathered.{data_on, filed_of, Sound, judged}
 use Rattle.core_defs.proofs.Judged.{no_fault_snoc, end_more, has_more, data_behind, IsFiled, Judged, Behind, judged_text}
 use Rattle.core_defs.proofs.MeansLemmas.{means}
@@ -129,27 +130,27 @@ no_fault lines end_line refusal file fault =
     absurd (cc)
 
 -- what is filed is filed of all lines
-all_filed : (lines : List TextLine) (f : Filed) → IsFiled lines f → IsFiledCore lines f
-all_filed lines f filed =
+all_filed : (lines : List TextLine) (f : Filed) → AreFields lines → IsFiled lines f → IsFiledCore lines f
+all_filed lines f fields filed =
     let same : data_on lines ≡ data_on filed.read = ap data_on filed.split ∙ data_behind filed.read filed.rest filed.end in
     let sound : Sound (data_on lines) = subst Sound (sym same) filed.sound in
     let is : filed_of (data_on lines) ≡ f = ap filed_of same ∙ sym filed.is in
     subst (IsFiledCore lines) is (record {
       file = record { read = filed.read; rest = filed.rest; split = filed.split; fit = filed.fit; end = filed.end; whole = filed.whole };
       means = λ core of_core. means lines core sound of_core;
-      is_core = λ core of_core. core_is (data_on lines) core sound of_core;
+      is_core = λ core of_core. core_is (data_on lines) core sound (row_fields lines fields) (column_fields lines fields) of_core;
       few_rows = sound.rows.few;
       few_columns = sound.columns.few;
       named = column_names_are (data_on lines);
     })
 
-reading_by : (lines : List TextLine) (end_line : ℕ) (given : Result Filed Refusal) → Judged lines end_line given → IsReading lines end_line given
-reading_by lines end_line (Ok f) judged = all_filed lines f judged
-reading_by lines end_line (Err refusal) judged = ((λ file. no_fault lines end_line refusal file judged), judged)
+reading_by : (lines : List TextLine) (end_line : ℕ) (given : Result Filed Refusal) → AreFields lines → Judged lines end_line given → IsReading lines end_line given
+reading_by lines end_line (Ok f) fields judged = all_filed lines f fields judged
+reading_by lines end_line (Err refusal) fields judged = ((λ file. no_fault lines end_line refusal file judged), judged)
 
 -- a text is filed or refused as its lines say, taken together
 pub reading : (text : List ℕ) → IsReading (reading_of 0 text).lines (reading_of 0 text).end_line (filed_text text)
-reading text = reading_by (reading_of 0 text).lines (reading_of 0 text).end_line (filed_text text) (judged_text (reading_of 0 text).end_line (reading_of 0 text).lines)
+reading text = reading_by (reading_of 0 text).lines (reading_of 0 text).end_line (filed_text text) (text_fields text) (judged_text (reading_of 0 text).end_line (reading_of 0 text).lines)
 
 pub core_file_laws : CoreFileLaws
 core_file_laws = record { reading = reading; one_fault = one_fault; no_fault = no_fault; one_meaning = one_meaning }
