@@ -3,3 +3,4 @@ pub mod StepLemmas
 pub mod KeywordLemmas
 pub mod PlaceLemmas
 pub mod WholeLemmas
+pub mod ReadLemmas

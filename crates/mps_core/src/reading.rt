@@ -1,5 +1,8 @@
 //! Reading a whole text.
-ghost use Rattle.std.specs.Prelude.{◌≡◌, ◌<◌, ◌-◌, ◌^◌, length};
+ghost use Rattle.std.specs.Prelude.{◌≡◌, ◌<◌, ◌-◌, ◌^◌, length, IfOk};
+ghost use Rattle.core_defs.specs.Core.{IsCore};
+ghost use Rattle.core_defs.specs.Fault.{IsReadOrRefused};
+ghost use Rattle.core_defs.specs.Means.{TextMeans};
 ghost use Rattle.core_defs.specs.Step.{filed_text};
 ghost use Rattle.core_defs.specs.declared.cause.Cause.TheVariants as cause;
 ghost use Rattle.core_defs.specs.declared.cause.ReadFail.TheVariants as fail;
@@ -18,6 +21,12 @@ use std::alloc::Global;
 /// A text that isn't of the form is refused at the first line that is at fault, or behind the last line where a section is missing.
 pub fn read_core(alloc: Global, text: &[u8]) -> Result<Core, ReadFail>
     requires { length text.now < 2 ^ 32 - 1 }
+    // The core is the one that the lines mean, taken together.
+    ensures means { IfOk result (TextMeans text.now) }
+    ensures core { IfOk result IsCore }
+
+    // A text is read exactly where no line is at fault and no section is missing; else the first fault is named.
+    ensures faults { IsReadOrRefused text.now result }
 {
     let draft = file_text(alloc, text)?;
     match core_of(alloc, draft) {
