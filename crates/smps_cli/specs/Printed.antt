@@ -35,13 +35,13 @@ pub record PrintsReportOf (core : Core) (output : List ℕ) (status : Status) : 
   -- its ends are shown by its lists, its finding by its reason
   pub truth : SolvesProgram program pivot_limit report
 
--- an operation of the ends of the core's rows passes 128 bits, and this is the first
-abbrev pub IsPassed : Core → ℕ → Cause → Type 0
-IsPassed core line cause = (p : Operation) × (single_walk core ≡ Err p) × (cause ≡ Passes p) × (line ≡ 0)
-
--- What a core may come to: a report of its program, or the refusal of an end.
-abbrev pub AnswersCore : Core → Status → List ℕ → Type 0
-AnswersCore core status output = PrintsReportOf core output status ⊎ ((line : ℕ) × (cause : Cause) × IsPassed core line cause × (status ≡ Refused FileKind.Core line cause) × (output ≡ status_line status))
+-- An end of the core's rows passes 128 bits: the line of the refusal says so.
+pub record RefusesEnd (core : Core) (output : List ℕ) (status : Status) : Type 0 where
+  -- the first operation that passes
+  pub operation : Operation
+  pub passes : single_walk core ≡ Err operation
+  pub told : status ≡ Refused FileKind.Core 0 (Passes operation)
+  pub text : output ≡ status_line status
 
 -- The output of `solve` on these bytes of a core file, and its status.
 pub record PrintsTrueReport (bytes output : List ℕ) (status : Status) : Type 0 where
@@ -61,7 +61,10 @@ pub record IsPassing (bytes : List ℕ) (line : ℕ) (cause : Cause) : Type 0 wh
   pub read : IsCoreFile (reading_of 0 bytes).lines
   pub core : Core
   pub means : TextMeans bytes core
-  pub passes : IsPassed core line cause
+  pub operation : Operation
+  pub passes : single_walk core ≡ Err operation
+  pub line_is : line ≡ 0
+  pub cause_is : cause ≡ Passes operation
 
 abbrev pub IsRefusedAt : List ℕ → ℕ → Cause → Type 0
 IsRefusedAt bytes line cause = IsUnread bytes line cause ⊎ IsPassing bytes line cause

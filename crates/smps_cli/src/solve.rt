@@ -1,10 +1,10 @@
 //! The command `solve` on a core file alone.
-ghost use Rattle.std.specs.Prelude.{◌≡◌, ◌≤◌, IfOk, Ok, length};
+ghost use Rattle.std.specs.Prelude.{◌≡◌, ◌≤◌, ◌⊎◌, IfOk, Ok, length};
 ghost use Rattle.core_defs.specs.Core.{IsCore};
 ghost use Rattle.scen_defs.specs.Fits.{ListsHaveNames};
 ghost use Rattle.scen_defs.specs.Program.{content};
 ghost use Rattle.smps_build.specs.Single.{single_walk};
-ghost use Rattle.smps_cli.specs.Printed.{PrintsReportOf, AnswersCore};
+ghost use Rattle.smps_cli.specs.Printed.{PrintsReportOf, RefusesEnd};
 ghost use Rattle.smps_cli.specs.Answers.{MayBeSolved, file_limit};
 ghost use Rattle.report_text.specs.Text.{report_text};
 ghost use Rattle.smps_cli.specs.Findings.{command_status};
@@ -38,7 +38,7 @@ pub(crate) fn solved(alloc: Global, text: &[u8]) -> Result<Answer, Memory>
 /// The answer for a core.
 fn solved_core(alloc: Global, core: &Core) -> Result<Answer, Memory>
     requires { IsCore core.now }
-    ensures { IfOk result (λ answer. AnswersCore core.now answer.status answer.output.items) }
+    ensures { IfOk result (λ answer. PrintsReportOf core.now answer.output.items answer.status ⊎ RefusesEnd core.now answer.output.items answer.status) }
 {
     match single(alloc, core) {
         Ok(program) => solved_program(alloc, core, &program),
