@@ -10,3 +10,5 @@ pub mod Values
 pub mod Points
 pub mod Bounds
 pub mod Flat
+pub mod SpreadColumns
+pub mod DualEnds
