@@ -12,3 +12,4 @@ pub mod Bounds
 pub mod Flat
 pub mod SpreadColumns
 pub mod DualEnds
+pub mod DualRows
