@@ -147,3 +147,60 @@ ends_show ps f (Some l) (Some u) more w o h e = record { good = both_good l u (s
 
     go : (dot w (ends_of (Some l) (Some u)) ≤ℚ worth (Some l) (Some u) (sum_first (limit_count (Some l) (Some u)) w)) × HaveSigns more (drop (limit_count (Some l) (Some u)) w) × (length (drop (limit_count (Some l) (Some u)) w) ≡ length more)
     go = at (same l u) w refl h e
+
+-- ---- the limits of all rows, before more of them
+
+-- what the multipliers of the rows' limits say of the rows' own multipliers y
+pub record RowsShow (ps : List Part) (rows : List NodeRow) (more : List Limit) (w : List ℚ) (y : ℕ → ℚ) : Type 0 where
+  pub good : Each (λ (r : NodeRow). IsGoodAt r.low r.high (y r.row)) rows
+  pub worth : dot w (rights (own_limits ps rows ++ more)) ≤ℚ sum_ℚ (λ (r : NodeRow). worth r.low r.high (y r.row)) rows -ℚ sum_ℚ (λ (r : NodeRow). product r.entries (shift_at ps) *ℚ y r.row) rows +ℚ dot (behind_own rows w) (rights more)
+  pub signs : HaveSigns more (behind_own rows w)
+  pub one_each : length (behind_own rows w) ≡ length more
+
+worth_step : (a d s o r g z y t v p : ℚ) → a ≡ d -ℚ s *ℚ o +ℚ r → d ≤ℚ g → r ≤ℚ t -ℚ p +ℚ z → y ≡ o → a ≤ℚ (g +ℚ t) -ℚ (s *ℚ y +ℚ p) +ℚ z
+worth_step a d s o r g z y t v p e f h k =
+    let x : s *ℚ y ≡ s *ℚ o = ap (λ q. s *ℚ q) k in
+    by_linear (a ∷ d ∷ s ∷ o ∷ r ∷ g ∷ z ∷ y ∷ t ∷ p ∷ []) (equal e (fact f (fact h (equal x nothing)))) (search terms depth 40) tt
+
+last_step : (d : ℚ) → d ≤ℚ zero_ℚ -ℚ zero_ℚ +ℚ d
+last_step d = le_of_same_ℚ (by_ring (d ∷ []) (search terms depth 40) tt)
+
+pub rows_show : (n k : ℕ) (ps : List Part) (rows : List NodeRow) (more : List Limit) (w : List ℚ) (y : ℕ → ℚ) → AreOwnRows n k rows → Agree y k (own_sums rows w)
+    → HaveSigns (own_limits ps rows ++ more) w → length w ≡ length (own_limits ps rows ++ more) → RowsShow ps rows more w y
+rows_show n k ps [] more w y a g h e = record { good = tt; worth = last_step (dot w (rights more)); signs = h; one_each = e }
+rows_show n k ps (r ∷ rs) more w y a g h e =
+    let split : (end_limits ps r.entries r.low r.high ++ own_limits ps rs) ++ more ≡ end_limits ps r.entries r.low r.high ++ (own_limits ps rs ++ more) = append_assoc (end_limits ps r.entries r.low r.high) (own_limits ps rs) more in
+    let h' : HaveSigns (end_limits ps r.entries r.low r.high ++ (own_limits ps rs ++ more)) w = subst (λ (ls : List Limit). HaveSigns ls w) split h in
+    let e' : length w ≡ length (end_limits ps r.entries r.low r.high ++ (own_limits ps rs ++ more)) = e ∙ ap length split in
+    let here : RowShows r.low r.high (own_limits ps rs ++ more) w = ends_show ps r.entries r.low r.high (own_limits ps rs ++ more) w a.0.in_order h' e' in
+    let rest : RowsShow ps rs more (behind_row r w) y = rows_show n (suc k) ps rs more (behind_row r w) y a.1 g.1 here.signs here.one_each in
+    let at : y r.row ≡ own_sum r w = ap y a.0.number ∙ g.0 in
+    let right : dot w (rights ((end_limits ps r.entries r.low r.high ++ own_limits ps rs) ++ more))
+        ≡ dot w (ends_of r.low r.high) -ℚ product r.entries (shift_at ps) *ℚ own_sum r w +ℚ dot (behind_row r w) (rights (own_limits ps rs ++ more)) = ap (λ (ls : List Limit). dot w (rights ls)) split ∙ ends_rights ps r.entries r.low r.high (own_limits ps rs ++ more) w e' in
+    let here_worth : dot w (ends_of r.low r.high) ≤ℚ worth r.low r.high (y r.row) = subst (λ (q : ℚ). dot w (ends_of r.low r.high) ≤ℚ worth r.low r.high q) (sym at) here.worth in
+    record {
+      good = (subst (IsGoodAt r.low r.high) (sym at) here.good, rest.good);
+      worth = worth_step (dot w (rights ((end_limits ps r.entries r.low r.high ++ own_limits ps rs) ++ more))) (dot w (ends_of r.low r.high)) (product r.entries (shift_at ps)) (own_sum r w)
+          (dot (behind_row r w) (rights (own_limits ps rs ++ more))) (worth r.low r.high (y r.row)) (dot (behind_own rs (behind_row r w)) (rights more)) (y r.row)
+          (sum_ℚ (λ (s : NodeRow). worth s.low s.high (y s.row)) rs) zero_ℚ (sum_ℚ (λ (s : NodeRow). product s.entries (shift_at ps) *ℚ y s.row) rs) right here_worth rest.worth at;
+      signs = rest.signs;
+      one_each = rest.one_each;
+    }
+
+pub rows_columns : (n k c : ℕ) (ps : List Part) (rows : List NodeRow) (more : List Limit) (w : List ℚ) (y : ℕ → ℚ) → AreOwnRows n k rows → Agree y k (own_sums rows w)
+    → HaveSigns (own_limits ps rows ++ more) w → length w ≡ length (own_limits ps rows ++ more)
+    → dot w (column_at c (own_limits ps rows ++ more)) ≡ sum_ℚ (λ (r : NodeRow). coefficient (spread_form ps r.entries) c *ℚ y r.row) rows +ℚ dot (behind_own rows w) (column_at c more)
+rows_columns n k c ps [] more w y a g h e = sym (zero_add_ℚ (dot w (column_at c more)))
+rows_columns n k c ps (r ∷ rs) more w y a g h e =
+    let split : (end_limits ps r.entries r.low r.high ++ own_limits ps rs) ++ more ≡ end_limits ps r.entries r.low r.high ++ (own_limits ps rs ++ more) = append_assoc (end_limits ps r.entries r.low r.high) (own_limits ps rs) more in
+    let h' : HaveSigns (end_limits ps r.entries r.low r.high ++ (own_limits ps rs ++ more)) w = subst (λ (ls : List Limit). HaveSigns ls w) split h in
+    let e' : length w ≡ length (end_limits ps r.entries r.low r.high ++ (own_limits ps rs ++ more)) = e ∙ ap length split in
+    let here : RowShows r.low r.high (own_limits ps rs ++ more) w = ends_show ps r.entries r.low r.high (own_limits ps rs ++ more) w a.0.in_order h' e' in
+    let rest : dot (behind_row r w) (column_at c (own_limits ps rs ++ more)) ≡ sum_ℚ (λ (s : NodeRow). coefficient (spread_form ps s.entries) c *ℚ y s.row) rs +ℚ dot (behind_own rs (behind_row r w)) (column_at c more) =
+    rows_columns n (suc k) c ps rs more (behind_row r w) y a.1 g.1 here.signs here.one_each in
+    let at : y r.row ≡ own_sum r w = ap y a.0.number ∙ g.0 in
+    let first : dot w (column_at c (end_limits ps r.entries r.low r.high ++ (own_limits ps rs ++ more))) ≡ coefficient (spread_form ps r.entries) c *ℚ own_sum r w +ℚ dot (behind_row r w) (column_at c (own_limits ps rs ++ more)) =
+    ends_columns c ps r.entries r.low r.high (own_limits ps rs ++ more) w e' in
+    ap (λ (ls : List Limit). dot w (column_at c ls)) split ∙ first
+    ∙ by_eqs (coefficient (spread_form ps r.entries) c ∷ own_sum r w ∷ y r.row ∷ dot (behind_row r w) (column_at c (own_limits ps rs ++ more)) ∷ sum_ℚ (λ (s : NodeRow). coefficient (spread_form ps s.entries) c *ℚ y s.row) rs ∷ dot (behind_own rs (behind_row r w)) (column_at c more) ∷ [])
+    (by_eq one_ℚ rest (by_eq (zero_ℚ -ℚ coefficient (spread_form ps r.entries) c) at done)) (search terms depth 40) tt

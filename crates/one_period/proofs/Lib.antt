@@ -13,3 +13,4 @@ pub mod Flat
 pub mod SpreadColumns
 pub mod DualEnds
 pub mod DualRows
+pub mod DualBounds
