@@ -14,3 +14,4 @@ pub mod SpreadColumns
 pub mod DualEnds
 pub mod DualRows
 pub mod DualBounds
+pub mod Duals
