@@ -15,3 +15,4 @@ pub mod DualEnds
 pub mod DualRows
 pub mod DualBounds
 pub mod Duals
+pub mod Policies
