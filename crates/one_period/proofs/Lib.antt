@@ -16,3 +16,4 @@ pub mod DualRows
 pub mod DualBounds
 pub mod Duals
 pub mod Policies
+pub mod FoundShows
