@@ -5,6 +5,8 @@ pub mod LimitLemmas
 pub mod Sides
 pub mod Moves
 pub mod Intervals
+pub mod Worths
+pub mod DualRows
 pub mod TruthLemmas
 pub mod SolvedLemmas
 pub mod EndLemmas
