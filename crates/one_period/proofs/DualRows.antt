@@ -94,7 +94,7 @@ behind_limits parts r rs more = end_limits parts r.entries r.low r.high ++ (own_
 limits_are : (parts : List Part) (r : NodeRow) (rs : List NodeRow) (more : List Limit) → own_limits parts (r ∷ rs) ++ more ≡ behind_limits parts r rs more
 limits_are parts r rs more = append_assoc (end_limits parts r.entries r.low r.high) (own_limits parts rs) more
 
-pub record RowSides (k : ℕ) (parts : List Part) (rows : List NodeRow) (all more : List Limit) (w : List ℚ) (y : ℕ → ℚ) : Type 0 where
+pub record RowSides (parts : List Part) (rows : List NodeRow) (all more : List Limit) (w : List ℚ) (y : ℕ → ℚ) : Type 0 where
   pub length_is : length (behind_own rows w) ≡ length more
   pub column : (c : ℕ) → dot w (column_at c all) ≡ sum_ℚ (λ (r : NodeRow). coefficient (spread_form parts r.entries) c *ℚ y r.row) rows +ℚ dot (behind_own rows w) (column_at c more)
   pub signs : HaveSigns all w → HaveSigns more (behind_own rows w)
@@ -103,7 +103,7 @@ pub record RowSides (k : ℕ) (parts : List Part) (rows : List NodeRow) (all mor
       → dot w (rights all) ≤ℚ sum_ℚ (λ (r : NodeRow). worth r.low r.high (y r.row)) rows -ℚ sum_ℚ (λ (r : NodeRow). product r.entries (shift_at parts) *ℚ y r.row) rows +ℚ dot (behind_own rows w) (rights more)
 
 pub row_sides : (n k : ℕ) (parts : List Part) (rows : List NodeRow) (more : List Limit) (w : List ℚ) (y : ℕ → ℚ) → AreOwnRows n k rows → Agree y k (own_sums rows w)
-    → length w ≡ length (own_limits parts rows ++ more) → RowSides k parts rows (own_limits parts rows ++ more) more w y
+    → length w ≡ length (own_limits parts rows ++ more) → RowSides parts rows (own_limits parts rows ++ more) more w y
 row_sides n k parts [] more w y a g h = record {
   length_is = h;
   column = λ c. by_ring (dot w (column_at c more) ∷ []) (search terms depth 40) tt;
@@ -115,10 +115,10 @@ row_sides n k parts (r ∷ rs) more w y a g h =
     let len : length w ≡ length (behind_limits parts r rs more) = h ∙ ap length (limits_are parts r rs more) in
     let one : RowSide parts r.entries r.low r.high (limit_count r.low r.high) (end_limits parts r.entries r.low r.high) (own_limits parts rs ++ more) w =
     row_side parts r.entries r.low r.high (own_limits parts rs ++ more) w a.0.in_order len in
-    let rest : RowSides (suc k) parts rs (own_limits parts rs ++ more) more (behind_row r w) y = row_sides n (suc k) parts rs more (behind_row r w) y a.1 g.1 one.length_is in
+    let rest : RowSides parts rs (own_limits parts rs ++ more) more (behind_row r w) y = row_sides n (suc k) parts rs more (behind_row r w) y a.1 g.1 one.length_is in
     let e : y r.row ≡ own_sum r w = ap y a.0.number ∙ g.0 in
     let whole : behind_limits parts r rs more ≡ own_limits parts (r ∷ rs) ++ more = sym (limits_are parts r rs more) in
-    subst (λ (all : List Limit). RowSides k parts (r ∷ rs) all more w y) whole record {
+    subst (λ (all : List Limit). RowSides parts (r ∷ rs) all more w y) whole record {
       length_is = rest.length_is;
       column = λ c.
           by_eqs (dot w (column_at c (behind_limits parts r rs more)) ∷ coefficient (spread_form parts r.entries) c ∷ y r.row ∷ own_sum r w ∷ dot (behind_row r w) (column_at c (own_limits parts rs ++ more))

@@ -7,6 +7,7 @@ pub mod Moves
 pub mod Intervals
 pub mod Worths
 pub mod DualRows
+pub mod DualBounds
 pub mod TruthLemmas
 pub mod SolvedLemmas
 pub mod EndLemmas
