@@ -8,6 +8,7 @@ pub mod Intervals
 pub mod Worths
 pub mod DualRows
 pub mod DualBounds
+pub mod DualLists
 pub mod TruthLemmas
 pub mod SolvedLemmas
 pub mod EndLemmas
