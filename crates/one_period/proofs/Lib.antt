@@ -6,9 +6,9 @@ pub mod Sides
 pub mod Moves
 pub mod Intervals
 pub mod Worths
-pub mod DualRows
-pub mod DualBounds
-pub mod DualLists
+pub mod RowSides
+pub mod ColumnSides
+pub mod DualSides
 pub mod TruthLemmas
 pub mod SolvedLemmas
 pub mod EndLemmas

@@ -22,8 +22,8 @@ use Rattle.one_period.proofs.PartLemmas.{are_parts, parts_length}
 use Rattle.one_period.proofs.RowLemmas.{shift_at, own_limits, bound_limits}
 use Rattle.one_period.proofs.Sides.{own_sums, behind_own, Agree}
 use Rattle.one_period.proofs.Moves.{shifts, Stands, coefficient_moves}
-use Rattle.one_period.proofs.DualRows.{RowSides, row_sides}
-use Rattle.one_period.proofs.DualBounds.{Follows, AreReduced, bound_worth, ColumnSides, column_sides}
+use Rattle.one_period.proofs.RowSides.{RowSides, row_sides}
+use Rattle.one_period.proofs.ColumnSides.{Follows, AreReduced, bound_worth, ColumnSides, column_sides}
 
 -- the entries of a column, each times its row's multiplier
 abbrev pub row_products : List NodeRow → (ℕ → ℚ) → ℕ → ℚ
