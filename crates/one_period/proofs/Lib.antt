@@ -12,3 +12,11 @@ pub mod DualSides
 pub mod TruthLemmas
 pub mod SolvedLemmas
 pub mod EndLemmas
+pub mod Values
+pub mod Points
+pub mod Bounds
+pub mod Flat
+pub mod SpreadColumns
+pub mod DualEnds
+pub mod DualRows
+pub mod DualBounds

@@ -55,28 +55,28 @@ start m ps zero = m
 start m [] (suc k) = m
 start m (p ∷ ps) (suc k) = start (behind p) ps k
 
-part_rises : (m : ℕ) (p : Part) → IsPart m p → m < behind p
+pub part_rises : (m : ℕ) (p : Part) → IsPart m p → m < behind p
 part_rises m (Above l k) h = omega arith
 part_rises m (Below u k) h = omega arith
 part_rises m (Free k n) h = omega (arith, h.0, h.1)
 
-start_least : (m : ℕ) (ps : List Part) (k : ℕ) → AreParts m ps → m ≤ start m ps k
+pub start_least : (m : ℕ) (ps : List Part) (k : ℕ) → AreParts m ps → m ≤ start m ps k
 start_least m ps zero a = omega arith
 start_least m [] (suc k) a = omega arith
 start_least m (p ∷ ps) (suc k) a = let h : m < behind p = part_rises m p a.0 in let i : behind p ≤ start (behind p) ps k = start_least (behind p) ps k a.1 in omega arith
 
-start_rises : (m : ℕ) (ps : List Part) (j k : ℕ) → AreParts m ps → j ≤ k → start m ps j ≤ start m ps k
+pub start_rises : (m : ℕ) (ps : List Part) (j k : ℕ) → AreParts m ps → j ≤ k → start m ps j ≤ start m ps k
 start_rises m ps zero k a h = start_least m ps k a
 start_rises m ps (suc j) zero a h = absurd (omega arith)
 start_rises m [] (suc j) (suc k) a h = omega arith
 start_rises m (p ∷ ps) (suc j) (suc k) a h = start_rises (behind p) ps j k a.1 (omega arith)
 
-part_begins : (m : ℕ) (ps : List Part) (k : ℕ) → AreParts m ps → k < length ps → IsPart (start m ps k) (part_at ps k)
+pub part_begins : (m : ℕ) (ps : List Part) (k : ℕ) → AreParts m ps → k < length ps → IsPart (start m ps k) (part_at ps k)
 part_begins m [] k a h = absurd (omega arith)
 part_begins m (p ∷ ps) zero a h = a.0
 part_begins m (p ∷ ps) (suc k) a h = part_begins (behind p) ps k a.1 (omega arith)
 
-part_ends : (m : ℕ) (ps : List Part) (k : ℕ) → AreParts m ps → k < length ps → start m ps (suc k) ≡ behind (part_at ps k)
+pub part_ends : (m : ℕ) (ps : List Part) (k : ℕ) → AreParts m ps → k < length ps → start m ps (suc k) ≡ behind (part_at ps k)
 part_ends m [] k a h = absurd (omega arith)
 part_ends m (p ∷ []) zero a h = refl
 part_ends m (p ∷ q ∷ ps) zero a h = refl
