@@ -3,12 +3,6 @@ pub mod PartLemmas
 pub mod RowLemmas
 pub mod LimitLemmas
 pub mod Sides
-pub mod Moves
-pub mod Intervals
-pub mod Worths
-pub mod RowSides
-pub mod ColumnSides
-pub mod DualSides
 pub mod TruthLemmas
 pub mod SolvedLemmas
 pub mod EndLemmas

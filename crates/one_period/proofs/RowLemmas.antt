@@ -149,12 +149,12 @@ bound_below n m None high h = tt
 bound_below n m (Some low) None h = tt
 bound_below n m (Some low) (Some high) h = (unit_below n m (omega arith), tt)
 
-pub behind_rises : (m : ℕ) (low high : Option ℚ) → m < behind (part_of m low high)
+behind_rises : (m : ℕ) (low high : Option ℚ) → m < behind (part_of m low high)
 behind_rises m (Some l) high = omega arith
 behind_rises m None (Some u) = omega arith
 behind_rises m None None = omega arith
 
-pub behind_more : (m : ℕ) (cs : List Column) → m ≤ behind_all m (parts_from m cs)
+behind_more : (m : ℕ) (cs : List Column) → m ≤ behind_all m (parts_from m cs)
 behind_more m [] = omega arith
 behind_more m (c ∷ cs) =
     let a : m < behind (part_of m c.lower c.upper) = behind_rises m c.lower c.upper in
