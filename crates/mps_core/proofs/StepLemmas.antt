@@ -1,17 +1,18 @@
 -- More than six fields fit no line.
-use Rattle.std.proofs.Common.{◌≡◌, ℕ, List, [], ◌∷◌, length, Err, refl, arith}
-use Rattle.mps_core.specs.declared.cause.Cause.TheVariants as cause
-use Rattle.mps_core.specs.Filed.{Filed}
-use Rattle.mps_core.specs.Step.{row_line, column_line, rhs_line}
+use Rattle.std.proofs.Common.{◌≡◌, ◌+◌, ◌<◌, ℕ, List, [], ◌∷◌, length, Err, refl, arith}
+use Rattle.core_defs.specs.declared.kinds.BoundKind.{BoundKind}
+use Rattle.core_defs.specs.declared.cause.Cause.TheVariants as cause
+use Rattle.core_defs.specs.Filed.{Filed}
+use Rattle.core_defs.specs.Step.{row_line, column_line, rhs_line, range_line, value_line, plain_line, bound_line}
 
-pub long_row : (f : Filed) (fields : List (List ℕ)) → length fields ≡ 7 → row_line f fields ≡ Err cause.NotBuilt
+pub long_row : (f : Filed) (fields : List (List ℕ)) → length fields ≡ 7 → row_line f fields ≡ Err cause.FieldCount
 unfolding row_line
 long_row f [] seven = absurd (omega arith)
 long_row f (_ ∷ []) seven = absurd (omega arith)
 long_row f (_ ∷ _ ∷ []) seven = absurd (omega arith)
 long_row f (_ ∷ _ ∷ _ ∷ _) seven = refl
 
-pub long_column : (f : Filed) (fields : List (List ℕ)) → length fields ≡ 7 → column_line f fields ≡ Err cause.NotBuilt
+pub long_column : (f : Filed) (fields : List (List ℕ)) → length fields ≡ 7 → column_line f fields ≡ Err cause.FieldCount
 unfolding column_line
 long_column f [] seven = absurd (omega arith)
 long_column f (_ ∷ []) seven = absurd (omega arith)
@@ -21,7 +22,7 @@ long_column f (_ ∷ _ ∷ _ ∷ _ ∷ []) seven = absurd (omega arith)
 long_column f (_ ∷ _ ∷ _ ∷ _ ∷ _ ∷ []) seven = absurd (omega arith)
 long_column f (_ ∷ _ ∷ _ ∷ _ ∷ _ ∷ _ ∷ _) seven = refl
 
-pub long_rhs : (f : Filed) (fields : List (List ℕ)) → length fields ≡ 7 → rhs_line f fields ≡ Err cause.NotBuilt
+pub long_rhs : (f : Filed) (fields : List (List ℕ)) → length fields ≡ 7 → rhs_line f fields ≡ Err cause.FieldCount
 unfolding rhs_line
 long_rhs f [] seven = absurd (omega arith)
 long_rhs f (_ ∷ []) seven = absurd (omega arith)
@@ -30,3 +31,32 @@ long_rhs f (_ ∷ _ ∷ _ ∷ []) seven = absurd (omega arith)
 long_rhs f (_ ∷ _ ∷ _ ∷ _ ∷ []) seven = absurd (omega arith)
 long_rhs f (_ ∷ _ ∷ _ ∷ _ ∷ _ ∷ []) seven = absurd (omega arith)
 long_rhs f (_ ∷ _ ∷ _ ∷ _ ∷ _ ∷ _ ∷ _) seven = refl
+
+pub long_range : (f : Filed) (fields : List (List ℕ)) → length fields ≡ 7 → range_line f fields ≡ Err cause.FieldCount
+unfolding range_line
+long_range f [] seven = absurd (omega arith)
+long_range f (_ ∷ []) seven = absurd (omega arith)
+long_range f (_ ∷ _ ∷ []) seven = absurd (omega arith)
+long_range f (_ ∷ _ ∷ _ ∷ []) seven = absurd (omega arith)
+long_range f (_ ∷ _ ∷ _ ∷ _ ∷ []) seven = absurd (omega arith)
+long_range f (_ ∷ _ ∷ _ ∷ _ ∷ _ ∷ []) seven = absurd (omega arith)
+long_range f (_ ∷ _ ∷ _ ∷ _ ∷ _ ∷ _ ∷ _) seven = refl
+
+-- Nor do more than three behind a kind of bounds.
+pub long_value : (f : Filed) (kind : BoundKind) (fields : List (List ℕ)) → 3 < length fields → value_line f kind fields ≡ Err cause.FieldCount
+unfolding value_line
+long_value f kind [] long = absurd (omega arith)
+long_value f kind (_ ∷ []) long = absurd (omega arith)
+long_value f kind (_ ∷ _ ∷ []) long = absurd (omega arith)
+long_value f kind (_ ∷ _ ∷ _ ∷ []) long = absurd (omega arith)
+long_value f kind (_ ∷ _ ∷ _ ∷ _ ∷ _) long = refl
+
+pub long_plain : (f : Filed) (kind : BoundKind) (fields : List (List ℕ)) → 3 < length fields → plain_line f kind fields ≡ Err cause.FieldCount
+unfolding plain_line
+long_plain f kind [] long = absurd (omega arith)
+long_plain f kind (_ ∷ []) long = absurd (omega arith)
+long_plain f kind (_ ∷ _ ∷ []) long = absurd (omega arith)
+long_plain f kind (_ ∷ _ ∷ _ ∷ []) long = absurd (omega arith)
+long_plain f kind (_ ∷ _ ∷ _ ∷ _ ∷ _) long = refl
+
+pub ruleset bound_lines = (long_value, long_plain)

@@ -11,7 +11,7 @@ use Rattle.rationals.specs.Rational.{ℚ}
 use Rattle.rationals.specs.Sparse.{Entry, Ascending, Ascending-weaker}
 use Rattle.rationals.specs.Forms.{find, pick, put_unless, is_zero, IsForm, AllNonzero}
 use Rattle.rationals.proofs.Lowest.{num_zero}
-use Rattle.mps_core.specs.Terms.{terms_of, with_term, nonzero_terms}
+use Rattle.core_defs.specs.Terms.{terms_of, with_term, nonzero_terms}
 
 at_key : (row key : ℕ) → is_at (nat_cmp row) key ≡ (key == row)
 at_key row key = grind (arith, nat_tests)

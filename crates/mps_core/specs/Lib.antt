@@ -1,15 +1,3 @@
-pub mod Section
-pub mod Number
-pub mod Terms
-pub mod Filed
-pub mod Step
 pub mod View
-pub mod Rows
-pub mod Core
-pub mod Finished
-pub mod Cause
-pub mod Lines
-pub mod Stated
-pub mod Bounds
-pub mod Means
-pub mod Thin
+pub mod Keywords
+pub mod Whole

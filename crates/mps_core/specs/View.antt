@@ -1,27 +1,33 @@
 -- The reader's tables as definitions see them, and what its steps give.
 use Rattle.std.specs.Prelude.{◌≡◌, Result, Ok, Err}
-use Rattle.mps_core.specs.declared.cause.Cause.{Cause}
-use Rattle.mps_core.specs.declared.cause.Refusal.{Refusal}
-use Rattle.mps_core.specs.declared.cause.ReadFail.{ReadFail}
-use Rattle.mps_core.specs.declared.cause.ReadFail.TheVariants as fail
+use Rattle.core_defs.specs.declared.cause.Cause.{Cause}
+use Rattle.core_defs.specs.declared.cause.Refusal.{Refusal}
+use Rattle.core_defs.specs.declared.cause.ReadFail.{ReadFail}
+use Rattle.core_defs.specs.declared.cause.ReadFail.TheVariants as fail
+use Rattle.core_defs.specs.Filed.{Filed}
 use Rattle.mps_core.specs.declared.stop.Stop.{Stop}
 use Rattle.mps_core.specs.declared.stop.Stop.TheVariants as stop
 use Rattle.mps_core.specs.declared.draft.Draft.{Draft}
-use Rattle.mps_core.specs.Filed.{Filed}
 
 abbrev pub filed : Draft → Filed
 filed draft = record {
   section = draft.section;
   has_columns = draft.has_columns;
-  objective = draft.objective;
+  free = draft.free;
   rows = draft.rows;
+  kinds = draft.kinds.items;
   names = draft.names;
-  columns = draft.columns.items;
-  current = draft.current;
-  cost = draft.cost;
+  parts = draft.parts.items;
+  costs = draft.costs;
   terms = draft.terms;
   entries = draft.entries;
-  rhs = draft.rhs;
+  rhs_set = draft.rhs_set;
+  rhs = draft.rhs.items;
+  free_rhs = draft.free_rhs.items;
+  range_set = draft.range_set;
+  ranges = draft.ranges.items;
+  bound_set = draft.bound_set;
+  bounds = draft.bounds.items;
 }
 
 -- The draft is now what the definition gives, or the cause is the definition's, unless memory ran out.

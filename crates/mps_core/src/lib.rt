@@ -1,21 +1,23 @@
 //! Core files: the reader of the MPS format, and the linear program that it gives.
 #![tactic(auto)]
 
-mod cause;
+mod bounds;
+mod columns;
 mod draft;
+mod keywords;
+mod limits;
+mod lines;
 mod number;
-mod parts;
-mod place;
-mod program;
+mod places;
+mod ranges;
 mod reading;
+mod rhs;
 mod rows;
-mod section;
+mod sets;
 mod stop;
 mod terms;
-#[cfg(test)]
-mod tests;
+mod values;
+mod whole;
 
-pub use cause::{Cause, ReadFail, Refusal};
-pub use parts::{ColumnDef, RowDef};
-pub use program::Core;
+pub use core_defs::{Cause, ColumnDef, Core, ReadFail, Refusal, RowDef};
 pub use reading::read_core;

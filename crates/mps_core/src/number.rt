@@ -1,9 +1,9 @@
 //! The numbers of a core file.
 ghost use Rattle.std.specs.Prelude.{◌≡◌};
 ghost use Rattle.rationals.specs.Forms.{is_zero};
-ghost use Rattle.mps_core.specs.Number.{number_of, is_negative};
+ghost use Rattle.core_defs.specs.Number.{number_of, is_negative};
 
-use crate::cause::Cause;
+use core_defs::Cause;
 use frac128::{Frac, NumFault, parse};
 
 /// The number that a field is.
@@ -12,7 +12,8 @@ pub(crate) fn number_of(word: &[u8]) -> Result<Frac, Cause>
 {
     match parse(word) {
         Ok(value) => Ok(value),
-        Err(NumFault::Bad | NumFault::Wide) => Err(Cause::NotBuilt),
+        Err(NumFault::Bad) => Err(Cause::NumberBad),
+        Err(NumFault::Wide) => Err(Cause::NumberWide),
     }
 }
 

@@ -1,39 +1,48 @@
 //! Reading a whole text.
 ghost use Rattle.std.specs.Prelude.{◌≡◌, ◌<◌, ◌-◌, ◌^◌, length, IfOk};
-ghost use Rattle.mps_core.specs.Core.{IsCore, IsThin};
-ghost use Rattle.mps_core.specs.Means.{TextMeans};
-ghost use Rattle.mps_core.specs.Thin.{IsReadWhereThin};
+ghost use Rattle.core_defs.specs.Core.{IsCore};
+ghost use Rattle.core_defs.specs.Fault.{IsReadOrRefused};
+ghost use Rattle.core_defs.specs.Means.{TextMeans};
+ghost use Rattle.core_defs.specs.Step.{filed_text};
+ghost use Rattle.core_defs.specs.declared.cause.Cause.TheVariants as cause;
+ghost use Rattle.core_defs.specs.declared.cause.ReadFail.TheVariants as fail;
 ghost use Rattle.mps_core.specs.View.{Reads};
-ghost use Rattle.mps_core.specs.Step.{filed_text};
 
-use crate::cause::{Cause, ReadFail, Refusal};
 use crate::draft::Draft;
-use crate::program::Core;
-use crate::section::Section;
 use crate::stop::Stop;
+use crate::whole::core_of;
+use core_defs::{Cause, Core, ReadFail, Refusal, Section};
 use smps_words::Lines;
 use std::alloc::Global;
 
 /// The core that the text of a core file gives.
 ///
-/// The form is that of the MPS format, of which these parts are read now: NAME, ROWS with one N row first and then L rows, COLUMNS, RHS
-/// with the set `RHS` and no value below 0, and ENDATA, behind which nothing is read. Each other text is refused at its first line
-/// that isn't so.
+/// The form is that of the MPS format: the sections NAME, ROWS, COLUMNS, RHS, RANGES, BOUNDS and ENDATA, behind which nothing is read.
+/// A text that isn't of the form is refused at the first line that is at fault, or behind the last line where a section is missing.
 pub fn read_core(alloc: Global, text: &[u8]) -> Result<Core, ReadFail>
     requires { length text.now < 2 ^ 32 - 1 }
-    // The core is the one that the lines mean, and is of the forms that are read now.
+    // The core is the one that the lines mean, taken together.
     ensures means { IfOk result (TextMeans text.now) }
     ensures core { IfOk result IsCore }
-    ensures thin { IfOk result IsThin }
 
-    // A text is read exactly where it is of these forms; else the first line is named that isn't.
-    ensures forms { IsReadWhereThin text.now result }
+    // A text is read exactly where no line is at fault and no section is missing; else the first fault is named.
+    ensures faults { IsReadOrRefused text.now result }
 {
     let draft = file_text(alloc, text)?;
-    match Core::of(alloc, draft) {
+    match core_of(alloc, draft) {
         Ok(core) => Ok(core),
         Err(_) => Err(ReadFail::Memory),
     }
+}
+
+/// The line behind the last, where a section is missing.
+fn missing(lines: &Lines) -> ReadFail
+    ensures { result ≡ fail.Refused (record { line = lines.now.end_line; cause = cause.SectionMissing }) }
+{
+    ReadFail::Refused(Refusal {
+        line: lines.end_line(),
+        cause: Cause::SectionMissing,
+    })
 }
 
 /// Files the lines of a text up to ENDATA.
@@ -55,11 +64,11 @@ pub(crate) fn file_text(alloc: Global, text: &[u8]) -> Result<Draft, ReadFail>
             }
         }
         if draft.section == Section::End {
-            return Ok(draft);
+            if draft.has_columns {
+                return Ok(draft);
+            }
+            return Err(missing(&lines));
         }
     }
-    Err(ReadFail::Refused(Refusal {
-        line: lines.end_line(),
-        cause: Cause::NotBuilt,
-    }))
+    Err(missing(&lines))
 }

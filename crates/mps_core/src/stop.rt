@@ -2,7 +2,7 @@
 ghost use Rattle.std.specs.Prelude.{◌≡◌};
 ghost use Rattle.mps_core.specs.declared.stop.Stop.TheVariants.{Fault, Memory};
 
-use crate::cause::Cause;
+use core_defs::Cause;
 use std::alloc::{AllocError, AllocFailed};
 
 /// Why a line isn't filed.

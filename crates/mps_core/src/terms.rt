@@ -1,7 +1,7 @@
 //! Values by the numbers of rows.
 ghost use Rattle.std.specs.Prelude.{◌≡◌, [], None, IfOk, OnOk};
 ghost use Rattle.rationals.specs.Forms.{find};
-ghost use Rattle.mps_core.specs.Terms.{with_term, nonzero_terms};
+ghost use Rattle.core_defs.specs.Terms.{with_term, nonzero_terms};
 
 use crate::number::is_zero;
 use frac128::{Form, Frac, Term};
@@ -21,7 +21,7 @@ impl Model for Terms {
 
     ghost Value = { List Entry };
 
-    ghost use Rattle.mps_core.specs.Terms.{terms_of};
+    ghost use Rattle.core_defs.specs.Terms.{terms_of};
 
     ghost view = { λ terms. terms_of terms.values.entries };
 }
@@ -49,6 +49,13 @@ impl Terms {
     {
         self.values.insert(row, value)?;
         Ok(())
+    }
+
+    /// No row has a value any more.
+    pub(crate) fn clear(&mut self)
+        ensures { self.new ≡ [] }
+    {
+        self.values.clear();
     }
 
     /// The values that aren't 0 as a form; afterwards there are none.

@@ -1,16 +1,16 @@
 -- Each point of the rows is that of a point of the equations.
-use Rattle.std.proofs.Common.{◌≡◌, ℕ, suc, ◌≤◌, ◌<◌, Bool, true, false, eqb, ltb, List, [], ◌∷◌, refl, sym, ap, subst, ◌∙◌, arith}
-use Rattle.std.proofs.lemmas.Bool.{eq-eqb, ne_eqb, lt-ltb, ltb-true, ltb-false}
+use Rattle.std.proofs.Common.{◌≡◌, ℕ, suc, ◌≤◌, ◌<◌, Bool, true, false, eqb, ltb, List, [], ◌∷◌, refl, ap, ◌∙◌, arith}
+use Rattle.std.proofs.lemmas.Bool.{eq-eqb, ne_eqb, lt-ltb, ltb-true}
 use Rattle.rationals.specs.Rational.{ℚ, zero_ℚ, neg_ℚ, ◌+ℚ◌, ◌-ℚ◌, ◌≤ℚ◌, by_ring, by_linear, by_linear_eq, terms, le_refl_ℚ}
 use Rattle.rationals.specs.Ring.Given.{nothing, fact, equal}
-use Rattle.rationals.specs.Sparse.{Entry, product}
+use Rattle.rationals.specs.Sparse.{product}
 use Rattle.smps_words.specs.declared.row_kind.RowKind.{RowKind}
 use Rattle.smps_words.specs.declared.row_kind.RowKind.TheVariants.{Less, Greater, Equal}
 use Rattle.lp_defs.specs.Certificates as lp
 use Rattle.slack_form.specs.declared.limits.Limit.{Limit}
 use Rattle.slack_form.specs.declared.limits.Limits.{Limits}
 use Rattle.slack_form.specs.Limits.{IsLimits, AllBelow}
-use Rattle.slack_form.specs.Standard.{next_slack, behind, turned, is_turned, equation, equations, turned_rights, standard_of}
+use Rattle.slack_form.specs.Standard.{next_slack, behind, turned, is_turned, equations, turned_rights, standard_of}
 use Rattle.slack_form.specs.Certificates.{Keeps, AllKeep, IsPoint}
 use Rattle.slack_form.proofs.Equations.{slack, next_above, behind_above, product_equation, product_same}
 

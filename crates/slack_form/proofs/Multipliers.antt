@@ -1,10 +1,10 @@
 -- Multipliers of the equations, their signs undone, are multipliers of the rows.
-use Rattle.std.proofs.Common.{◌≡◌, ℕ, suc, ◌≤◌, ◌<◌, Bool, true, false, List, [], ◌∷◌, length, refl, sym, ap, ap₂, subst, ◌∙◌, arith}
+use Rattle.std.proofs.Common.{◌≡◌, ℕ, suc, ◌≤◌, ◌<◌, List, [], ◌∷◌, length, refl, sym, ap, ap₂, subst, ◌∙◌, arith}
 use Rattle.rationals.specs.Rational.{ℚ, zero_ℚ, one_ℚ, neg_ℚ, ◌+ℚ◌, ◌-ℚ◌, ◌*ℚ◌, ◌≤ℚ◌, ◌<ℚ◌, by_ring, by_eqs, by_linear, terms}
 use Rattle.rationals.specs.Ring.Eqs.{done, by_eq}
 use Rattle.rationals.specs.Ring.Given.{nothing, fact, equal}
 use Rattle.rationals.specs.Sums.{dot}
-use Rattle.rationals.specs.Sparse.{Entry, coefficient}
+use Rattle.rationals.specs.Sparse.{coefficient}
 use Rattle.smps_words.specs.declared.row_kind.RowKind.{RowKind}
 use Rattle.smps_words.specs.declared.row_kind.RowKind.TheVariants.{Less, Greater, Equal}
 use Rattle.lp_defs.specs.Certificates as lp
@@ -12,7 +12,7 @@ use Rattle.slack_form.specs.declared.limits.Limit.{Limit}
 use Rattle.slack_form.specs.declared.limits.Limits.{Limits}
 use Rattle.slack_form.specs.Limits.{IsLimits, AllBelow, rights, column_at}
 use Rattle.slack_form.specs.Standard.{next_slack, behind, turned, is_turned, equation, equations, turned_rights, standard_of, turned_back, signed}
-use Rattle.slack_form.specs.Certificates.{HasSign, HaveSigns, IsDual, IsFarkas, worth}
+use Rattle.slack_form.specs.Certificates.{HasSign, HaveSigns, IsDual, IsFarkas}
 use Rattle.slack_form.proofs.Turns.{turned_zero, turned_times}
 use Rattle.slack_form.proofs.Equations.{slack, next_above, behind_above, equations_length, past_end, entry_before, entry_in, entry_behind}
 

@@ -1,8 +1,8 @@
 -- Points and rays of the equations are those of the rows.
-use Rattle.std.proofs.Common.{◌≡◌, ℕ, suc, ◌≤◌, ◌<◌, Bool, List, [], ◌∷◌, sym, ap, ◌∙◌, arith}
-use Rattle.rationals.specs.Rational.{ℚ, zero_ℚ, neg_ℚ, ◌+ℚ◌, ◌≤ℚ◌, by_linear, by_linear_eq, terms}
+use Rattle.std.proofs.Common.{◌≡◌, ℕ, List, [], ◌∷◌, sym, ◌∙◌}
+use Rattle.rationals.specs.Rational.{ℚ, zero_ℚ, ◌+ℚ◌, ◌≤ℚ◌, by_linear, by_linear_eq, terms}
 use Rattle.rationals.specs.Ring.Given.{nothing, fact, equal}
-use Rattle.rationals.specs.Sparse.{Entry, product}
+use Rattle.rationals.specs.Sparse.{product}
 use Rattle.smps_words.specs.declared.row_kind.RowKind.{RowKind}
 use Rattle.smps_words.specs.declared.row_kind.RowKind.TheVariants.{Less, Greater, Equal}
 use Rattle.lp_defs.specs.Certificates as lp

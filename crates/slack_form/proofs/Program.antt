@@ -1,6 +1,6 @@
 -- The standard form is one.
 use Rattle.std.proofs.Common.{◌≡◌, ℕ, suc, ◌+◌, ◌≤◌, ◌<◌, ◌^◌, Bool, true, false, List, [], ◌∷◌, length, refl, sym, ap, ◌∙◌, subst, arith}
-use Rattle.rationals.specs.Rational.{ℚ, zero_ℚ, neg_ℚ, ◌≤ℚ◌, by_linear, terms, lt_le_ℚ}
+use Rattle.rationals.specs.Rational.{ℚ, zero_ℚ, ◌≤ℚ◌, by_linear, terms, lt_le_ℚ}
 use Rattle.rationals.specs.Ring.Given.{nothing, fact}
 use Rattle.rationals.specs.Sparse.{Entry}
 use Rattle.lp_defs.specs.Program as lp

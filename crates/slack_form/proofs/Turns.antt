@@ -1,8 +1,6 @@
 -- Numbers and forms with their signs turned.
-use Rattle.std.proofs.Common.{◌≡◌, ℕ, suc, Bool, true, false, eqb, List, [], ◌∷◌, ◌++◌, refl, sym, ap, ap₂, ◌∙◌, arith}
-use Rattle.rationals.specs.Rational.{ℚ, zero_ℚ, one_ℚ, neg_ℚ, ◌+ℚ◌, ◌-ℚ◌, ◌*ℚ◌, by_ring, by_eqs, terms}
-use Rattle.rationals.specs.Ring.Eqs.{done, by_eq}
-use Rattle.rationals.specs.Sums.{dot}
+use Rattle.std.proofs.Common.{◌≡◌, ℕ, suc, Bool, true, false, eqb, List, [], ◌∷◌, ◌++◌, refl, sym, ap, ◌∙◌}
+use Rattle.rationals.specs.Rational.{ℚ, zero_ℚ, ◌+ℚ◌, ◌*ℚ◌, by_ring, terms}
 use Rattle.rationals.specs.Sparse.{Entry, product, coefficient, value_if, Ascending}
 use Rattle.rationals.specs.Forms.{IsForm, AllNonzero, EndsBelow}
 use Rattle.slack_form.specs.Standard.{turned, turned_form}

@@ -16,3 +16,5 @@ pub use limits::{Limit, Limits};
 pub use signs::own_duals;
 pub use slacks::standard;
 
+#[cfg(test)]
+mod tests;

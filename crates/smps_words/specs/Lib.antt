@@ -1,3 +1,5 @@
 pub mod Line
 pub mod Seen
 pub mod Names
+pub mod Words
+pub mod WordRows

@@ -1,7 +1,7 @@
 -- A row without a value gets one.
 use Rattle.std.proofs.Common.{◌∙◌, ap}
 use Rattle.rationals.specs.Forms.{find}
-use Rattle.mps_core.specs.Terms.{terms_of, with_term}
+use Rattle.core_defs.specs.Terms.{terms_of, with_term}
 use Rattle.mps_core.proofs.TermLemmas.{insert_is}
 use Rattle.mps_core.proofs.terms.Terms.add.Goals as goal
 

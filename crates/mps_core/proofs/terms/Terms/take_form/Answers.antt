@@ -2,7 +2,7 @@
 use Rattle.std.proofs.Common.{◌≡◌, ◌∙◌, ◌<◌, List, [], ◌∷◌, ◌++◌, true, false, length, refl, sym, ap, subst, append-nil, arith}
 use Rattle.rationals.specs.Sparse.{Entry}
 use Rattle.rationals.specs.Forms.{IsForm}
-use Rattle.mps_core.specs.Terms.{terms_of, nonzero_terms}
+use Rattle.core_defs.specs.Terms.{terms_of, nonzero_terms}
 use Rattle.mps_core.proofs.TermLemmas.{map_is_form}
 use Rattle.mps_core.proofs.terms.Terms.take_form.Goals as goal
 

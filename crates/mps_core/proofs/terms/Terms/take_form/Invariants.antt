@@ -1,6 +1,6 @@
 -- The terms so far and those of the rest are those of the whole.
 use Rattle.std.proofs.Common.{◌≡◌, ◌++◌, length}
-use Rattle.mps_core.specs.Terms.{terms_of, nonzero_terms}
+use Rattle.core_defs.specs.Terms.{terms_of, nonzero_terms}
 use Rattle.mps_core.proofs.terms.Terms.take_form.Given as goal
 
 abbrev pub invariant-loop-column : goal.invariant-loop-column

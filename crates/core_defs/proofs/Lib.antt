@@ -1,0 +1,17 @@
+pub mod NameLemmas
+pub mod TermLemmas
+pub mod Gathered
+pub mod LineLemmas
+pub mod RowSteps
+pub mod PairLemmas
+pub mod ColumnSteps
+pub mod SetSteps
+pub mod BoundSteps
+pub mod HeaderSteps
+pub mod Steps
+pub mod Judged
+pub mod FieldLemmas
+pub mod CoreLemmas
+pub mod MeansLemmas
+pub mod OneMeaning
+pub mod Texts

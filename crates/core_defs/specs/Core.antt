@@ -1,0 +1,43 @@
+-- What holds of every core.
+use Rattle.std.specs.Prelude.{◌≡◌, ℕ, ◌<◌, ◌^◌, false, List, Option, Some, None, ◌||◌, nat_eq, map, length, All}
+use Rattle.rationals.specs.Rational.{ℚ, ◌≤ℚ◌}
+use Rattle.rationals.specs.Forms.{IsForm, EndsBelow}
+use Rattle.smps_words.specs.Line.{is_blank}
+use Rattle.smps_words.specs.Names.{IsNumbered}
+use Rattle.core_defs.specs.declared.parts.RowDef.{RowDef}
+use Rattle.core_defs.specs.declared.parts.ColumnDef.{ColumnDef}
+use Rattle.core_defs.specs.declared.program.Core.{Core}
+
+-- the names of the constraints, in their order
+abbrev pub row_names : List RowDef → List (List ℕ)
+row_names rows = map (λ row. row.name) rows
+
+-- the names of the columns, in their order
+abbrev pub column_names : List ColumnDef → List (List ℕ)
+column_names columns = map (λ column. column.name) columns
+
+-- a name is a field: at least one byte, none of them a blank or a line feed
+pub record IsField (name : List ℕ) : Type 0 where
+  pub some : 0 < length name
+  pub unbroken : All (λ byte. (is_blank byte || nat_eq byte 10) ≡ false) name
+
+-- the lower bound isn't above the upper
+abbrev pub InOrder : Option ℚ → Option ℚ → Type 0
+InOrder None upper = Unit {0}
+InOrder (Some lower) None = Unit {0}
+InOrder (Some lower) (Some upper) = lower ≤ℚ upper
+
+pub record IsCore (core : Core) : Type 0 where
+  pub few_rows : length core.rows.items < 2 ^ 32
+  pub few_columns : length core.columns.items < 2 ^ 32
+  -- no two constraints have one name, and no two columns
+  pub rows_differ : IsNumbered (row_names core.rows.items)
+  pub columns_differ : IsNumbered (column_names core.columns.items)
+  pub row_fields : All IsField (row_names core.rows.items)
+  pub column_fields : All IsField (column_names core.columns.items)
+  -- a column's entries rise by constraint and aren't 0
+  pub forms : All (λ column. IsForm column.entries) core.columns.items
+  -- they are of constraints that are there
+  pub within : All (λ column. EndsBelow (length core.rows.items) column.entries) core.columns.items
+  -- no lower bound is above the upper one
+  pub in_order : All (λ column. InOrder column.lower column.upper) core.columns.items

@@ -1,0 +1,14 @@
+pub mod Section
+pub mod Number
+pub mod Terms
+pub mod Cause
+pub mod Lines
+pub mod Stated
+pub mod Bounds
+pub mod Filed
+pub mod Step
+pub mod Core
+pub mod Finished
+pub mod Means
+pub mod Fault
+pub mod Laws

@@ -1,0 +1,20 @@
+//! What a core file means, and which of its lines is refused for which cause.
+#![tactic(auto)]
+
+mod bounds;
+mod cause;
+mod kinds;
+mod laws;
+mod parts;
+mod place;
+mod program;
+mod section;
+
+pub use bounds::ColumnBounds;
+pub use cause::{Cause, ReadFail, Refusal};
+pub use kinds::{BoundKind, RowUse};
+pub use laws::core_file_laws;
+pub use parts::{ColumnDef, ColumnPart, RowDef};
+pub use place::RowPlace;
+pub use program::Core;
+pub use section::Section;
