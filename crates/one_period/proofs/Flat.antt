@@ -58,7 +58,7 @@ each_scenario P [] h p = absurd h
 each_scenario P (s ∷ []) h p = (subst P (sym h.1) p, tt)
 each_scenario P (s ∷ t ∷ ss) h p = absurd h
 
-entries_below : (P : Entry → Type 0) (n : ℕ) (f : List Entry) → EndsBelow n f → ((e : Entry) → e.column < n → P e) → Each P f
+pub entries_below : (P : Entry → Type 0) (n : ℕ) (f : List Entry) → EndsBelow n f → ((e : Entry) → e.column < n → P e) → Each P f
 entries_below P n [] h k = tt
 entries_below P n (e ∷ f) h k = (k e h.0, entries_below P n f h.1 k)
 
@@ -85,14 +85,14 @@ module _ (program : Program) (node : Node) (h : IsOneNode program node) where
   pub each_live : (P : ℕ → Type 0) → P 0 → Each P (seen program).live
   each_live P p = subst (Each P) (sym live_is) (p, tt)
 
-  column_is : (j : ℕ) → j < length program.columns.items → IsOwnColumn (column_at program.columns.items j)
+  pub column_is : (j : ℕ) → j < length program.columns.items → IsOwnColumn (column_at program.columns.items j)
   column_is j k = each_at IsOwnColumn j program.columns.items k h.columns
 
   pub each_column : (P : ℕ → Type 0) (s : ℕ) → ((j : ℕ) → j < length program.columns.items → IsOwnColumn (column_at program.columns.items j) → P j) → Each P ((seen program).columns s)
   each_column P s f = each-place P (λ (c : Column). eqb c.stage s) program.columns.items
       (λ j e. let k = passes_below (λ (c : Column). eqb c.stage s) j program.columns.items e in f j k (column_is j k))
 
-  has_column : (j : ℕ) → j < length program.columns.items → (s : ℕ) → s ≡ 0 → IsColumn (seen program) s j
+  pub has_column : (j : ℕ) → j < length program.columns.items → (s : ℕ) → s ≡ 0 → IsColumn (seen program) s j
   has_column j k s e = once-passes (λ (c : Column). eqb c.stage s) j program.columns.items
       (column_passes (λ (c : Column). eqb c.stage s) j program.columns.items k (eq-eqb _ _ ((column_is j k).stage ∙ sym e)))
 

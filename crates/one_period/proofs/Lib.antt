@@ -3,8 +3,6 @@ pub mod PartLemmas
 pub mod RowLemmas
 pub mod LimitLemmas
 pub mod Sides
-pub mod Moves
-pub mod Intervals
 pub mod TruthLemmas
 pub mod SolvedLemmas
 pub mod EndLemmas
@@ -12,3 +10,10 @@ pub mod Values
 pub mod Points
 pub mod Bounds
 pub mod Flat
+pub mod SpreadColumns
+pub mod DualEnds
+pub mod DualRows
+pub mod DualBounds
+pub mod Duals
+pub mod Policies
+pub mod FoundShows

@@ -5,6 +5,7 @@ use Rattle.rationals.specs.Ring.Eqs.{done, by_eq}
 use Rattle.rationals.specs.Sparse.{Entry, Ascending}
 use Rattle.rationals.specs.Forms.{IsForm, EndsBelow, AllNonzero}
 use Rattle.lp_defs.specs.Program.{IsFormBelow}
+use Rattle.scen_defs.specs.Program.{column_at}
 use Rattle.scen_defs.specs.declared.program.Column.{Column}
 use Rattle.one_period.specs.declared.part.Part.{Part}
 use Rattle.one_period.specs.declared.part.Part.TheVariants.{Above, Below, Free}
@@ -55,34 +56,34 @@ start m ps zero = m
 start m [] (suc k) = m
 start m (p ∷ ps) (suc k) = start (behind p) ps k
 
-part_rises : (m : ℕ) (p : Part) → IsPart m p → m < behind p
+pub part_rises : (m : ℕ) (p : Part) → IsPart m p → m < behind p
 part_rises m (Above l k) h = omega arith
 part_rises m (Below u k) h = omega arith
 part_rises m (Free k n) h = omega (arith, h.0, h.1)
 
-start_least : (m : ℕ) (ps : List Part) (k : ℕ) → AreParts m ps → m ≤ start m ps k
+pub start_least : (m : ℕ) (ps : List Part) (k : ℕ) → AreParts m ps → m ≤ start m ps k
 start_least m ps zero a = omega arith
 start_least m [] (suc k) a = omega arith
 start_least m (p ∷ ps) (suc k) a = let h : m < behind p = part_rises m p a.0 in let i : behind p ≤ start (behind p) ps k = start_least (behind p) ps k a.1 in omega arith
 
-start_rises : (m : ℕ) (ps : List Part) (j k : ℕ) → AreParts m ps → j ≤ k → start m ps j ≤ start m ps k
+pub start_rises : (m : ℕ) (ps : List Part) (j k : ℕ) → AreParts m ps → j ≤ k → start m ps j ≤ start m ps k
 start_rises m ps zero k a h = start_least m ps k a
 start_rises m ps (suc j) zero a h = absurd (omega arith)
 start_rises m [] (suc j) (suc k) a h = omega arith
 start_rises m (p ∷ ps) (suc j) (suc k) a h = start_rises (behind p) ps j k a.1 (omega arith)
 
-part_begins : (m : ℕ) (ps : List Part) (k : ℕ) → AreParts m ps → k < length ps → IsPart (start m ps k) (part_at ps k)
+pub part_begins : (m : ℕ) (ps : List Part) (k : ℕ) → AreParts m ps → k < length ps → IsPart (start m ps k) (part_at ps k)
 part_begins m [] k a h = absurd (omega arith)
 part_begins m (p ∷ ps) zero a h = a.0
 part_begins m (p ∷ ps) (suc k) a h = part_begins (behind p) ps k a.1 (omega arith)
 
-part_ends : (m : ℕ) (ps : List Part) (k : ℕ) → AreParts m ps → k < length ps → start m ps (suc k) ≡ behind (part_at ps k)
+pub part_ends : (m : ℕ) (ps : List Part) (k : ℕ) → AreParts m ps → k < length ps → start m ps (suc k) ≡ behind (part_at ps k)
 part_ends m [] k a h = absurd (omega arith)
 part_ends m (p ∷ []) zero a h = refl
 part_ends m (p ∷ q ∷ ps) zero a h = refl
 part_ends m (p ∷ ps) (suc k) a h = part_ends (behind p) ps k a.1 (omega arith)
 
-start_last : (m : ℕ) (ps : List Part) → start m ps (length ps) ≡ behind_all m ps
+pub start_last : (m : ℕ) (ps : List Part) → start m ps (length ps) ≡ behind_all m ps
 start_last m [] = refl
 start_last m (p ∷ ps) = start_last (behind p) ps
 
@@ -137,3 +138,17 @@ spread_is_form ps f a h = record {
   form = record { rises = spread_ascends 0 0 ps f a h.form.rises h.below; nonzero = all_nonzero ps f h.form.nonzero };
   below = form_below 0 ps f a h.below;
 }
+
+-- the part of a column is that of its bounds
+pub part_is : (m : ℕ) (cs : List Column) (j : ℕ) → j < length cs → part_at (parts_from m cs) j ≡ part_of (start m (parts_from m cs) j) (column_at cs j).lower (column_at cs j).upper
+part_is m [] j h = absurd (omega arith)
+part_is m (c ∷ cs) zero h = refl
+part_is m (c ∷ cs) (suc j) h = part_is (behind (part_of m c.lower c.upper)) cs j (omega arith)
+
+-- its last new column is one of all
+pub last_below : (m : ℕ) (ps : List Part) (j : ℕ) → AreParts m ps → j < length ps → last (part_at ps j) < behind_all m ps
+last_below m ps j a h =
+    let s : start m ps (suc j) ≤ start m ps (length ps) = start_rises m ps (suc j) (length ps) a (omega arith) in
+    let t : start m ps (suc j) ≡ behind (part_at ps j) = part_ends m ps j a h in
+    let u : start m ps (length ps) ≡ behind_all m ps = start_last m ps in
+    omega arith

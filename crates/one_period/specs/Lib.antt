@@ -5,3 +5,4 @@ pub mod Lists
 pub mod Found
 pub mod Solved
 pub mod Truth
+pub mod Laws
