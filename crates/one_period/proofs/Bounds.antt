@@ -1,5 +1,5 @@
 -- Points and directions over the new columns keep to the columns' bounds.
-use Rattle.std.proofs.Common.{◌≡◌, ℕ, zero, suc, ◌+◌, ◌<◌, ◌≤◌, List, [], ◌∷◌, ◌++◌, Option, Some, None, length, refl, sym, ap, arith}
+use Rattle.std.proofs.Common.{ℕ, zero, suc, ◌<◌, List, [], ◌∷◌, ◌++◌, Option, Some, None, length, arith}
 use Rattle.rationals.specs.Rational.{ℚ, zero_ℚ, one_ℚ, neg_ℚ, ◌+ℚ◌, ◌-ℚ◌, ◌*ℚ◌, ◌≤ℚ◌, by_linear, terms}
 use Rattle.rationals.specs.Ring.Given.{nothing, fact}
 use Rattle.slack_form.specs.Certificates.{AllKeep, AllKeepZero}
@@ -8,7 +8,7 @@ use Rattle.scen_defs.specs.Ends.{Between}
 use Rattle.scen_defs.specs.Flat.{zero_end}
 use Rattle.scen_defs.specs.Program.{column_at}
 use Rattle.scen_defs.specs.declared.program.Column.{Column}
-use Rattle.one_period.specs.Parts.{part_of, behind, parts_from, part_at, value_of, move_of}
+use Rattle.one_period.specs.Parts.{part_of, behind, parts_from, value_of, move_of}
 use Rattle.one_period.proofs.RowLemmas.{bound_limit, bound_limits}
 use Rattle.one_period.proofs.Points.{value_at, move_at}
 

@@ -1,11 +1,11 @@
 -- The multipliers of the bounds, and the reduced costs that they belong to.
-use Rattle.std.proofs.Common.{◌≡◌, ℕ, zero, suc, ◌+◌, ◌<◌, ◌≤◌, Bool, true, false, eqb, List, [], ◌∷◌, ◌++◌, Option, Some, None, length, refl, sym, ap, ap₂, subst, ◌∙◌, ◌⊎◌, inl, inr, arith}
+use Rattle.std.proofs.Common.{◌≡◌, ℕ, zero, suc, ◌<◌, ◌≤◌, Bool, true, false, List, [], ◌∷◌, ◌++◌, Option, Some, None, length, refl, sym, ap, ◌∙◌, ◌⊎◌, inl, inr, arith}
 use Rattle.std.proofs.lemmas.Bool.{eq-eqb, ne_eqb}
-use Rattle.rationals.specs.Rational.{ℚ, zero_ℚ, one_ℚ, neg_ℚ, ◌+ℚ◌, ◌-ℚ◌, ◌*ℚ◌, ◌≤ℚ◌, by_ring, by_eqs, by_linear, by_linear_eq, terms, le_refl_ℚ, le_of_same_ℚ, le_or_ge_ℚ, le_antisym_ℚ, mul_mono_ℚ, zero_add_ℚ, add_zero_ℚ}
+use Rattle.rationals.specs.Rational.{ℚ, zero_ℚ, one_ℚ, neg_ℚ, ◌+ℚ◌, ◌-ℚ◌, ◌*ℚ◌, ◌≤ℚ◌, by_ring, by_eqs, by_linear, terms, le_refl_ℚ, le_of_same_ℚ, le_or_ge_ℚ, le_antisym_ℚ, mul_mono_ℚ, add_zero_ℚ}
 use Rattle.rationals.specs.Ring.Eqs.{done, by_eq}
 use Rattle.rationals.specs.Ring.Given.{nothing, fact, equal}
 use Rattle.rationals.specs.Sums.{sum_ℚ, dot, dot-nil}
-use Rattle.rationals.specs.Sparse.{Entry, coefficient, value_if}
+use Rattle.rationals.specs.Sparse.{coefficient, value_if}
 use Rattle.slack_form.specs.declared.limits.Limit.{Limit}
 use Rattle.slack_form.specs.Limits.{rights, column_at as coefficients}
 use Rattle.slack_form.specs.Certificates.{HaveSigns}
@@ -15,9 +15,9 @@ use Rattle.scen_defs.specs.Program.{column_at}
 use Rattle.scen_defs.specs.declared.program.Column.{Column}
 use Rattle.one_period.specs.declared.part.Part.{Part}
 use Rattle.one_period.specs.declared.part.Part.TheVariants.{Above, Below, Free}
-use Rattle.one_period.specs.Parts.{part_of, last, behind, parts_from, part_at, shift, entry}
+use Rattle.one_period.specs.Parts.{part_of, behind, parts_from, part_at, shift, entry}
 use Rattle.one_period.proofs.PartLemmas.{start, start_least, are_parts}
-use Rattle.one_period.proofs.RowLemmas.{bound_limit, bound_limits, width_limit}
+use Rattle.one_period.proofs.RowLemmas.{bound_limit, bound_limits}
 use Rattle.one_period.proofs.DualEnds.{low_good, low_worth, high_good, high_worth, zero_good, zero_worth, both_good}
 
 -- ---- the multiplier of each column's bound, 0 where it has none

@@ -1,17 +1,16 @@
 -- The multipliers of the own rows: good ones, worth at least what those of their limits are worth.
-use Rattle.std.proofs.Common.{◌≡◌, ℕ, zero, suc, ◌+◌, Bool, true, false, List, [], ◌∷◌, ◌++◌, Option, Some, None, length, take, drop, refl, sym, ap, ap₂, subst, ◌∙◌, append_assoc, arith}
-use Rattle.rationals.specs.Rational.{ℚ, zero_ℚ, one_ℚ, ◌+ℚ◌, ◌-ℚ◌, ◌*ℚ◌, ◌≤ℚ◌, by_ring, by_eqs, by_linear, terms, le_refl_ℚ, le_of_same_ℚ, zero_add_ℚ, add_zero_ℚ}
+use Rattle.std.proofs.Common.{◌≡◌, ℕ, suc, Bool, true, false, List, [], ◌∷◌, ◌++◌, Option, Some, None, length, take, drop, refl, sym, ap, subst, ◌∙◌, append_assoc, arith}
+use Rattle.rationals.specs.Rational.{ℚ, zero_ℚ, one_ℚ, ◌+ℚ◌, ◌-ℚ◌, ◌*ℚ◌, ◌≤ℚ◌, by_ring, by_eqs, by_linear, terms, le_of_same_ℚ, zero_add_ℚ}
 use Rattle.rationals.specs.Ring.Eqs.{done, by_eq}
 use Rattle.rationals.specs.Ring.Given.{nothing, fact, equal}
 use Rattle.rationals.specs.Order.{same}
 use Rattle.rationals.specs.OrderLaws.{same_means}
 use Rattle.rationals.specs.Sums.{sum_ℚ, dot, dot-nil}
 use Rattle.rationals.specs.Sparse.{Entry, product, coefficient}
-use Rattle.smps_words.specs.declared.row_kind.RowKind.{RowKind}
 use Rattle.smps_words.specs.declared.row_kind.RowKind.TheVariants.{Less, Greater, Equal}
 use Rattle.slack_form.specs.declared.limits.Limit.{Limit}
 use Rattle.slack_form.specs.Limits.{rights, column_at}
-use Rattle.slack_form.specs.Certificates.{HasSign, HaveSigns}
+use Rattle.slack_form.specs.Certificates.{HaveSigns}
 use Rattle.scen_defs.specs.Lists.{Each, pick}
 use Rattle.scen_defs.specs.Ends.{InOrder, IsGoodAt, worth}
 use Rattle.scen_defs.specs.declared.program.NodeRow.{NodeRow}
@@ -176,7 +175,7 @@ rows_show n k ps (r ∷ rs) more w y a g h e =
     let rest : RowsShow ps rs more (behind_row r w) y = rows_show n (suc k) ps rs more (behind_row r w) y a.1 g.1 here.signs here.one_each in
     let at : y r.row ≡ own_sum r w = ap y a.0.number ∙ g.0 in
     let right : dot w (rights ((end_limits ps r.entries r.low r.high ++ own_limits ps rs) ++ more))
-        ≡ dot w (ends_of r.low r.high) -ℚ product r.entries (shift_at ps) *ℚ own_sum r w +ℚ dot (behind_row r w) (rights (own_limits ps rs ++ more)) = ap (λ (ls : List Limit). dot w (rights ls)) split ∙ ends_rights ps r.entries r.low r.high (own_limits ps rs ++ more) w e' in
+    ≡ dot w (ends_of r.low r.high) -ℚ product r.entries (shift_at ps) *ℚ own_sum r w +ℚ dot (behind_row r w) (rights (own_limits ps rs ++ more)) = ap (λ (ls : List Limit). dot w (rights ls)) split ∙ ends_rights ps r.entries r.low r.high (own_limits ps rs ++ more) w e' in
     let here_worth : dot w (ends_of r.low r.high) ≤ℚ worth r.low r.high (y r.row) = subst (λ (q : ℚ). dot w (ends_of r.low r.high) ≤ℚ worth r.low r.high q) (sym at) here.worth in
     record {
       good = (subst (IsGoodAt r.low r.high) (sym at) here.good, rest.good);

@@ -1,5 +1,5 @@
 -- Multipliers of the limits as multipliers of the program's rows: good ones, worth at least as much.
-use Rattle.std.proofs.Common.{◌≡◌, ℕ, zero, suc, ◌+◌, ◌-◌, ◌<◌, ◌≤◌, true, ◌&&◌, eqb, leb, List, [], ◌∷◌, ◌++◌, Option, length, refl, sym, ap, ap₂, subst, ◌∙◌, arith}
+use Rattle.std.proofs.Common.{◌≡◌, ℕ, suc, ◌-◌, ◌<◌, true, ◌&&◌, eqb, leb, List, [], ◌∷◌, ◌++◌, length, refl, sym, ap, ap₂, subst, ◌∙◌, arith}
 use Rattle.std.proofs.lemmas.Bool.{eq-eqb}
 use Rattle.rationals.specs.Rational.{ℚ, zero_ℚ, one_ℚ, neg_ℚ, ◌+ℚ◌, ◌-ℚ◌, ◌*ℚ◌, ◌≤ℚ◌, by_ring, by_eqs, by_linear, terms, add_zero_ℚ, mul_zero_ℚ}
 use Rattle.rationals.specs.Ring.Eqs.{done, by_eq}
@@ -14,8 +14,8 @@ use Rattle.scen_defs.specs.declared.program.Program.{Program}
 use Rattle.scen_defs.specs.declared.program.Column.{Column}
 use Rattle.scen_defs.specs.declared.program.Node.{Node}
 use Rattle.scen_defs.specs.declared.program.NodeRow.{NodeRow}
-use Rattle.scen_defs.specs.Lists.{Each, Once, places}
-use Rattle.scen_defs.specs.Ends.{InOrder, IsGoodAt, worth}
+use Rattle.scen_defs.specs.Lists.{Each, Once}
+use Rattle.scen_defs.specs.Ends.{IsGoodAt, worth}
 use Rattle.scen_defs.specs.Program.{View, column_at, total}
 use Rattle.scen_defs.specs.Flat.{reduced, is_above, subtree, up, GoodAt, IsGood, value}
 use Rattle.scen_defs.proofs.SumLaws.{each-map, sum-ext, sum-below, sum-sub, sum-keep, product-over}
@@ -31,7 +31,7 @@ use Rattle.one_period.proofs.Sides.{own_sums, behind_own, Agree}
 use Rattle.one_period.proofs.SpreadColumns.{spread_above, spread_under, spread_first, spread_second}
 use Rattle.one_period.proofs.DualRows.{RowsShow, rows_show, rows_columns}
 use Rattle.one_period.proofs.DualBounds.{bound_at, width_at, no_bound_at, bound_signs, bound_column, second_column, bound_rights, Reduced, column_shows}
-use Rattle.one_period.proofs.Flat.{live_is, rows_is, stage_is, total_is, each_live, each_column, column_is, has_column, entries_below}
+use Rattle.one_period.proofs.Flat.{live_is, rows_is, stage_is, total_is, each_live, each_column, has_column, entries_below}
 
 -- ---- sums over columns
 
@@ -54,7 +54,7 @@ flat_shift ks f [] s y a b =
 flat_shift ks f (r ∷ rs) s y a b =
     let first : sum_ℚ (λ j. flat f (r ∷ rs) y j *ℚ s j) ks ≡ sum_ℚ (λ j. flat f rs y j *ℚ s j -ℚ y r.row *ℚ (coefficient r.entries j *ℚ s j)) ks =
     sum-ext (λ j. flat f (r ∷ rs) y j *ℚ s j) (λ j. flat f rs y j *ℚ s j -ℚ y r.row *ℚ (coefficient r.entries j *ℚ s j))
-        (λ j. one_less (coefficient f j) (coefficient r.entries j) (y r.row) (sum_ℚ (λ (q : NodeRow). coefficient q.entries j *ℚ y q.row) rs) (s j)) ks in
+    (λ j. one_less (coefficient f j) (coefficient r.entries j) (y r.row) (sum_ℚ (λ (q : NodeRow). coefficient q.entries j *ℚ y q.row) rs) (s j)) ks in
     let second : sum_ℚ (λ j. flat f rs y j *ℚ s j -ℚ y r.row *ℚ (coefficient r.entries j *ℚ s j)) ks ≡ sum_ℚ (λ j. flat f rs y j *ℚ s j) ks -ℚ sum_ℚ (λ j. y r.row *ℚ (coefficient r.entries j *ℚ s j)) ks =
     sum-sub (λ j. flat f rs y j *ℚ s j) (λ j. y r.row *ℚ (coefficient r.entries j *ℚ s j)) ks in
     let third : sum_ℚ (λ j. y r.row *ℚ (coefficient r.entries j *ℚ s j)) ks ≡ y r.row *ℚ product r.entries s = sum-scale (y r.row) (λ j. coefficient r.entries j *ℚ s j) ks ∙ ap (λ q. y r.row *ℚ q) (product-over r.entries s ks b.0) in
@@ -249,8 +249,8 @@ module _ (program : Program) (node : Node) (h : IsOneNode program node) (costs :
         sum-add (λ j. flat f rows (y 0) j *ℚ shift_at ps j) (λ j. bound_at program.columns.items left j *ℚ width_at program.columns.items j) keys ∙ ap (λ q. sum_ℚ (λ j. flat f rows (y 0) j *ℚ shift_at ps j) keys +ℚ q) (sym bounds_is) in
         subst (λ (q : ℚ). q ≤ℚ sum_ℚ (λ j. worth (v.lower j) (v.upper j) (reduced v y 0 j)) keys) e
         (sum-below (λ j. flat f rows (y 0) j *ℚ shift_at ps j +ℚ bound_at program.columns.items left j *ℚ width_at program.columns.items j) (λ j. worth (v.lower j) (v.upper j) (reduced v y 0 j)) keys
-            (each_column program node h (λ j. flat f rows (y 0) j *ℚ shift_at ps j +ℚ bound_at program.columns.items left j *ℚ width_at program.columns.items j ≤ℚ worth (v.lower j) (v.upper j) (reduced v y 0 j)) ((seen program).stage 0)
-            (λ j k own. subst (λ (q : ℚ). flat f rows (y 0) j *ℚ shift_at ps j +ℚ bound_at program.columns.items left j *ℚ width_at program.columns.items j ≤ℚ worth (v.lower j) (v.upper j) q) (sym (reduced_is j)) (column_good j k own).1)))
+        (each_column program node h (λ j. flat f rows (y 0) j *ℚ shift_at ps j +ℚ bound_at program.columns.items left j *ℚ width_at program.columns.items j ≤ℚ worth (v.lower j) (v.upper j) (reduced v y 0 j)) ((seen program).stage 0)
+        (λ j k own. subst (λ (q : ℚ). flat f rows (y 0) j *ℚ shift_at ps j +ℚ bound_at program.columns.items left j *ℚ width_at program.columns.items j ≤ℚ worth (v.lower j) (v.upper j) q) (sym (reduced_is j)) (column_good j k own).1)))
 
     -- the multipliers are worth at least what those of the limits are, and the cost of the shifts
     pub at_least : dot w (rights (own_limits ps rows ++ more)) +ℚ product f (shift_at ps) ≤ℚ value v y
@@ -258,4 +258,4 @@ module _ (program : Program) (node : Node) (h : IsOneNode program node) (costs :
     at_least =
         subst (λ (q : ℚ). dot w (rights (own_limits ps rows ++ more)) +ℚ product f (shift_at ps) ≤ℚ q) (sym value_is)
         (total_worth worth_rows worth_columns (dot left (rights more)) (sum_ℚ (λ (r : NodeRow). product r.entries (shift_at ps) *ℚ y 0 r.row) rows) (product f (shift_at ps))
-            (dot w (rights (own_limits ps rows ++ more))) shifts shows.worth columns_at_least shifts_is)
+        (dot w (rights (own_limits ps rows ++ more))) shifts shows.worth columns_at_least shifts_is)

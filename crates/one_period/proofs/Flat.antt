@@ -1,10 +1,10 @@
 -- A program of one node as a tree.
-use Rattle.std.proofs.Common.{◌≡◌, ℕ, zero, suc, ◌+◌, ◌-◌, ◌<◌, ◌≤◌, Bool, true, false, ◌&&◌, eqb, leb, List, [], ◌∷◌, length, Option, Some, None, map, inl, inr, refl, sym, ap, ap₂, subst, ◌∙◌, arith, eqb-true}
+use Rattle.std.proofs.Common.{◌≡◌, ℕ, zero, suc, ◌-◌, ◌<◌, Bool, true, eqb, List, [], ◌∷◌, length, Some, inl, refl, sym, ap, ap₂, subst, ◌∙◌, arith, eqb-true}
 use Rattle.std.proofs.lemmas.Bool.{eq-eqb}
-use Rattle.rationals.specs.Rational.{ℚ, zero_ℚ, one_ℚ, ◌+ℚ◌, ◌-ℚ◌, ◌*ℚ◌, ◌<ℚ◌, zero_lt_one_ℚ, add_zero_ℚ, by_eqs, terms}
-use Rattle.rationals.specs.Ring.Eqs.{done, by_eq}
+use Rattle.rationals.specs.Rational.{ℚ, zero_ℚ, one_ℚ, ◌+ℚ◌, ◌*ℚ◌, ◌<ℚ◌, zero_lt_one_ℚ, add_zero_ℚ, by_eqs, terms}
+use Rattle.rationals.specs.Ring.Eqs.{done}
 use Rattle.rationals.specs.Sums.{sum_ℚ}
-use Rattle.rationals.specs.Sparse.{Entry, value_if, coefficient, product}
+use Rattle.rationals.specs.Sparse.{Entry, value_if}
 use Rattle.rationals.specs.Forms.{EndsBelow}
 use Rattle.scen_defs.specs.declared.program.Program.{Program}
 use Rattle.scen_defs.specs.declared.program.Column.{Column}
@@ -12,11 +12,9 @@ use Rattle.scen_defs.specs.declared.program.Node.{Node}
 use Rattle.scen_defs.specs.declared.program.NodeRow.{NodeRow}
 use Rattle.scen_defs.specs.declared.program.Scenario.{Scenario as ScenarioOf}
 use Rattle.scen_defs.specs.Lists.{Each, Once, is_in, places, passes_at}
-use Rattle.scen_defs.specs.Ends.{InOrder, worth, IsGoodAt}
-use Rattle.scen_defs.specs.Program.{Scenario, node_content, nodes_content, scenario_content, scenarios_content, content, view_of, is_live, node_at, column_at, View, IsLive, IsColumn, IsEntry, IsRow, IsNode, IsPath, IsColumnOf, IsTree, total}
+use Rattle.scen_defs.specs.Program.{Scenario, node_content, nodes_content, scenarios_content, is_live, node_at, column_at, IsLive, IsColumn, IsEntry, IsRow, IsNode, IsPath, IsColumnOf, IsTree, total}
 use Rattle.scen_defs.specs.Program.HasPlace.{is_first}
-use Rattle.scen_defs.specs.Flat.{up, home, along, node_cost, cost, reduced, is_above, subtree, without_costs, GoodAt, IsGood, value}
-use Rattle.scen_defs.proofs.SumLaws.{sum-keep}
+use Rattle.scen_defs.specs.Flat.{up, home, node_cost, cost}
 use Rattle.scen_defs.proofs.Valid.{each-place, once-passes}
 use Rattle.one_period.specs.Node.{IsOwnColumn, IsOwnRow, AreOwnRows, IsCertain, IsOneNode}
 use Rattle.one_period.specs.Solved.{seen}

@@ -1,9 +1,6 @@
 -- What is found for a program of one period shows itself.
-use Rattle.std.proofs.Common.{◌≡◌, ℕ, ◌+◌, ◌<◌, List, [], ◌∷◌, ◌++◌, Result, Ok, Err, length, refl, sym, ap, ap₂, subst, ◌∙◌, arith}
-use Rattle.std.specs.Prelude.{IfOk}
-use Rattle.frac128.specs.declared.form.FormFault.{FormFault}
-use Rattle.frac128.specs.Faults.{IfNotMemory}
-use Rattle.rationals.specs.Rational.{ℚ, zero_ℚ, one_ℚ, ◌+ℚ◌, ◌-ℚ◌, ◌*ℚ◌, ◌≤ℚ◌, ◌<ℚ◌, by_linear, by_eqs, terms, lt_by, le_antisym_ℚ, le_of_same_ℚ}
+use Rattle.std.proofs.Common.{◌≡◌, ℕ, ◌<◌, List, [], ◌∷◌, ◌++◌, Ok, Err, length, refl, sym, ap, subst, ◌∙◌}
+use Rattle.rationals.specs.Rational.{ℚ, zero_ℚ, ◌+ℚ◌, ◌-ℚ◌, ◌≤ℚ◌, ◌<ℚ◌, by_linear, terms, lt_by, le_antisym_ℚ}
 use Rattle.rationals.specs.Ring.Given.{nothing, fact, equal}
 use Rattle.rationals.specs.Passes.{Operation, then_walk}
 use Rattle.rationals.specs.Sums.{dot}
@@ -23,7 +20,7 @@ use Rattle.scen_defs.specs.declared.program.Program.{Program}
 use Rattle.scen_defs.specs.declared.program.Node.{Node}
 use Rattle.scen_defs.specs.Fits.{HaveNames}
 use Rattle.scen_defs.specs.Values.{At, at}
-use Rattle.scen_defs.specs.Flat.{Feasible, IsGood, ShowsInfeasible, without_costs, cost, value}
+use Rattle.scen_defs.specs.Flat.{Feasible, IsGood, without_costs, cost, value}
 use Rattle.scen_defs.proofs.Duality.{weak_duality}
 use Rattle.one_period.specs.declared.found.Found.{Found}
 use Rattle.one_period.specs.declared.found.Found.TheVariants as found_end
@@ -31,15 +28,15 @@ use Rattle.one_period.specs.declared.part.Vector.TheVariants.{Point, Direction}
 use Rattle.one_period.specs.Node.{IsOneNode}
 use Rattle.one_period.specs.Parts.{behind_all, spread_form}
 use Rattle.one_period.specs.Lists.{values_from, columns_walk}
-use Rattle.one_period.specs.Rows.{rows_walk, own_walk}
-use Rattle.one_period.specs.Found.{parts_of, standard_seen, multipliers_walk, tested_walk, end_walk, path_walk, found_walk, found, or_passed}
+use Rattle.one_period.specs.Rows.{own_walk}
+use Rattle.one_period.specs.Found.{parts_of, standard_seen, multipliers_walk, tested_walk, end_walk, path_walk, found, or_passed}
 use Rattle.one_period.specs.Solved.{seen, AreBest, IsNowhere, AreEndless, Shows, FoundHasNames}
 use Rattle.one_period.specs.Laws.{IsWritten, PeriodLaws}
 use Rattle.one_period.proofs.PartLemmas.{parts_length}
 use Rattle.one_period.proofs.RowLemmas.{shift_at, own_limits, bound_limits, rows_are, ok_same}
 use Rattle.one_period.proofs.LimitLemmas.{are_limits}
 use Rattle.one_period.proofs.Sides.{own_sums, Agree}
-use Rattle.one_period.proofs.Values.{numbers, agrees, own_is, columns_is, columns_have_names, rows_have_names}
+use Rattle.one_period.proofs.Values.{agrees, own_is, columns_is, columns_have_names, rows_have_names}
 use Rattle.one_period.proofs.Flat.{is_tree, cost_is}
 use Rattle.one_period.proofs.Duals.{is_good, at_least}
 use Rattle.one_period.proofs.Policies.{policy_cost, policy_feasible, direction_falls}
@@ -97,13 +94,13 @@ module _ (program : Program) (node : Node) (limits : Limits) (h : IsOneNode prog
       let feasible : Feasible (seen program) (at policy) = policy_feasible program node h x policy pe p.nonnegative (kept x p) in
       let red : (k : ℕ) → k < behind_all 0 (parts_of program) → zero_ℚ ≤ℚ coefficient (spread_form (parts_of program) node.cost) k -ℚ dot (signed limits y) (column_at k all_limits) =
       λ k b. subst (λ (ls : List Limit). zero_ℚ ≤ℚ coefficient (spread_form (parts_of program) node.cost) k -ℚ dot (signed limits y) (column_at k ls)) limits_are
-          (subst (λ (g : List Entry). zero_ℚ ≤ℚ coefficient g k -ℚ dot (signed limits y) (column_at k limits.rows.items)) written.cost (d.reduced k (subst (λ n. k < n) (sym written.columns) b))) in
+      (subst (λ (g : List Entry). zero_ℚ ≤ℚ coefficient g k -ℚ dot (signed limits y) (column_at k limits.rows.items)) written.cost (d.reduced k (subst (λ n. k < n) (sym written.columns) b))) in
       let good : IsGood (seen program) (at dual) =
       is_good program node h (seen program).cost node.cost (cost_is program node h) h.cost.below (signed limits y) (at dual) (agree y dual de)
-          (has_signs (signed limits y) d.signs) (one_each (signed limits y) d.one_each) red in
+      (has_signs (signed limits y) d.signs) (one_each (signed limits y) d.one_each) red in
       let least : dot (signed limits y) (rights all_limits) +ℚ product node.cost (shift_at (parts_of program)) ≤ℚ value (seen program) (at dual) =
       at_least program node h (seen program).cost node.cost (cost_is program node h) h.cost.below (signed limits y) (at dual) (agree y dual de)
-          (has_signs (signed limits y) d.signs) (one_each (signed limits y) d.one_each) red in
+      (has_signs (signed limits y) d.signs) (one_each (signed limits y) d.one_each) red in
       let worth : dot (signed limits y) (rights all_limits) ≡ dot y (standard_of limits).right = ap (λ (ls : List Limit). dot (signed limits y) (rights ls)) (sym limits_are) ∙ slack_form_means.worth limits y in
       let moved : product (spread_form (parts_of program) node.cost) x ≡ dot y (standard_of limits).right = ap (λ (g : List Entry). product g x) (sym written.cost) ∙ c.equal in
       let tree = is_tree program node h in
@@ -113,7 +110,7 @@ module _ (program : Program) (node : Node) (limits : Limits) (h : IsOneNode prog
         good = good;
         equal = le_antisym_ℚ (weak_duality (seen program) (at policy) (at dual) tree feasible good)
             (cost_below (cost (seen program) (at policy)) (product node.cost (shift_at (parts_of program))) (product (spread_form (parts_of program) node.cost) x) (dot y (standard_of limits).right)
-                (dot (signed limits y) (rights all_limits)) (value (seen program) (at dual)) (policy_cost program node h x policy pe) moved worth least);
+            (dot (signed limits y) (rights all_limits)) (value (seen program) (at dual)) (policy_cost program node h x policy pe) moved worth least);
       }
 
   -- ---- an infeasible end
@@ -122,7 +119,7 @@ module _ (program : Program) (node : Node) (limits : Limits) (h : IsOneNode prog
       let d : IsFarkas limits (signed limits y) = slack_form_means.farkas limits y is_limits c in
       let red : (k : ℕ) → k < behind_all 0 (parts_of program) → zero_ℚ ≤ℚ coefficient (spread_form (parts_of program) []) k -ℚ dot (signed limits y) (column_at k all_limits) =
       λ k b. no_cost (dot (signed limits y) (column_at k all_limits))
-          (subst (λ (ls : List Limit). dot (signed limits y) (column_at k ls) ≤ℚ zero_ℚ) limits_are (d.sums k (subst (λ n. k < n) (sym written.columns) b))) in
+      (subst (λ (ls : List Limit). dot (signed limits y) (column_at k ls) ≤ℚ zero_ℚ) limits_are (d.sums k (subst (λ n. k < n) (sym written.columns) b))) in
       let above : zero_ℚ <ℚ dot (signed limits y) (rights all_limits) = subst (λ (ls : List Limit). zero_ℚ <ℚ dot (signed limits y) (rights ls)) limits_are d.above in
       record {
         tree = is_tree program node h;

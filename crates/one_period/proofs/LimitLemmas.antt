@@ -1,5 +1,5 @@
 -- The limits of a program are limits.
-use Rattle.std.proofs.Common.{◌≡◌, ℕ, ◌+◌, ◌*◌, ◌≤◌, ◌<◌, ◌^◌, List, ◌++◌, Ok, length, refl, sym, ap, subst, ◌∙◌, arith}
+use Rattle.std.proofs.Common.{◌≡◌, ℕ, ◌+◌, ◌*◌, ◌≤◌, ◌<◌, ◌^◌, List, ◌++◌, Ok, length, sym, ap, subst, arith}
 use Rattle.rationals.specs.Sparse.{Entry}
 use Rattle.lp_defs.specs.Program.{IsFormBelow}
 use Rattle.slack_form.specs.declared.limits.Limit.{Limit}

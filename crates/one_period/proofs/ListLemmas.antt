@@ -1,5 +1,5 @@
 -- Values at node 0 that rise.
-use Rattle.std.proofs.Common.{◌≡◌, ℕ, suc, ◌+◌, ◌≤◌, ◌<◌, List, [], ◌∷◌, ◌++◌, length, refl, subst, sym, ap, ◌∙◌, append-nil, pos, arith}
+use Rattle.std.proofs.Common.{◌≡◌, ℕ, suc, ◌≤◌, ◌<◌, List, [], ◌∷◌, ◌++◌, refl, subst, sym, ap, append-nil, pos, arith}
 use Rattle.std.specs.Prelude.{Bool, true, false}
 use Rattle.std.specs.Cmp.{signed_Decides}
 use Rattle.rationals.specs.Rational.{ℚ, zero_ℚ}

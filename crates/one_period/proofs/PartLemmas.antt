@@ -1,9 +1,9 @@
 -- Parts of columns, and forms over the new columns.
-use Rattle.std.proofs.Common.{◌≡◌, ℕ, zero, suc, ◌+◌, ◌*◌, ◌≤◌, ◌<◌, List, [], ◌∷◌, ◌++◌, Option, Some, None, length, get_or, refl, sym, ap, subst, ◌∙◌, arith}
+use Rattle.std.proofs.Common.{◌≡◌, ℕ, zero, suc, ◌+◌, ◌*◌, ◌≤◌, ◌<◌, List, [], ◌∷◌, ◌++◌, Option, Some, None, length, get_or, refl, ap, subst, arith}
 use Rattle.rationals.specs.Rational.{ℚ, zero_ℚ, one_ℚ, neg_ℚ, by_eqs, terms}
 use Rattle.rationals.specs.Ring.Eqs.{done, by_eq}
 use Rattle.rationals.specs.Sparse.{Entry, Ascending}
-use Rattle.rationals.specs.Forms.{IsForm, EndsBelow, AllNonzero}
+use Rattle.rationals.specs.Forms.{EndsBelow, AllNonzero}
 use Rattle.lp_defs.specs.Program.{IsFormBelow}
 use Rattle.scen_defs.specs.Program.{column_at}
 use Rattle.scen_defs.specs.declared.program.Column.{Column}
@@ -104,7 +104,7 @@ spread_ascends m k ps (e ∷ f) a r b =
     let next : Ascending (start m ps (suc e.column)) (spread_form ps f) = spread_ascends m (suc e.column) ps f a r.1 b.1 in
     ascends_less (start m ps e.column) (start m ps k) (spread_form ps (e ∷ f)) (start_rises m ps k e.column a r.0)
     (spread_rises (start m ps e.column) (part_at ps e.column) e.value (spread_form ps f) (part_begins m ps e.column a b.0)
-        (subst (λ i. Ascending i (spread_form ps f)) (part_ends m ps e.column a b.0) next))
+    (subst (λ i. Ascending i (spread_form ps f)) (part_ends m ps e.column a b.0) next))
 
 nonzero_neg : (v : ℚ) → (v ≡ zero_ℚ → ⊥) → neg_ℚ v ≡ zero_ℚ → ⊥
 nonzero_neg v h e = h (by_eqs (v ∷ []) (by_eq (neg_ℚ one_ℚ) e done) (search terms depth 40) tt)

@@ -1,28 +1,25 @@
 -- Points and directions over the new columns, as those over the program's columns.
-use Rattle.std.proofs.Common.{◌≡◌, ℕ, zero, suc, ◌+◌, ◌<◌, ◌≤◌, Bool, true, false, List, [], ◌∷◌, ◌++◌, Option, Some, None, length, refl, sym, ap, ap₂, subst, ◌∙◌, append_assoc, arith}
-use Rattle.rationals.specs.Rational.{ℚ, zero_ℚ, one_ℚ, neg_ℚ, ◌+ℚ◌, ◌-ℚ◌, ◌*ℚ◌, ◌≤ℚ◌, by_ring, by_eqs, by_linear, terms, le_of_same_ℚ}
+use Rattle.std.proofs.Common.{◌≡◌, ℕ, suc, ◌<◌, Bool, true, false, List, [], ◌∷◌, ◌++◌, Option, Some, None, refl, sym, ap, ap₂, subst, ◌∙◌, append_assoc}
+use Rattle.rationals.specs.Rational.{ℚ, zero_ℚ, one_ℚ, ◌+ℚ◌, ◌-ℚ◌, ◌*ℚ◌, ◌≤ℚ◌, by_ring, by_eqs, by_linear, terms, le_of_same_ℚ}
 use Rattle.rationals.specs.Ring.Eqs.{done, by_eq}
 use Rattle.rationals.specs.Ring.Given.{nothing, fact, equal}
 use Rattle.rationals.specs.Order.{same}
 use Rattle.rationals.specs.OrderLaws.{same_means}
-use Rattle.rationals.specs.Sums.{sum_ℚ, sum-append}
+use Rattle.rationals.specs.Sums.{sum-append}
 use Rattle.rationals.specs.Sparse.{Entry, product}
-use Rattle.rationals.specs.Forms.{EndsBelow}
 use Rattle.smps_words.specs.declared.row_kind.RowKind.TheVariants.{Less, Greater, Equal}
 use Rattle.slack_form.specs.declared.limits.Limit.{Limit}
-use Rattle.slack_form.specs.Certificates.{Keeps, AllKeep, AllKeepZero}
+use Rattle.slack_form.specs.Certificates.{AllKeep, AllKeepZero}
 use Rattle.slack_form.proofs.Equations.{product_same}
 use Rattle.scen_defs.specs.Lists.{Each, pick}
 use Rattle.scen_defs.specs.Ends.{Between}
 use Rattle.scen_defs.specs.Flat.{zero_end}
-use Rattle.scen_defs.specs.Program.{column_at}
-use Rattle.scen_defs.specs.declared.program.Column.{Column}
 use Rattle.scen_defs.specs.declared.program.NodeRow.{NodeRow}
 use Rattle.one_period.specs.declared.part.Part.{Part}
 use Rattle.one_period.specs.declared.part.Part.TheVariants.{Above, Below, Free}
 use Rattle.one_period.specs.Node.{AreOwnRows}
-use Rattle.one_period.specs.Parts.{part_of, behind, parts_from, part_at, shift, spread, spread_form, value_of, move_of}
-use Rattle.one_period.proofs.RowLemmas.{shift_at, limit_of, end_limits, own_limits, bound_limit, bound_limits}
+use Rattle.one_period.specs.Parts.{part_at, shift, spread, spread_form, value_of, move_of}
+use Rattle.one_period.proofs.RowLemmas.{shift_at, limit_of, end_limits, own_limits}
 
 -- ---- forms
 

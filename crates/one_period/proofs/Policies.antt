@@ -1,7 +1,7 @@
 -- The policy and the direction that are printed: one is feasible, along the other the cost falls.
-use Rattle.std.proofs.Common.{◌≡◌, ℕ, zero, suc, ◌+◌, ◌<◌, ◌≤◌, List, [], ◌∷◌, ◌++◌, Option, Ok, map, length, refl, sym, ap, subst, ◌∙◌, arith}
+use Rattle.std.proofs.Common.{◌≡◌, ℕ, ◌<◌, List, [], ◌∷◌, ◌++◌, Ok, map, length, sym, ap, subst, ◌∙◌, arith}
 use Rattle.rationals.specs.Rational.{ℚ, zero_ℚ, ◌+ℚ◌, ◌≤ℚ◌, ◌<ℚ◌}
-use Rattle.rationals.specs.Sparse.{Entry, product}
+use Rattle.rationals.specs.Sparse.{product}
 use Rattle.slack_form.specs.declared.limits.Limit.{Limit}
 use Rattle.slack_form.specs.Certificates.{AllKeep, AllKeepZero}
 use Rattle.slack_form.proofs.Equations.{product_same}

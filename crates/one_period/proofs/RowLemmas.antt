@@ -1,9 +1,9 @@
 -- The limits of a program as lists, with no word of operations.
-use Rattle.std.proofs.Common.{◌≡◌, ℕ, zero, suc, ◌+◌, ◌*◌, ◌≤◌, ◌<◌, Bool, true, false, List, [], ◌∷◌, ◌++◌, Option, Some, None, Result, Ok, Err, length, refl, sym, ap, subst, ◌∙◌, append_assoc, append-nil, length-append, arith}
+use Rattle.std.proofs.Common.{◌≡◌, ℕ, suc, ◌+◌, ◌*◌, ◌≤◌, ◌<◌, Bool, true, false, List, [], ◌∷◌, ◌++◌, Option, Some, None, Ok, length, sym, ap, ◌∙◌, append_assoc, append-nil, length-append, arith}
 use Rattle.rationals.specs.Rational.{ℚ, zero_ℚ, one_ℚ, ◌-ℚ◌, ◌*ℚ◌, by_ring, by_eqs, terms, ne_of_gt_ℚ, zero_lt_one_ℚ}
 use Rattle.rationals.specs.Ring.Eqs.{done, by_eq}
 use Rattle.rationals.specs.Order.{same}
-use Rattle.rationals.specs.Passes.{Operation, then_walk, mul_walk, sub_walk}
+use Rattle.rationals.specs.Passes.{then_walk, mul_walk, sub_walk}
 use Rattle.rationals.specs.Sparse.{Entry, product}
 use Rattle.smps_words.specs.declared.row_kind.RowKind.{RowKind}
 use Rattle.smps_words.specs.declared.row_kind.RowKind.TheVariants.{Less, Greater, Equal}
@@ -16,7 +16,7 @@ use Rattle.scen_defs.specs.declared.program.Column.{Column}
 use Rattle.scen_defs.specs.declared.program.NodeRow.{NodeRow}
 use Rattle.one_period.specs.declared.part.Part.{Part}
 use Rattle.one_period.specs.Node.{AreOwnRows}
-use Rattle.one_period.specs.Parts.{part_of, last, behind, parts_from, behind_all, part_at, AreParts, shift, entry, spread_form}
+use Rattle.one_period.specs.Parts.{part_of, behind, parts_from, behind_all, part_at, AreParts, shift, entry, spread_form}
 use Rattle.one_period.specs.Rows.{right_walk, limit_walk, push_walk, ends_walk, own_limits_from, bound_walk, bound_limits_from, rows_walk}
 use Rattle.one_period.proofs.PartLemmas.{spread_is_form}
 

@@ -1,5 +1,5 @@
 -- The multipliers of a program's limits: those of the own rows in front, then those of the bounds.
-use Rattle.std.proofs.Common.{◌≡◌, ℕ, zero, suc, List, [], ◌∷◌, Option, Some, None, take, drop}
+use Rattle.std.proofs.Common.{◌≡◌, ℕ, suc, List, [], ◌∷◌, Option, Some, None, take, drop}
 use Rattle.rationals.specs.Rational.{ℚ}
 use Rattle.rationals.specs.Sums.{sum_ℚ}
 use Rattle.rationals.specs.Order.{same}

@@ -16,7 +16,7 @@ pub solves_any : (program : Program) (pivots : ℕ) (all : Found) (report : Repo
 solves_any program pivots all report h truth = record { node = h.node; one_node = h.one_node; truth = truth (found program h.node pivots) }
 
 pub solves_ended : (program : Program) (pivots : ℕ) (all : Found) → IsFound program pivots all → all ≡ found_end.PivotsEnded → SolvesProgram program pivots (left_open (OpenPivots 1))
-solves_ended program pivots all h e = record { node = h.node; one_node = h.one_node; truth = record { lower = tt; upper = tt; finding = (refl, sym h.is ∙ e); ray = refl } }
+solves_ended program pivots all h e = record { node = h.node; one_node = h.one_node; truth = record { lower = tt; upper = tt; finding = (refl, sym h.is ∙ e); direction = refl; ray = refl; extra = refl } }
 
 pub solves_passed : (program : Program) (pivots : ℕ) (all : Found) (p : Operation) → IsFound program pivots all → all ≡ found_end.Passed p → SolvesProgram program pivots (left_open (OpenPassed (Solve 1) p))
-solves_passed program pivots all p h e = record { node = h.node; one_node = h.one_node; truth = record { lower = tt; upper = tt; finding = (refl, sym h.is ∙ e); ray = refl } }
+solves_passed program pivots all p h e = record { node = h.node; one_node = h.one_node; truth = record { lower = tt; upper = tt; finding = (refl, sym h.is ∙ e); direction = refl; ray = refl; extra = refl } }

@@ -1,14 +1,14 @@
 -- The coefficients of forms at the new columns of a column.
-use Rattle.std.proofs.Common.{◌≡◌, ℕ, zero, suc, ◌+◌, ◌<◌, ◌≤◌, Bool, true, false, eqb, ltb, List, [], ◌∷◌, ◌++◌, ◌⊎◌, inl, inr, length, refl, sym, ap, ap₂, subst, ◌∙◌, arith, eqb-true}
+use Rattle.std.proofs.Common.{◌≡◌, ℕ, suc, ◌<◌, ◌≤◌, Bool, true, false, eqb, ltb, List, [], ◌∷◌, ◌⊎◌, inl, inr, length, refl, ap, ap₂, subst, ◌∙◌, arith, eqb-true}
 use Rattle.std.proofs.lemmas.Bool.{eq-eqb, ne_eqb, eqb-false, ltb-true, ltb-false}
-use Rattle.rationals.specs.Rational.{ℚ, zero_ℚ, one_ℚ, neg_ℚ, ◌+ℚ◌, ◌*ℚ◌, by_ring, by_eqs, terms, zero_add_ℚ, add_zero_ℚ}
+use Rattle.rationals.specs.Rational.{ℚ, zero_ℚ, one_ℚ, neg_ℚ, ◌+ℚ◌, ◌*ℚ◌, by_ring, by_eqs, terms, add_zero_ℚ}
 use Rattle.rationals.specs.Ring.Eqs.{done, by_eq}
-use Rattle.rationals.specs.Sums.{sum_ℚ, sum-append}
+use Rattle.rationals.specs.Sums.{sum-append}
 use Rattle.rationals.specs.Sparse.{Entry, coefficient, value_if}
 use Rattle.rationals.specs.Forms.{EndsBelow}
 use Rattle.one_period.specs.declared.part.Part.{Part}
 use Rattle.one_period.specs.declared.part.Part.TheVariants.{Above, Below, Free}
-use Rattle.one_period.specs.Parts.{last, behind, part_at, IsPart, AreParts, spread, spread_form}
+use Rattle.one_period.specs.Parts.{behind, part_at, IsPart, AreParts, spread, spread_form}
 use Rattle.one_period.proofs.PartLemmas.{start, start_rises, part_begins, part_ends}
 
 -- what a number at a column becomes at new column c

@@ -1,11 +1,11 @@
 -- Reports are true.
-use Rattle.std.proofs.Common.{◌≡◌, ℕ, List, Option, Some, None, Result, Ok, Err, refl, sym, ap, subst, ◌∙◌, inl, inr}
+use Rattle.std.proofs.Common.{◌≡◌, List, Some, Result, Ok, Err, refl, sym, ap, subst, ◌∙◌, inl, inr}
 use Rattle.std.specs.Prelude.{◌⊎◌}
 use Rattle.rationals.specs.Rational.{ℚ, zero_ℚ, ◌≤ℚ◌, ◌<ℚ◌}
 use Rattle.rationals.specs.Passes.{Operation}
 use Rattle.scen_defs.specs.Values.{At, at}
 use Rattle.scen_defs.specs.Program.{View, IsTree}
-use Rattle.scen_defs.specs.Flat.{Feasible, IsGood, IsDirection, ShowsInfeasible, without_costs, cost, value}
+use Rattle.scen_defs.specs.Flat.{Feasible, IsDirection, without_costs, cost, value}
 use Rattle.scen_defs.proofs.Duality.{weak_duality, infeasibility_shown}
 use Rattle.scen_defs.proofs.Directions.{unboundedness_shown}
 use Rattle.scen_defs.specs.declared.report.Place.{Place}
@@ -49,7 +49,7 @@ value_named walk why place p e h = stops walk place p (subst (StopsAt walk) e h)
 
 -- ---- the reports
 pub open_cost_true : (v : View) (x : List At) (p : Operation) → (Feasible v (at x) ⊎ IsDirection v (at x)) → cost_walk v (at x) ≡ Err p → (all : Found) → IsTrue v all (left_open (OpenPassed (Cost 1) p))
-open_cost_true v x p h e all = record { lower = tt; upper = tt; finding = (refl, (x, h, e)); ray = refl }
+open_cost_true v x p h e all = record { lower = tt; upper = tt; finding = (refl, (x, h, e)); direction = refl; ray = refl; extra = refl }
 
 upper_shown : (v : View) (policy : List At) (upper : ℚ) → IsTree v → Feasible v (at policy) → cost_walk v (at policy) ≡ Ok upper → ShowsUpper v upper policy
 upper_shown v policy upper tree feasible e = record { feasible = feasible; costs = sym (cost_is v (at policy) upper tree e) }
@@ -65,13 +65,15 @@ best_true v policy dual upper lower h ce de all =
         bound = λ x feasible. subst (λ (q : ℚ). q ≤ℚ cost v x) worth (weak_duality v x (at dual) h.tree feasible h.good);
       };
       upper = upper_shown v policy upper h.tree h.feasible ce;
-      finding = record { cost = upper; lower = ap Some (sym worth ∙ h.equal ∙ sym (cost_is v (at policy) upper h.tree ce)); upper = refl; direction = refl };
+      finding = record { cost = upper; lower = ap Some (sym worth ∙ h.equal ∙ sym (cost_is v (at policy) upper h.tree ce)); upper = refl };
+      direction = refl;
       ray = refl;
+      extra = refl;
     }
 
 pub open_value_true : (v : View) (policy dual : List At) (upper : ℚ) (p : Operation) → AreBest v policy dual → cost_walk v (at policy) ≡ Ok upper → dual_walk v (at dual) ≡ Err (PassedStop p) → (all : Found)
     → IsTrue v all (with_policy (left_open (OpenPassed Dual p)) upper policy)
-open_value_true v policy dual upper p h ce de all = record { lower = tt; upper = upper_shown v policy upper h.tree h.feasible ce; finding = (dual, inl (h.good, de)); ray = refl }
+open_value_true v policy dual upper p h ce de all = record { lower = tt; upper = upper_shown v policy upper h.tree h.feasible ce; finding = (dual, inl (h.good, de)); direction = refl; ray = refl; extra = refl }
 
 pub never_without_value : (v : View) (policy dual : List At) → AreBest v policy dual → dual_walk v (at dual) ≡ Err Decided → ⊥
 never_without_value v policy dual h e = dual_is.not_good v (at dual) e h.good
@@ -95,12 +97,14 @@ endless_true v policy direction upper slope h ce se all = record {
       endless = unboundedness_shown v (at policy) (at direction) h.tree h.feasible h.falls;
     };
   };
+  direction = refl;
   ray = refl;
+  extra = refl;
 }
 
 pub open_slope_true : (v : View) (policy direction : List At) (upper : ℚ) (p : Operation) → AreEndless v policy direction → cost_walk v (at policy) ≡ Ok upper → cost_walk v (at direction) ≡ Err p → (all : Found)
     → IsTrue v all (with_policy (left_open (OpenPassed (Cost 1) p)) upper policy)
-open_slope_true v policy direction upper p h ce se all = record { lower = tt; upper = upper_shown v policy upper h.tree h.feasible ce; finding = (refl, (direction, inr h.falls, se)); ray = refl }
+open_slope_true v policy direction upper p h ce se all = record { lower = tt; upper = upper_shown v policy upper h.tree h.feasible ce; finding = (refl, (direction, inr h.falls, se)); direction = refl; ray = refl; extra = refl }
 
 -- ---- the same of what the code makes, step by step
 pub slope_made : (v : View) (policy direction : List At) (upper slope : ℚ) (opened made : Report) → AreEndless v policy direction → cost_walk v (at policy) ≡ Ok upper → cost_walk v (at direction) ≡ Ok slope
@@ -143,14 +147,15 @@ nowhere_true v ray number h e all =
       finding = record {
         lower_is = refl;
         upper_is = refl;
-        direction_is = refl;
         value = number;
         value_is = refl;
         ray = ray;
         ray_is = refl;
         shows = record { certificate = h.shows; worth = worth; above = subst (λ (q : ℚ). zero_ℚ <ℚ q) worth h.shows.above; nothing = infeasibility_shown v (at ray) h.tree h.shows };
       };
-      ray = (ray, refl);
+      direction = refl;
+      ray = refl;
+      extra = refl;
     }
 
 pub never_without_ray_value : (v : View) (ray : List At) → IsNowhere v ray → dual_walk (without_costs v) (at ray) ≡ Err Decided → ⊥
@@ -165,4 +170,4 @@ pub open_ray_made : (v : View) (ray : List At) (why : Halt) (p : Operation) (ope
     → (place : Place) × (why ≡ PassedHalt place p) → opened ≡ left_open (OpenPassed Dual p) → (all : Found) → IsTrue v all opened
 open_ray_made v ray why p opened h hw named_p eo all =
     subst (λ (r : Report). IsTrue v all r) (sym eo)
-    (record { lower = tt; upper = tt; finding = (ray, inr (h.shows, value_named (dual_walk (without_costs v) (at ray)) why named_p.0 p named_p.1 hw)); ray = refl })
+    (record { lower = tt; upper = tt; finding = (ray, inr (h.shows, value_named (dual_walk (without_costs v) (at ray)) why named_p.0 p named_p.1 hw)); direction = refl; ray = refl; extra = refl })

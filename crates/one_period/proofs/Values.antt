@@ -1,16 +1,14 @@
 -- The lists of values that are printed.
-use Rattle.std.proofs.Common.{◌≡◌, ℕ, zero, suc, ◌+◌, ◌<◌, ◌≤◌, Bool, true, false, ◌&&◌, eqb, List, [], ◌∷◌, ◌++◌, Ok, length, take, pos, refl, sym, ap, ◌∙◌, append_assoc, append-nil, arith}
+use Rattle.std.proofs.Common.{◌≡◌, ℕ, zero, suc, ◌+◌, ◌<◌, ◌≤◌, Bool, true, false, List, [], ◌∷◌, ◌++◌, Ok, length, take, pos, refl, sym, ap, ◌∙◌, append_assoc, append-nil, arith}
 use Rattle.std.proofs.lemmas.Bool.{eq-eqb, ne_eqb}
 use Rattle.std.specs.Cmp.{signed_Decides}
-use Rattle.rationals.specs.Rational.{ℚ, zero_ℚ, neg_ℚ, ◌+ℚ◌, ◌-ℚ◌, zero_add_ℚ}
-use Rattle.rationals.specs.Sums.{sum_ℚ}
-use Rattle.rationals.specs.Passes.{add_walk, then_walk, value_of as operation_value}
+use Rattle.rationals.specs.Rational.{ℚ, zero_ℚ, neg_ℚ, zero_add_ℚ}
 use Rattle.rationals.specs.declared.Op.TheVariants.{Add}
 use Rattle.rationals.specs.Forms.{is_zero}
 use Rattle.rationals.specs.Totals.{sum_walk}
 use Rattle.rationals.proofs.Lowest.{zero_from_num}
 use Rattle.rationals.proofs.WalkLaws.{walk_value, sum_from_is}
-use Rattle.lp_defs.specs.Walks.{Walk, after_ok, sub_walk_is}
+use Rattle.lp_defs.specs.Walks.{after_ok, sub_walk_is}
 use Rattle.scen_defs.specs.Lists.{pick}
 use Rattle.scen_defs.specs.Values.{At, at}
 use Rattle.scen_defs.specs.Fits.{HaveNames}

@@ -1,5 +1,5 @@
 -- The rows of a program over its new columns, operation by operation, and what their multipliers make of its own rows.
-use Rattle.std.specs.Prelude.{ℕ, suc, List, [], ◌∷◌, ◌++◌, Option, Some, None, Ok, take, drop}
+use Rattle.std.specs.Prelude.{ℕ, List, [], ◌∷◌, ◌++◌, Option, Some, None, Ok, take, drop}
 use Rattle.rationals.specs.Rational.{ℚ, one_ℚ}
 use Rattle.rationals.specs.Order.{same}
 use Rattle.rationals.specs.Passes.{sub_walk, mul_walk, then_walk}

@@ -53,13 +53,17 @@ FoundHasNames program (found_end.Endless policy direction) = HaveNames (length p
 FoundHasNames program found_end.PivotsEnded = Unit {0}
 FoundHasNames program (found_end.Passed p) = Unit {0}
 
+-- it shows itself, and its lists can be printed
+pub record IsSound (program : Program) (all : Found) : Type 0 where
+  pub shows : Shows (seen program) all
+  pub names : FoundHasNames program all
+
 -- it is what is found in at most so many pivots
 pub record IsFound (program : Program) (pivots : ℕ) (all : Found) : Type 0 where
   pub node : Node
   pub one_node : IsOneNode program node
   pub is : all ≡ found program node pivots
-  pub shows : Shows (seen program) all
-  pub names : FoundHasNames program all
+  pub sound : IsSound program all
 
 -- ---- reports
 

@@ -1,5 +1,5 @@
 -- What makes a report of a program true.
-use Rattle.std.specs.Prelude.{◌≡◌, ◌⊎◌, ℕ, List, Option, Some, None, Err}
+use Rattle.std.specs.Prelude.{◌≡◌, ◌⊎◌, ℕ, Bool, true, false, List, Option, Some, None, is_some, Err}
 use Rattle.rationals.specs.Rational.{ℚ, zero_ℚ, ◌≤ℚ◌, ◌<ℚ◌}
 use Rattle.rationals.specs.Passes.{Operation}
 use Rattle.scen_defs.specs.Values.{At, at}
@@ -60,7 +60,6 @@ pub record IsOptimal (report : Report) : Type 0 where
   pub cost : ℚ
   pub lower : report.lower ≡ Some cost
   pub upper : report.upper ≡ Some cost
-  pub direction : report.direction ≡ None
 
 -- the upper end and the direction are there
 pub record IsUnbounded (v : View) (report : Report) : Type 0 where
@@ -77,7 +76,6 @@ pub record IsUnbounded (v : View) (report : Report) : Type 0 where
 pub record IsInfeasible (v : View) (report : Report) : Type 0 where
   pub lower_is : report.lower ≡ None
   pub upper_is : report.upper ≡ None
-  pub direction_is : report.direction ≡ None
   pub value : ℚ
   pub value_is : report.extra ≡ Some value
   pub ray : List At
@@ -110,14 +108,23 @@ Explains v all report (OpenSolves n) = ⊥
 Explains v all report (OpenPivots k) = (k ≡ 1) × (all ≡ found_end.PivotsEnded)
 Explains v all report (OpenPassed place p) = PassesAt v all place p
 
--- a ray stands in a report exactly where nothing is feasible
-abbrev pub HasRay : Finding → Option (List At) → Type 0
-HasRay Infeasible ray = (y : List At) × (ray ≡ Some y)
-HasRay Optimal ray = ray ≡ None
-HasRay Unbounded ray = ray ≡ None
-HasRay (OpenSolves n) ray = ray ≡ None
-HasRay (OpenPivots k) ray = ray ≡ None
-HasRay (OpenPassed place p) ray = ray ≡ None
+-- ---- which parts a finding has
+
+-- a ray shows INFEASIBLE
+abbrev pub has_ray : Finding → Bool
+has_ray Infeasible = true
+has_ray finding = false
+
+-- a direction shows UNBOUNDED
+abbrev pub has_direction : Finding → Bool
+has_direction Unbounded = true
+has_direction finding = false
+
+-- the value of the ray, the cost of the direction
+abbrev pub has_extra : Finding → Bool
+has_extra Infeasible = true
+has_extra Unbounded = true
+has_extra finding = false
 
 -- ---- the report
 
@@ -128,7 +135,10 @@ pub record IsTrue (v : View) (all : Found) (report : Report) : Type 0 where
   pub upper : Together (ShowsUpper v) report.upper report.policy
   -- OPTIMAL has equal ends, UNBOUNDED its direction, INFEASIBLE its ray; OPEN says why
   pub finding : Explains v all report report.finding
-  pub ray : HasRay report.finding report.ray
+  -- a direction, a ray and their number stand there exactly where the finding has them
+  pub direction : is_some report.direction ≡ has_direction report.finding
+  pub ray : is_some report.ray ≡ has_ray report.finding
+  pub extra : is_some report.extra ≡ has_extra report.finding
 
 -- The report is true of the program, of which this is found in at most so many pivots.
 pub record SolvesProgram (program : Program) (pivots : ℕ) (report : Report) : Type 0 where

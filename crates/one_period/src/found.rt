@@ -7,7 +7,7 @@ ghost use Rattle.slack_form.specs.Standard.{standard_of};
 ghost use Rattle.simplex_core.specs.Told.{Tells, Shows as ShowsItself};
 ghost use Rattle.one_period.specs.Node.{IsOneNode};
 ghost use Rattle.one_period.specs.Found.{multipliers_walk, best_walk, tested_walk, nowhere_walk, endless_walk, end_walk, found_walk, found, IsFaultOf, StoppedBy};
-ghost use Rattle.one_period.specs.Solved.{seen, Shows, FoundHasNames};
+ghost use Rattle.one_period.specs.Solved.{IsSound};
 
 use crate::limits::limits;
 use crate::lists::{column_values, row_values};
@@ -111,12 +111,7 @@ fn fault_of(halted: Halted) -> FormFault
 }
 
 /// Of an unbounded end: the policy, then the direction.
-fn endless(
-    alloc: Global,
-    parts: &[Part],
-    point: &Form,
-    ray: &Form,
-) -> Result<Found, FormFault>
+fn endless(alloc: Global, parts: &[Part], point: &Form, ray: &Form) -> Result<Found, FormFault>
     requires { length parts.now < 2 ^ 32 }
     ensures { IfNotMemory result (endless_walk parts.now (coefficient point.now) (coefficient ray.now)) }
 {
@@ -150,16 +145,10 @@ fn ended(
 }
 
 /// Follows the path of the program's standard form.
-fn followed(
-    alloc: Global,
-    program: &Program,
-    node: &Node,
-    pivots: u64,
-) -> Result<Found, FormFault>
+fn followed(alloc: Global, program: &Program, node: &Node, pivots: u64) -> Result<Found, FormFault>
     requires { IsOneNode program.now node.now }
     ensures exact { IfNotMemory result (found_walk program.now node.now pivots) }
-    ensures shows { IfOk result (Shows (seen program.now)) }
-    ensures names { IfOk result (FoundHasNames program.now) }
+    ensures sound { IfOk result (IsSound program.now) }
 {
     let parts = parts(alloc, &program.columns)?;
     let limits = limits(alloc, &parts, &program.columns, node)?;
@@ -177,8 +166,7 @@ pub(crate) fn find(
 ) -> Result<Found, Memory>
     requires { IsOneNode program.now node.now }
     ensures exact { IfOk result (λ all. all ≡ found program.now node.now pivots) }
-    ensures shows { IfOk result (Shows (seen program.now)) }
-    ensures names { IfOk result (FoundHasNames program.now) }
+    ensures sound { IfOk result (IsSound program.now) }
 {
     match followed(alloc, program, node, pivots) {
         Ok(found) => Ok(found),

@@ -121,11 +121,7 @@ fn push_bound(
 }
 
 /// Adds the limits of the columns with two bounds, and counts the new columns.
-fn push_bounds(
-    alloc: Global,
-    columns: &[Column],
-    limits: &mut Vec<Limit>,
-) -> Result<u64, FormFault>
+fn push_bounds(alloc: Global, columns: &[Column], limits: &mut Vec<Limit>) -> Result<u64, FormFault>
     requires { length columns.now < 2 ^ 32 }
     ensures count { IfOk result (λ new. new ≡ behind_all 0 (parts_from 0 columns.now)) }
     ensures exact { MatchResult result (λ _. bound_limits_from 0 limits.old.items columns.now ≡ Ok limits.new.items) (FaultOf (bound_limits_from 0 limits.old.items columns.now)) }

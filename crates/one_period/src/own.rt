@@ -15,13 +15,7 @@ fn limit_count(low: Option<Frac>, high: Option<Frac>) -> usize
     match (low, high) {
         (None, None) => 0,
         (Some(_), None) | (None, Some(_)) => 1,
-        (Some(low), Some(high)) => {
-            if low == high {
-                1
-            } else {
-                2
-            }
-        }
+        (Some(low), Some(high)) => { if low == high { 1 } else { 2 } }
     }
 }
 

@@ -1,8 +1,7 @@
-use Rattle.std.proofs.Common.{◌≡◌, ◌++◌, true, false, append-nil, ap, sym, ◌∙◌}
+use Rattle.std.proofs.Common.{◌++◌, append-nil, ap, sym, ◌∙◌}
 use Rattle.std.proofs.lemmas.Bool.{false≢true}
 use Rattle.std.proofs.lemmas.Result.{on_ok_weaker}
-use Rattle.rationals.specs.Rational.{zero_ℚ}
-use Rattle.one_period.proofs.ListLemmas.{value_zero, value_nonzero, ends_before_more, ends_before_push, ends_before_next}
+use Rattle.one_period.proofs.ListLemmas.{value_zero, value_nonzero, ends_before_next}
 use Rattle.one_period.proofs.lists.push_nonzero.Goals as goal
 
 pub returns-then-is_zero-clause-value : goal.returns-then-is_zero-clause-value
