@@ -34,11 +34,11 @@ whole text f is =
     let ended : IsFiled lines f = subst (Judged lines (reading_of 0 text).end_line) is (judged_text (reading_of 0 text).end_line lines) in
     let core : IsFiledCore lines f = reading_as text (Ok f) is in
     record {
-  some_free = some_free lines f ended;
-  few_rows = core.few_rows;
-  few_columns = core.few_columns;
-  all_parts = sym (column_count f 0 (closed f).parts) ∙ sym (length-map (column_defs f 0 (closed f).parts) (λ (column : ColumnDef). column.name)) ∙ ap length core.named;
-}
+      some_free = some_free lines f ended;
+      few_rows = core.few_rows;
+      few_columns = core.few_columns;
+      all_parts = sym (column_count f 0 (closed f).parts) ∙ sym (length-map (column_defs f 0 (closed f).parts) (λ (column : ColumnDef). column.name)) ∙ ap length core.named;
+    }
 
 abbrev no_draft : ReadFail → Result Draft ReadFail
 no_draft e = Err e

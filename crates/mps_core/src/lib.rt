@@ -16,6 +16,8 @@ mod rows;
 mod sets;
 mod stop;
 mod terms;
+#[cfg(test)]
+mod tests;
 mod values;
 mod whole;
 

@@ -40,10 +40,10 @@ returns c =
     let columns = rw c.replace-parts.ensures.value at c.in_ok-columns.ensures ∙ same_column_defs (filed c.args.draft) (filed c.close_column.new.self) is in
     let free = same_free (filed c.args.draft) (filed c.close_column.new.self) is in
     record {
-  free = rw (c.of_parts.ensures.skipped, c.in_ok-skipped.ensures)
-      (sym free ∙ split_first c.close_column.new.self.free (omega (arith, ap length free, c.requires.some_free))
-      ∙ ap (λ (first : List ℕ). first ∷ drop 1 c.close_column.new.self.free) (sym (c.of_parts.ensures.objective ∙ c.in_ok-objective.ensures ∙ c.name.ensures)));
-  rhs_set = c.of_parts.ensures.rhs_set ∙ c.in_ok-rhs_set.ensures ∙ ap name_of_set (same_rhs_set (filed c.args.draft) (filed c.close_column.new.self) is);
-  rows = rw c.of_parts.ensures.rows rows;
-  columns = rw c.of_parts.ensures.columns columns;
-}
+      free = rw (c.of_parts.ensures.skipped, c.in_ok-skipped.ensures)
+          (sym free ∙ split_first c.close_column.new.self.free (omega (arith, ap length free, c.requires.some_free))
+          ∙ ap (λ (first : List ℕ). first ∷ drop 1 c.close_column.new.self.free) (sym (c.of_parts.ensures.objective ∙ c.in_ok-objective.ensures ∙ c.name.ensures)));
+      rhs_set = c.of_parts.ensures.rhs_set ∙ c.in_ok-rhs_set.ensures ∙ ap name_of_set (same_rhs_set (filed c.args.draft) (filed c.close_column.new.self) is);
+      rows = rw c.of_parts.ensures.rows rows;
+      columns = rw c.of_parts.ensures.columns columns;
+    }
