@@ -6,8 +6,6 @@ use frac128::Passed;
 /// Why a line is refused.
 #[derive(Clone, Copy, Debug, PartialEq, Eq)]
 pub enum Cause {
-    /// 9: the line is of a form that isn't built yet.
-    NotBuilt,
     /// 10: a header isn't one of the file.
     SectionUnknown,
     /// 11: a section or a data line stands out of order.
@@ -60,7 +58,6 @@ impl Cause {
         ensures { result ≡ number_of_cause self.now }
     {
         match self {
-            Cause::NotBuilt => 9,
             Cause::SectionUnknown => 10,
             Cause::SectionOrder => 11,
             Cause::SectionMissing => 12,

@@ -23,9 +23,6 @@ pub fn explanation(status: &Status) -> Option<&'static str> {
 
 fn refused(cause: Cause) -> &'static str {
     match cause {
-        Cause::NotBuilt => {
-            "the file is of a form that isn't built yet: docs/CAUSES.md, cause 9, says how to mend it"
-        }
         Cause::SectionUnknown => {
             "that header isn't a section of the file: docs/CAUSES.md, cause 10, says how to mend it"
         }
