@@ -97,29 +97,25 @@ one_scenario (t ∷ []) s e p q = let same : scenario_content t ≡ s = cc in (a
 one_scenario (t ∷ u ∷ ss) s e p q = absurd (cc)
 
 module _ (core : Core) (program : ProgramOf) (rows : List NodeRow) (kept : IsCore core) (lines : Lines core.columns.items 0 core.rows.items rows) (whole : content program ≡ single_program core rows) where
-  cs : List ColumnDef
-  cs = core.columns.items
+  root : (node : NodeOf) × (program.nodes.items ≡ Some node ∷ []) × (node_content node ≡ record { stage = 0; parent = None; cost = costs_from 0 core.columns.items; rows = rows })
+  root = one_node program.nodes.items (record { stage = 0; parent = None; cost = costs_from 0 core.columns.items; rows = rows }) (ap (λ (p : Program). p.nodes) whole)
 
-  root : (node : NodeOf) × (program.nodes.items ≡ Some node ∷ []) × (node_content node ≡ record { stage = 0; parent = None; cost = costs_from 0 cs; rows = rows })
-  root = one_node program.nodes.items (record { stage = 0; parent = None; cost = costs_from 0 cs; rows = rows }) (ap (λ (p : Program). p.nodes) whole)
-
-  columns_are : program.columns.items ≡ map column_of cs
+  columns_are : program.columns.items ≡ map column_of core.columns.items
   columns_are = ap (λ (p : Program). p.columns) whole
 
-  count : length program.columns.items ≡ length cs
-  count = ap length columns_are ∙ length_mapped column_of cs
+  count : length program.columns.items ≡ length core.columns.items
+  count = ap length columns_are ∙ length_mapped column_of core.columns.items
 
   rows_are : root.0.rows.items ≡ rows
   rows_are = ap (λ (n : Node). n.rows) root.2
 
   row_count : length root.0.rows.items ≡ length core.rows.items
-  row_count = ap length rows_are ∙ own_rows_count cs 0 core.rows.items rows lines
+  row_count = ap length rows_are ∙ own_rows_count core.columns.items 0 core.rows.items rows lines
 
   named : length program.rows.items ≡ length core.rows.items
   named = ap length (ap (λ (p : Program). p.rows) whole) ∙ length_mapped row_of core.rows.items
 
   one : (node : NodeOf) × IsOneNode program node
-  unfolding cs
   one = (
     root.0,
     record {

@@ -3,7 +3,7 @@ ghost use Rattle.std.specs.Prelude.{◌≡◌, ◌≤◌, ◌⊎◌, IfOk, Ok, l
 ghost use Rattle.core_defs.specs.Core.{IsCore};
 ghost use Rattle.scen_defs.specs.Fits.{ListsHaveNames};
 ghost use Rattle.scen_defs.specs.Program.{content};
-ghost use Rattle.smps_build.specs.Single.{single_walk};
+ghost use Rattle.smps_build.specs.Single.{single_walk, BuildFaultOf};
 ghost use Rattle.smps_cli.specs.Printed.{PrintsReportOf, RefusesEnd};
 ghost use Rattle.smps_cli.specs.Answers.{MayBeSolved, file_limit};
 ghost use Rattle.report_text.specs.Text.{report_text};
@@ -42,9 +42,20 @@ fn solved_core(alloc: Global, core: &Core) -> Result<Answer, Memory>
 {
     match single(alloc, core) {
         Ok(program) => solved_program(alloc, core, &program),
-        Err(BuildFault::Passed(passed)) => refused(alloc, 0, Cause::Passes(passed)),
-        Err(BuildFault::Limit) => unreachable!(),
-        Err(BuildFault::Memory) => Err(Memory),
+        Err(fault) => unbuilt(alloc, core, fault),
+    }
+}
+
+/// The answer for a core whose program isn't built.
+fn unbuilt(alloc: Global, core: &Core, fault: BuildFault) -> Result<Answer, Memory>
+    requires { BuildFaultOf (single_walk core.now) fault }
+    ensures { IfOk result (λ answer. RefusesEnd core.now answer.output.items answer.status) }
+{
+    let _rows = core.rows.len();
+    match fault {
+        BuildFault::Passed(passed) => refused(alloc, 0, Cause::Passes(passed)),
+        BuildFault::Limit => unreachable!(),
+        BuildFault::Memory => Err(Memory),
     }
 }
 
