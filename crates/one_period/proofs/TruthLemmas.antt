@@ -8,44 +8,19 @@ use Rattle.scen_defs.specs.Program.{View, IsTree}
 use Rattle.scen_defs.specs.Flat.{Feasible, IsDirection, without_costs, cost, value}
 use Rattle.scen_defs.proofs.Duality.{weak_duality, infeasibility_shown}
 use Rattle.scen_defs.proofs.Directions.{unboundedness_shown}
-use Rattle.scen_defs.specs.declared.report.Place.{Place}
-use Rattle.scen_defs.specs.declared.report.Place.TheVariants.{Solve, Cut, Cost, Ground, Dual, Check}
+use Rattle.scen_defs.specs.declared.report.Place.TheVariants.{Cost, Dual}
 use Rattle.scen_defs.specs.declared.report.Finding.TheVariants.{Optimal, Infeasible, Unbounded, OpenPassed}
 use Rattle.scen_defs.specs.declared.report.Report.{Report}
 use Rattle.scen_model.specs.declared.stop.Stop.{Stop}
 use Rattle.scen_model.specs.declared.stop.Stop.TheVariants.{Decided, Passed as PassedStop}
 use Rattle.scen_model.specs.Walks.{cost_walk, dual_walk}
-use Rattle.scen_defs.specs.declared.report.Halt.{Halt}
-use Rattle.scen_defs.specs.declared.report.Halt.TheVariants.{Passed as PassedHalt}
-use Rattle.scen_model.specs.Answers.{NamesAt, HaltOf, StopsAt}
 use Rattle.scen_model.proofs.CostEnds.{cost_is}
 use Rattle.scen_model.proofs.DualEnds.{dual_is}
 use Rattle.one_period.specs.declared.found.Found.{Found}
-use Rattle.one_period.specs.Solved.{AreBest, IsNowhere, AreEndless, left_open, with_policy}
+use Rattle.one_period.specs.declared.found.Found.TheVariants as found_end
+use Rattle.one_period.specs.Solved.{AreBest, IsNowhere, AreEndless, Shows}
+use Rattle.one_period.specs.Reports.{left_open, with_policy, passed_at, stopped_at, by_walk, value_report, nowhere_report, slope_report, report_of}
 use Rattle.one_period.specs.Truth.{ShowsUpper, IsTrue}
-
--- a check names its operation
-pub named : {X : Type 0} (walk : Result X Operation) (place : Place) (p : Operation) → NamesAt walk place p → walk ≡ Err p
-named walk Check p h = h
-named walk (Solve k) p h = absurd h
-named walk (Cut k) p h = absurd h
-named walk (Cost k) p h = absurd h
-named walk Ground p h = absurd h
-named walk Dual p h = absurd h
-
-pub cost_named : {X : Type 0} (walk : Result X Operation) (why : Halt) (place : Place) (p : Operation) → why ≡ PassedHalt place p → HaltOf walk why → walk ≡ Err p
-cost_named walk why place p e h = named walk place p (subst (HaltOf walk) e h)
-
-stops : {X : Type 0} (walk : Result X Stop) (place : Place) (p : Operation) → StopsAt walk (PassedHalt place p) → walk ≡ Err (PassedStop p)
-stops walk Check p h = h
-stops walk (Solve k) p h = absurd h
-stops walk (Cut k) p h = absurd h
-stops walk (Cost k) p h = absurd h
-stops walk Ground p h = absurd h
-stops walk Dual p h = absurd h
-
-pub value_named : {X : Type 0} (walk : Result X Stop) (why : Halt) (place : Place) (p : Operation) → why ≡ PassedHalt place p → StopsAt walk why → walk ≡ Err (PassedStop p)
-value_named walk why place p e h = stops walk place p (subst (StopsAt walk) e h)
 
 -- ---- the reports
 pub open_cost_true : (v : View) (x : List At) (p : Operation) → (Feasible v (at x) ⊎ IsDirection v (at x)) → cost_walk v (at x) ≡ Err p → (all : Found) → IsTrue v all (left_open (OpenPassed (Cost 1) p))
@@ -106,36 +81,6 @@ pub open_slope_true : (v : View) (policy direction : List At) (upper : ℚ) (p :
     → IsTrue v all (with_policy (left_open (OpenPassed (Cost 1) p)) upper policy)
 open_slope_true v policy direction upper p h ce se all = record { lower = tt; upper = upper_shown v policy upper h.tree h.feasible ce; finding = (refl, (direction, inr h.falls, se)); direction = refl; ray = refl; extra = refl }
 
--- ---- the same of what the code makes, step by step
-pub slope_made : (v : View) (policy direction : List At) (upper slope : ℚ) (opened made : Report) → AreEndless v policy direction → cost_walk v (at policy) ≡ Ok upper → cost_walk v (at direction) ≡ Ok slope
-    → opened ≡ left_open Unbounded → made ≡ with_policy opened upper policy → (all : Found) → IsTrue v all (record made { extra = Some slope; direction = Some direction })
-slope_made v policy direction upper slope opened made h ce se eo em =
-    let e : made ≡ with_policy (left_open Unbounded) upper policy = em ∙ ap (λ r. with_policy r upper policy) eo in
-    subst (λ (r : Report). (all : Found) → IsTrue v all (record r { extra = Some slope; direction = Some direction })) (sym e) (endless_true v policy direction upper slope h ce se)
-
-pub value_made : (v : View) (policy dual : List At) (upper lower : ℚ) (opened made : Report) → AreBest v policy dual → cost_walk v (at policy) ≡ Ok upper → dual_walk v (at dual) ≡ Ok lower
-    → opened ≡ left_open Optimal → made ≡ with_policy opened upper policy → (all : Found) → IsTrue v all (record made { lower = Some lower; dual = Some dual })
-value_made v policy dual upper lower opened made h ce de eo em =
-    let e : made ≡ with_policy (left_open Optimal) upper policy = em ∙ ap (λ r. with_policy r upper policy) eo in
-    subst (λ (r : Report). (all : Found) → IsTrue v all (record r { lower = Some lower; dual = Some dual })) (sym e) (best_true v policy dual upper lower h ce de)
-
-pub open_slope_made : (v : View) (policy direction : List At) (upper : ℚ) (why : Halt) (p : Operation) (opened made : Report) → AreEndless v policy direction → cost_walk v (at policy) ≡ Ok upper → HaltOf (cost_walk v (at direction)) why
-    → (place : Place) × (why ≡ PassedHalt place p) → opened ≡ left_open (OpenPassed (Cost 1) p) → made ≡ with_policy opened upper policy → (all : Found) → IsTrue v all made
-open_slope_made v policy direction upper why p opened made h ce hw named_p eo em =
-    let e : made ≡ with_policy (left_open (OpenPassed (Cost 1) p)) upper policy = em ∙ ap (λ r. with_policy r upper policy) eo in
-    subst (λ (r : Report). (all : Found) → IsTrue v all r) (sym e) (open_slope_true v policy direction upper p h ce (cost_named (cost_walk v (at direction)) why named_p.0 p named_p.1 hw))
-
-pub open_value_made : (v : View) (policy dual : List At) (upper : ℚ) (why : Halt) (p : Operation) (opened made : Report) → AreBest v policy dual → cost_walk v (at policy) ≡ Ok upper → StopsAt (dual_walk v (at dual)) why
-    → (place : Place) × (why ≡ PassedHalt place p) → opened ≡ left_open (OpenPassed Dual p) → made ≡ with_policy opened upper policy → (all : Found) → IsTrue v all made
-open_value_made v policy dual upper why p opened made h ce hw named_p eo em =
-    let e : made ≡ with_policy (left_open (OpenPassed Dual p)) upper policy = em ∙ ap (λ r. with_policy r upper policy) eo in
-    subst (λ (r : Report). (all : Found) → IsTrue v all r) (sym e) (open_value_true v policy dual upper p h ce (value_named (dual_walk v (at dual)) why named_p.0 p named_p.1 hw))
-
-pub open_cost_made : (v : View) (x : List At) (why : Halt) (p : Operation) (opened : Report) → (Feasible v (at x) ⊎ IsDirection v (at x)) → HaltOf (cost_walk v (at x)) why
-    → (place : Place) × (why ≡ PassedHalt place p) → opened ≡ left_open (OpenPassed (Cost 1) p) → (all : Found) → IsTrue v all opened
-open_cost_made v x why p opened h hw named_p eo =
-    subst (λ (r : Report). (all : Found) → IsTrue v all r) (sym eo) (open_cost_true v x p h (cost_named (cost_walk v (at x)) why named_p.0 p named_p.1 hw))
-
 -- ---- multipliers that show that nothing is feasible
 nowhere_true : (v : View) (ray : List At) (number : ℚ) → IsNowhere v ray → dual_walk (without_costs v) (at ray) ≡ Ok number → (all : Found)
     → IsTrue v all (record (left_open Infeasible) { extra = Some number; ray = Some ray })
@@ -161,13 +106,46 @@ nowhere_true v ray number h e all =
 pub never_without_ray_value : (v : View) (ray : List At) → IsNowhere v ray → dual_walk (without_costs v) (at ray) ≡ Err Decided → ⊥
 never_without_ray_value v ray h e = dual_is.not_good (without_costs v) (at ray) e h.shows.good
 
-pub nowhere_made : (v : View) (ray : List At) (number : ℚ) (opened : Report) → IsNowhere v ray → dual_walk (without_costs v) (at ray) ≡ Ok number → opened ≡ left_open Infeasible
-    → (all : Found) → IsTrue v all (record opened { extra = Some number; ray = Some ray })
-nowhere_made v ray number opened h e eo =
-    subst (λ (r : Report). (all : Found) → IsTrue v all (record r { extra = Some number; ray = Some ray })) (sym eo) (nowhere_true v ray number h e)
+open_ray_true : (v : View) (ray : List At) (p : Operation) → IsNowhere v ray → dual_walk (without_costs v) (at ray) ≡ Err (PassedStop p) → (all : Found) → IsTrue v all (passed_at Dual p)
+open_ray_true v ray p h e all = record { lower = tt; upper = tt; finding = (ray, inr (h.shows, e)); direction = refl; ray = refl; extra = refl }
 
-pub open_ray_made : (v : View) (ray : List At) (why : Halt) (p : Operation) (opened : Report) → IsNowhere v ray → StopsAt (dual_walk (without_costs v) (at ray)) why
-    → (place : Place) × (why ≡ PassedHalt place p) → opened ≡ left_open (OpenPassed Dual p) → (all : Found) → IsTrue v all opened
-open_ray_made v ray why p opened h hw named_p eo all =
-    subst (λ (r : Report). IsTrue v all r) (sym eo)
-    (record { lower = tt; upper = tt; finding = (ray, inr (h.shows, value_named (dual_walk (without_costs v) (at ray)) why named_p.0 p named_p.1 hw)); direction = refl; ray = refl; extra = refl })
+-- ---- the report of what is found
+value_true : (v : View) (policy dual : List At) (upper : ℚ) → AreBest v policy dual → cost_walk v (at policy) ≡ Ok upper → (all : Found) → IsTrue v all (value_report v policy dual upper)
+value_true v policy dual upper h ce all = go (dual_walk v (at dual)) refl
+  where
+    go : (r : Result ℚ Stop) → dual_walk v (at dual) ≡ r → IsTrue v all (by_walk r (λ stop. with_policy (stopped_at Dual stop) upper policy) (λ lower. record (with_policy (left_open Optimal) upper policy) { lower = Some lower; dual = Some dual }))
+    go (Ok lower) e = best_true v policy dual upper lower h ce e all
+    go (Err (PassedStop p)) e = open_value_true v policy dual upper p h ce e all
+    go (Err Decided) e = absurd (never_without_value v policy dual h e)
+
+slope_true : (v : View) (policy direction : List At) (upper : ℚ) → AreEndless v policy direction → cost_walk v (at policy) ≡ Ok upper → (all : Found) → IsTrue v all (slope_report v policy direction upper)
+slope_true v policy direction upper h ce all = go (cost_walk v (at direction)) refl
+  where
+    go : (r : Result ℚ Operation) → cost_walk v (at direction) ≡ r → IsTrue v all (by_walk r (λ p. with_policy (passed_at (Cost 1) p) upper policy) (λ slope. record (with_policy (left_open Unbounded) upper policy) { extra = Some slope; direction = Some direction }))
+    go (Ok slope) e = endless_true v policy direction upper slope h ce e all
+    go (Err p) e = open_slope_true v policy direction upper p h ce e all
+
+ray_true : (v : View) (ray : List At) → IsNowhere v ray → (all : Found) → IsTrue v all (nowhere_report v ray)
+ray_true v ray h all = go (dual_walk (without_costs v) (at ray)) refl
+  where
+    go : (r : Result ℚ Stop) → dual_walk (without_costs v) (at ray) ≡ r → IsTrue v all (by_walk r (stopped_at Dual) (λ value. record (left_open Infeasible) { extra = Some value; ray = Some ray }))
+    go (Ok number) e = nowhere_true v ray number h e all
+    go (Err (PassedStop p)) e = open_ray_true v ray p h e all
+    go (Err Decided) e = absurd (never_without_ray_value v ray h e)
+
+-- the policy's cost comes first
+cost_true : (v : View) (policy : List At) (next : ℚ → Report) (all : Found) → Feasible v (at policy) → ((upper : ℚ) → cost_walk v (at policy) ≡ Ok upper → IsTrue v all (next upper))
+    → IsTrue v all (by_walk (cost_walk v (at policy)) (passed_at (Cost 1)) next)
+cost_true v policy next all feasible h = go (cost_walk v (at policy)) refl
+  where
+    go : (r : Result ℚ Operation) → cost_walk v (at policy) ≡ r → IsTrue v all (by_walk r (passed_at (Cost 1)) next)
+    go (Ok upper) e = h upper e
+    go (Err p) e = open_cost_true v policy p (inl feasible) e all
+
+pub report_true : (v : View) (all : Found) → Shows v all → IsTrue v all (report_of v all)
+report_true v (found_end.Best policy dual) h = cost_true v policy (value_report v policy dual) (found_end.Best policy dual) h.feasible (λ upper e. value_true v policy dual upper h e (found_end.Best policy dual))
+report_true v (found_end.Nowhere ray) h = ray_true v ray h (found_end.Nowhere ray)
+report_true v (found_end.Endless policy direction) h =
+    cost_true v policy (slope_report v policy direction) (found_end.Endless policy direction) h.feasible (λ upper e. slope_true v policy direction upper h e (found_end.Endless policy direction))
+report_true v found_end.PivotsEnded h = record { lower = tt; upper = tt; finding = (refl, refl); direction = refl; ray = refl; extra = refl }
+report_true v (found_end.Passed p) h = record { lower = tt; upper = tt; finding = (refl, refl); direction = refl; ray = refl; extra = refl }

@@ -4,5 +4,6 @@ pub mod Rows
 pub mod Lists
 pub mod Found
 pub mod Solved
+pub mod Reports
 pub mod Truth
 pub mod Laws

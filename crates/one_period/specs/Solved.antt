@@ -1,10 +1,7 @@
 -- What is found for a program of one period shows itself; reports without ends and lists.
-use Rattle.std.specs.Prelude.{◌≡◌, ℕ, List, length, Some, None}
-use Rattle.rationals.specs.Rational.{ℚ}
+use Rattle.std.specs.Prelude.{◌≡◌, ℕ, List, length}
 use Rattle.scen_defs.specs.declared.program.Program.{Program}
 use Rattle.scen_defs.specs.declared.program.Node.{Node}
-use Rattle.scen_defs.specs.declared.report.Finding.{Finding}
-use Rattle.scen_defs.specs.declared.report.Report.{Report}
 use Rattle.scen_defs.specs.Values.{At, at}
 use Rattle.scen_defs.specs.Fits.{HaveNames}
 use Rattle.scen_defs.specs.Program.{View, IsTree, content, view_of}
@@ -64,24 +61,3 @@ pub record IsFound (program : Program) (pivots : ℕ) (all : Found) : Type 0 whe
   pub one_node : IsOneNode program node
   pub is : all ≡ found program node pivots
   pub sound : IsSound program all
-
--- ---- reports
-
--- a report of one node and one scenario without ends and lists
-abbrev pub left_open : Finding → Report
-left_open finding = record {
-  number = 1;
-  nodes = 1;
-  scenarios = 1;
-  finding = finding;
-  lower = None;
-  upper = None;
-  extra = None;
-  policy = None;
-  direction = None;
-  dual = None;
-  ray = None;
-}
-
-abbrev pub with_policy : Report → ℚ → List At → Report
-with_policy report upper policy = record report { upper = Some upper; policy = Some policy }

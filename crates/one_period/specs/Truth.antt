@@ -18,6 +18,7 @@ use Rattle.one_period.specs.declared.found.Found.TheVariants as found_end
 use Rattle.one_period.specs.Node.{IsOneNode}
 use Rattle.one_period.specs.Found.{found}
 use Rattle.one_period.specs.Solved.{seen}
+use Rattle.one_period.specs.Reports.{report_of}
 use Rattle.scen_model.specs.Walks.{cost_walk, dual_walk}
 
 -- ---- the ends
@@ -140,8 +141,9 @@ pub record IsTrue (v : View) (all : Found) (report : Report) : Type 0 where
   pub ray : is_some report.ray ≡ has_ray report.finding
   pub extra : is_some report.extra ≡ has_extra report.finding
 
--- The report is true of the program, of which this is found in at most so many pivots.
+-- The report is that of what is found for the program in at most so many pivots, and it is true.
 pub record SolvesProgram (program : Program) (pivots : ℕ) (report : Report) : Type 0 where
   pub node : Node
   pub one_node : IsOneNode program node
+  pub is : report ≡ report_of (seen program) (found program node pivots)
   pub truth : IsTrue (seen program) (found program node pivots) report

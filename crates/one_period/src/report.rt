@@ -1,14 +1,12 @@
 //! The report of what is found for a program of one period.
-ghost use Rattle.std.specs.Prelude.{◌≡◌, IfOk, length, Ok};
+ghost use Rattle.std.specs.Prelude.{◌≡◌, IfOk, length};
 ghost use Rattle.scen_defs.specs.Fits.{HaveNames, ListsHaveNames};
-ghost use Rattle.scen_defs.specs.Values.{at};
 ghost use Rattle.scen_defs.specs.declared.program.Node.{Node};
 ghost use Rattle.scen_defs.specs.declared.report.Place.{Place};
-ghost use Rattle.scen_model.specs.Walks.{cost_walk};
-ghost use Rattle.one_period.specs.declared.found.Found.{Found};
 ghost use Rattle.one_period.specs.Node.{IsOneNode};
-ghost use Rattle.one_period.specs.Solved.{seen, AreBest, AreEndless, IsFound, IsNowhere, left_open, with_policy};
-ghost use Rattle.one_period.specs.Truth.{IsTrue, SolvesProgram};
+ghost use Rattle.one_period.specs.Solved.{seen, AreBest, IsFound, IsNowhere};
+ghost use Rattle.one_period.specs.Reports.{left_open, with_policy, best_report, value_report, nowhere_report, endless_report, slope_report};
+ghost use Rattle.one_period.specs.Truth.{SolvesProgram};
 
 use crate::found::{Found, find};
 use frac128::{Frac, Memory, Passed};
@@ -75,7 +73,7 @@ fn at_best(program: &Program, policy: Values, dual: Values) -> Result<Report, Me
     requires dual { HaveNames (length program.now.rows.items) dual }
     requires best { AreBest (seen program.now) policy dual }
     ensures names { IfOk result (ListsHaveNames program.now) }
-    ensures truth { IfOk result (λ report. (all : Found) → IsTrue (seen program.now) all report) }
+    ensures exact { IfOk result (λ report. report ≡ best_report (seen program.now) policy dual) }
 {
     match cost(program, &policy) {
         Ok(upper) => with_value(program, upper, policy, dual),
@@ -96,9 +94,8 @@ fn with_value(
     requires policy { HaveNames (length program.now.columns.items) policy }
     requires dual { HaveNames (length program.now.rows.items) dual }
     requires best { AreBest (seen program.now) policy dual }
-    requires upper { cost_walk (seen program.now) (at policy) ≡ Ok upper }
     ensures names { IfOk result (ListsHaveNames program.now) }
-    ensures truth { IfOk result (λ report. (all : Found) → IsTrue (seen program.now) all report) }
+    ensures exact { IfOk result (λ report. report ≡ value_report (seen program.now) policy dual upper) }
 {
     match dual_value(program, &dual) {
         Ok(Some(lower)) => {
@@ -122,9 +119,8 @@ fn with_value(
 fn without_end(program: &Program, policy: Values, direction: Values) -> Result<Report, Memory>
     requires policy { HaveNames (length program.now.columns.items) policy }
     requires direction { HaveNames (length program.now.columns.items) direction }
-    requires endless { AreEndless (seen program.now) policy direction }
     ensures names { IfOk result (ListsHaveNames program.now) }
-    ensures truth { IfOk result (λ report. (all : Found) → IsTrue (seen program.now) all report) }
+    ensures exact { IfOk result (λ report. report ≡ endless_report (seen program.now) policy direction) }
 {
     match cost(program, &policy) {
         Ok(upper) => with_slope(program, upper, policy, direction),
@@ -144,10 +140,8 @@ fn with_slope(
 ) -> Result<Report, Memory>
     requires policy { HaveNames (length program.now.columns.items) policy }
     requires direction { HaveNames (length program.now.columns.items) direction }
-    requires endless { AreEndless (seen program.now) policy direction }
-    requires upper { cost_walk (seen program.now) (at policy) ≡ Ok upper }
     ensures names { IfOk result (ListsHaveNames program.now) }
-    ensures truth { IfOk result (λ report. (all : Found) → IsTrue (seen program.now) all report) }
+    ensures exact { IfOk result (λ report. report ≡ slope_report (seen program.now) policy direction upper) }
 {
     match cost(program, &direction) {
         Ok(slope) => {
@@ -171,7 +165,7 @@ fn nowhere(program: &Program, ray: Values) -> Result<Report, Memory>
     requires ray { HaveNames (length program.now.rows.items) ray }
     requires nowhere { IsNowhere (seen program.now) ray }
     ensures names { IfOk result (ListsHaveNames program.now) }
-    ensures truth { IfOk result (λ report. (all : Found) → IsTrue (seen program.now) all report) }
+    ensures exact { IfOk result (λ report. report ≡ nowhere_report (seen program.now) ray) }
 {
     match zero_value(program, &ray) {
         Ok(Some(value)) => {
