@@ -1,5 +1,5 @@
 -- What a core keeps, in the words of programs.
-use Rattle.std.proofs.Common.{◌≡◌, ◌∙◌, ℕ, suc, ◌<◌, ◌^◌, true, false, List, [], ◌∷◌, map, length, get_or, Option, Some, None, All, ap, sym, arith}
+use Rattle.std.proofs.Common.{◌≡◌, ◌∙◌, ℕ, suc, ◌<◌, ◌^◌, true, false, List, [], ◌∷◌, map, length, get_or, Option, Some, None, All, ap, arith}
 use Rattle.std.proofs.lemmas.List.Elements.{All-head, All-tail}
 use Rattle.rationals.specs.Rational.{ℚ}
 use Rattle.smps_words.specs.Names.{same_name, IsNumbered}
