@@ -69,6 +69,7 @@ pub(crate) fn row_forms(
 {
     let mut forms = empty_forms(alloc, rows)?;
     for (place, column) in columns.iter().enumerate() {
+        // what is taken out of a form is known to rise
         let entries = column.entries.copy(alloc)?.into_terms();
         add_column(&mut forms, place as u64, &entries)?;
     }
