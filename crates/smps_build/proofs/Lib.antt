@@ -1,2 +1,4 @@
 pub mod BelowLemmas
+pub mod CoreFits
+pub mod Gathering
 pub mod SingleLaws

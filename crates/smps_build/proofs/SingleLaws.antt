@@ -21,7 +21,8 @@ use Rattle.scen_defs.specs.Program.{Program, node_at}
 use Rattle.scen_defs.specs.Valid.{AreNames, Lives, FitsRow, FitsNode, FitsColumn, HasEnds, has_low, has_high, row_at, is_reached, IsProgram}
 use Rattle.scen_defs.proofs.SumLaws.{each-map}
 use Rattle.smps_build.specs.Single.{size, Interval, interval_walk, column_of, row_of, costs_from, entries_from, node_row, rows_from, single_program}
-use Rattle.smps_build.specs.Laws.{CoreFits, SinglesArePrograms}
+use Rattle.smps_build.specs.Laws.{SinglesArePrograms}
+use Rattle.smps_build.proofs.CoreFits.{CoreFits, core_fits}
 
 -- ---- one interval
 size-nonneg : (r : ℚ) → zero_ℚ ≤ℚ size r
@@ -233,5 +234,5 @@ singles_are_programs core p f e = go (rows_from core.columns.items [] 0 core.row
     go (Ok rows) d k =
         let b = rows_built core.columns.items [] 0 core.rows.items rows d in
         let q : single_program core rows ≡ p = cc in
-        subst IsProgram q (is_program core rows f (subst (Lines core.columns.items 0 core.rows.items) (sym b.rows_are) b.lines))
+        subst IsProgram q (is_program core rows (core_fits core f) (subst (Lines core.columns.items 0 core.rows.items) (sym b.rows_are) b.lines))
     go (Err o) d k = absurd (cc)

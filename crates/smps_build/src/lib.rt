@@ -2,6 +2,7 @@
 #![tactic(auto)]
 
 mod fault;
+mod forms;
 mod interval;
 mod laws;
 mod one_period;

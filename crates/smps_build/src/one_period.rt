@@ -1,12 +1,12 @@
 // The program of one period of a core.
-ghost use Rattle.std.specs.Prelude.{◌≡◌, ◌++◌, ◌<◌, ◌^◌, [], suc, length, Ok, IfOk, OnOk, MatchResult, map};
-ghost use Rattle.rationals.specs.Forms.{EndsBelow, put};
+ghost use Rattle.std.specs.Prelude.{◌≡◌, ◌<◌, ◌^◌, [], length, Ok, IfOk, MatchResult, map};
 ghost use Rattle.scen_defs.specs.Program.{content};
-ghost use Rattle.smps_build.specs.Single.{column_of, row_of, costs_from, entries_from, rows_from, single_walk, BuildFaultOf};
+ghost use Rattle.smps_build.specs.Single.{column_of, row_of, rows_from, single_walk, BuildFaultOf};
 
 use crate::fault::BuildFault;
+use crate::forms::{costs_of, row_forms};
 use crate::interval::interval;
-use frac128::{Form, Frac, Memory};
+use frac128::Frac;
 use mps_core::{ColumnDef, Core, RowDef};
 use scen_defs::{Column, Node, NodeRow, Program, Row, Scenario};
 use smps_words::Name;
@@ -54,41 +54,6 @@ fn rows_of(alloc: Global, rows: &[RowDef]) -> Result<Vec<Row>, AllocError>
     Ok(all)
 }
 
-/// Adds a value in a column above all others, unless it is 0.
-fn put(form: &mut Form, column: u64, value: Frac) -> Result<(), Memory>
-    requires { EndsBelow column form.old }
-    ensures ok { OnOk result (form.new ≡ form.old ++ put column value []) }
-    ensures below { OnOk result (EndsBelow (suc column) form.new) }
-{
-    if !value.is_zero() {
-        form.push(column, value)?;
-    }
-    Ok(())
-}
-
-/// The costs by column.
-fn costs_of(alloc: Global, columns: &[ColumnDef]) -> Result<Form, Memory>
-    ensures { IfOk result (λ form. form ≡ costs_from 0 columns.now) }
-{
-    let mut form = Form::empty(alloc);
-    for (place, column) in columns.iter().enumerate() {
-        put(&mut form, place as u64, column.cost)?;
-    }
-    Ok(form)
-}
-
-/// The entries of a row by column.
-fn entries_of(alloc: Global, columns: &[ColumnDef], row: u64) -> Result<Form, Memory>
-    ensures { IfOk result (λ form. form ≡ entries_from row 0 columns.now) }
-{
-    let mut form = Form::empty(alloc);
-    for (place, column) in columns.iter().enumerate() {
-        let entry = column.entries.get(row);
-        put(&mut form, place as u64, entry)?;
-    }
-    Ok(form)
-}
-
 /// The rows with their entries and intervals.
 fn node_rows(
     alloc: Global,
@@ -98,10 +63,12 @@ fn node_rows(
     requires { length rows.now < 2 ^ 32 }
     ensures { MatchResult result (λ all. rows_from columns.now [] 0 rows.now ≡ Ok all.items) (BuildFaultOf (rows_from columns.now [] 0 rows.now)) }
 {
+    let forms = row_forms(alloc, columns, rows)?;
     let mut all = Vec::new(alloc);
-    for (place, row) in rows.iter().enumerate() {
+    for entries in forms {
+        let place = all.len();
+        let row = &rows[place];
         let (low, high) = interval(row.kind, row.rhs, row.range)?;
-        let entries = entries_of(alloc, columns, place as u64)?;
         all.push(NodeRow {
             row: place as u32,
             entries,

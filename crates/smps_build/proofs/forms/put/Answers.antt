@@ -3,7 +3,7 @@ use Rattle.rationals.specs.Rational.{zero_ℚ}
 use Rattle.rationals.specs.Forms.{EndsBelow}
 use Rattle.frac128.proofs.FormLemmas.{put_zero, put_nonzero}
 use Rattle.smps_build.proofs.BelowLemmas.{below-more, below-push}
-use Rattle.smps_build.proofs.one_period.put.Goals as goal
+use Rattle.smps_build.proofs.forms.put.Goals as goal
 
 pub returns-in_ok-push-clause-ok : goal.returns-in_ok-push-clause-ok
 returns-in_ok-push-clause-ok c =
