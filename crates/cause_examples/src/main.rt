@@ -83,7 +83,11 @@ fn is_refused<R: Runtime>(
     file: &str,
     line: &str,
 ) -> Result<bool, AllocError> {
-    let words = vec![in alloc; String::from_str(alloc, "solve")?, String::from_str(alloc, "--core")?, String::from_str(alloc, "F")?]?;
+    let words = vec![in alloc;
+        String::from_str(alloc, "solve")?,
+        String::from_str(alloc, "--core")?,
+        String::from_str(alloc, "F")?,
+    ]?;
     let bytes = file.as_bytes().to_vec(alloc)?;
     let files = vec![in alloc; (String::from_str(alloc, "F")?, bytes)]?;
     let mut sink = MemorySink::new(alloc, 4096, Vec::new(alloc));

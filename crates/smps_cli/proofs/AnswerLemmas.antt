@@ -1,5 +1,5 @@
 -- What is answered for a file that the shelf gave.
-use Rattle.std.proofs.Common.{◌≡◌, ◌≤◌, ℕ, List, length, Option, Some, None, Ok, inl, inr, sym, subst}
+use Rattle.std.proofs.Common.{◌≡◌, ◌≤◌, ℕ, List, length, Option, Some, None, Ok, inr, subst}
 use Rattle.std.specs.Prelude.{IfSome, Vec}
 use Rattle.std.specs.Option.{option_map}
 use Rattle.std.specs.declared.alloc.Global.{Global}

@@ -1,10 +1,10 @@
 -- The program of one period that a core states has one node.
-use Rattle.std.proofs.Common.{◌≡◌, ℕ, zero, suc, ◌+◌, ◌≤◌, ◌<◌, ◌^◌, Bool, true, false, List, [], ◌∷◌, ◌++◌, length, map, Option, Some, None, Result, Ok, Err, All, refl, sym, ap, subst, ◌∙◌, pos, arith}
+use Rattle.std.proofs.Common.{◌≡◌, ℕ, suc, ◌+◌, ◌≤◌, ◌<◌, Bool, true, false, List, [], ◌∷◌, length, map, Option, Some, None, Result, Ok, Err, All, refl, sym, ap, subst, ◌∙◌, pos, arith}
 use Rattle.std.specs.Cmp.{signed_Decides}
 use Rattle.std.proofs.lemmas.List.Elements.{All-head, All-tail}
-use Rattle.rationals.specs.Rational.{ℚ, zero_ℚ, one_ℚ, ◌≤ℚ◌}
+use Rattle.rationals.specs.Rational.{ℚ, one_ℚ}
 use Rattle.rationals.specs.Sparse.{Entry, coefficient, Ascending, Ascending-weaker}
-use Rattle.rationals.specs.Forms.{IsForm, AllNonzero, EndsBelow, put, put_unless, is_zero}
+use Rattle.rationals.specs.Forms.{AllNonzero, EndsBelow, put, put_unless, is_zero}
 use Rattle.rationals.specs.Passes.{Operation, then_walk}
 use Rattle.rationals.proofs.Lowest.{num_zero}
 use Rattle.core_defs.specs.Core.{IsCore, InOrder as InOrderCore}
@@ -16,12 +16,11 @@ use Rattle.scen_defs.specs.Lists.{Each}
 use Rattle.scen_defs.specs.Ends.{InOrder}
 use Rattle.scen_defs.specs.Program.{Program, Node, Scenario, content, node_content, nodes_content, scenarios_content, scenario_content}
 use Rattle.scen_defs.specs.declared.program.Program.{Program as ProgramOf}
-use Rattle.scen_defs.specs.declared.program.Column.{Column}
 use Rattle.scen_defs.specs.declared.program.Node.{Node as NodeOf}
 use Rattle.scen_defs.specs.declared.program.NodeRow.{NodeRow}
 use Rattle.scen_defs.specs.declared.program.Scenario.{Scenario as ScenarioOf}
-use Rattle.smps_build.specs.Single.{Interval, column_of, row_of, costs_from, entries_from, node_row, rows_from, single_program, single_walk}
-use Rattle.smps_build.proofs.SingleLaws.{IsInterval, Lines, Built, rows_built, length_mapped}
+use Rattle.smps_build.specs.Single.{column_of, row_of, costs_from, entries_from, rows_from, single_program, single_walk}
+use Rattle.smps_build.proofs.SingleLaws.{Lines, rows_built, length_mapped}
 use Rattle.one_period.specs.Node.{IsOwnColumn, IsOwnRow, AreOwnRows, IsCertain, IsOneNode}
 
 -- ---- forms over the columns below n, from column j on

@@ -1,5 +1,5 @@
 -- What is printed: a report, by its finding, or a refusal.
-use Rattle.std.proofs.Common.{◌≡◌, ◌⊎◌, ℕ, List, inl, inr, refl, sym, ap, subst, ◌∙◌}
+use Rattle.std.proofs.Common.{◌⊎◌, ℕ, List, inl, inr, refl, sym, ap, subst, ◌∙◌}
 use Rattle.core_defs.specs.Means.{TextMeans}
 use Rattle.core_defs.specs.Fault.{IsCoreFile}
 use Rattle.core_defs.specs.declared.cause.Cause.TheVariants.{Passes}

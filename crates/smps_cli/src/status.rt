@@ -94,12 +94,7 @@ fn line_of(alloc: Global, text: &str) -> Result<Vec<u8>, Memory>
     Ok(line)
 }
 
-fn refused_line(
-    alloc: Global,
-    file: FileKind,
-    line: u32,
-    cause: Cause,
-) -> Result<Vec<u8>, Memory>
+fn refused_line(alloc: Global, file: FileKind, line: u32, cause: Cause) -> Result<Vec<u8>, Memory>
     ensures { IfOk result (λ text. text.items ≡ status_line (Status.Refused file line cause)) }
 {
     let mut text = numbered(alloc, file.word(), line, cause.number())?;
