@@ -1,9 +1,9 @@
 -- More than six fields fit no line.
-use Rattle.std.proofs.Common.{◌≡◌, ◌+◌, ◌<◌, ℕ, List, [], ◌∷◌, length, Err, refl, arith}
+use Rattle.std.proofs.Common.{◌≡◌, ◌<◌, ℕ, List, [], ◌∷◌, length, Err, refl, arith}
 use Rattle.core_defs.specs.declared.kinds.BoundKind.{BoundKind}
 use Rattle.core_defs.specs.declared.cause.Cause.TheVariants as cause
 use Rattle.core_defs.specs.Filed.{Filed}
-use Rattle.core_defs.specs.Step.{row_line, column_line, rhs_line, range_line, value_line, plain_line, bound_line}
+use Rattle.core_defs.specs.Step.{row_line, column_line, rhs_line, range_line, value_line, plain_line}
 
 pub long_row : (f : Filed) (fields : List (List ℕ)) → length fields ≡ 7 → row_line f fields ≡ Err cause.FieldCount
 unfolding row_line

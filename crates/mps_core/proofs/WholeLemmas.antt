@@ -1,12 +1,11 @@
 -- The constraints and the columns of what is filed.
-use Rattle.std.proofs.Common.{◌≡◌, ◌+◌, ◌<◌, ◌∙◌, ap, ℕ, zero, suc, List, [], ◌∷◌, Option, Some, None, length, get_or, drop, map, refl, sym, arith, add-one}
+use Rattle.std.proofs.Common.{◌≡◌, ◌+◌, ◌<◌, ◌∙◌, ap, ℕ, zero, suc, List, [], ◌∷◌, Option, Some, None, length, get_or, drop, refl, sym, arith, add-one}
 use Rattle.std.proofs.Math.Seq.{drop-cons}
 use Rattle.rationals.specs.Rational.{ℚ}
-use Rattle.smps_words.specs.declared.row_kind.RowKind.TheVariants.{Less}
 use Rattle.core_defs.specs.declared.parts.ColumnPart.{ColumnPart}
 use Rattle.core_defs.specs.Core.{row_names, column_names}
 use Rattle.core_defs.specs.Filed.{Filed, nothing_filed, last_of, closed, closed_at}
-use Rattle.core_defs.specs.Finished.{row_def, row_defs, column_def, column_defs}
+use Rattle.core_defs.specs.Finished.{row_defs, column_defs}
 
 closed_at_is : (last : Option (List ℕ)) (f : Filed) → closed_at last f ≡ record f { parts = (closed_at last f).parts; costs = (closed_at last f).costs; terms = (closed_at last f).terms }
 closed_at_is None f = refl

@@ -1,8 +1,7 @@
 -- The last column is closed first; that changes no constraint, name or bound.
-use Rattle.std.proofs.Common.{◌≡◌, ◌≤◌, ◌<◌, ◌∙◌, ◌∷◌, [], ap, sym, subst, length, drop, get_or, List, ℕ, arith}
+use Rattle.std.proofs.Common.{◌∙◌, ◌∷◌, ap, sym, length, drop, List, ℕ, arith}
 use Rattle.core_defs.specs.Core.{row_names, column_names}
-use Rattle.core_defs.specs.Filed.{Filed, nothing_filed, closed}
-use Rattle.core_defs.specs.Finished.{row_defs, column_defs}
+use Rattle.core_defs.specs.Filed.{closed}
 use Rattle.core_defs.specs.Stated.{name_of_set}
 use Rattle.mps_core.specs.View.{filed}
 use Rattle.mps_core.proofs.WholeLemmas.{row_names_are, row_count, column_names_are, column_count, same_free, same_rows, same_names, same_rhs_set, same_row_defs, same_column_defs, split_first}
