@@ -206,7 +206,7 @@ fn compare(name: &str, cells: &Cells) {
 }
 
 fn main() {
-    for rows in [20, 50, 100] {
+    for rows in [20, 50, 100, 200] {
         for is_whole in [true, false] {
             let data = if is_whole { "whole" } else { "fractions" };
             compare(&format!("sparse, {rows} rows, {data}"), &matching(rows, is_whole));

@@ -1,5 +1,5 @@
 -- The names of a text are fields.
-use Rattle.std.proofs.Common.{◌≡◌, ◌∙◌, ◌++◌, ◌||◌, ◌<◌, ◌+◌, ap, flat_map, length, suc, zero, ℕ, Bool, true, false, List, [], ◌∷◌, Option, Some, None, is_some, refl, nat_eq, arith, if◌then◌else◌}
+use Rattle.std.proofs.Common.{◌≡◌, ◌∙◌, ◌++◌, ◌||◌, ◌+◌, ap, flat_map, ℕ, Bool, true, false, List, [], ◌∷◌, Option, Some, None, is_some, refl, nat_eq, arith, if◌then◌else◌}
 use Rattle.std.specs.Prelude.{All}
 use Rattle.std.specs.List.{AllByRecursion}
 use Rattle.std.proofs.lemmas.List.Elements.{All-cons, All-nil, All-append}

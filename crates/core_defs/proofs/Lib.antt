@@ -15,3 +15,4 @@ pub mod CoreLemmas
 pub mod MeansLemmas
 pub mod OneMeaning
 pub mod Texts
+pub mod Examples

@@ -6,7 +6,7 @@ use Rattle.std.proofs.lemmas.Bool.Decides.{nat_tests}
 use Rattle.std.proofs.lemmas.List.Elements.{All-head, All-tail}
 use Rattle.rationals.specs.Rational.{ℚ, zero_ℚ, ◌+ℚ◌, add_zero_ℚ, zero_add_ℚ}
 use Rattle.rationals.specs.Sparse.{Entry, Ascending, coefficient, value_if}
-use Rattle.rationals.specs.Forms.{IsForm, AllNonzero, EndsBelow}
+use Rattle.rationals.specs.Forms.{AllNonzero, EndsBelow}
 use Rattle.smps_words.specs.Line.{TextLine}
 use Rattle.core_defs.specs.declared.parts.ColumnDef.{ColumnDef}
 use Rattle.core_defs.specs.declared.parts.RowDef.{RowDef}
@@ -86,16 +86,16 @@ rows_same lines (row ∷ one) (next ∷ other) names kinds stated known =
     let rhs : row.rhs ≡ next.rhs = first.rhs ∙ sym (second.rhs ∙ ap (rhs_in lines) (sym name)) in
     let range : row.range ≡ next.range = first.range ∙ sym (second.range ∙ ap (range_in lines) (sym name)) in
     let same : row ≡ next =
-        ap (λ (known : List ℕ). record row { name = known }) name ∙ ap (λ known. record row { name = next.name; kind = known }) kind
-        ∙ ap (λ (known : ℚ). record row { name = next.name; kind = next.kind; rhs = known }) rhs ∙ ap (λ (known : Option ℚ). record next { range = known }) range in
+    ap (λ (known : List ℕ). record row { name = known }) name ∙ ap (λ known. record row { name = next.name; kind = known }) kind
+    ∙ ap (λ (known : ℚ). record row { name = next.name; kind = next.kind; rhs = known }) rhs ∙ ap (λ (known : Option ℚ). record next { range = known }) range in
     ap (λ known. known ∷ one) same ∙ ap (λ rest. next ∷ rest) (rows_same lines one other more others (All-tail (IsStatedRow lines) row one stated) (All-tail (IsStatedRow lines) next other known))
 
 column_same : (lines : List TextLine) (objective : List ℕ) (rows : List (List ℕ)) (one other : ColumnDef) → one.name ≡ other.name → IsStatedColumn lines objective rows one → IsStatedColumn lines objective rows other → one ≡ other
 column_same lines objective rows one other name first second =
     let cost : one.cost ≡ other.cost = first.cost ∙ sym (second.cost ∙ ap (λ known. entry_in lines known objective) (sym name)) in
     let entries : one.entries ≡ other.entries =
-        forms_same (length rows) 0 one.entries other.entries first.form.rises second.form.rises first.form.nonzero second.form.nonzero first.within second.within
-        (record { at = λ row below. first.entry row below ∙ sym (second.entry row below ∙ ap (λ known. entry_in lines known (get_or rows row [])) (sym name)) }) in
+    forms_same (length rows) 0 one.entries other.entries first.form.rises second.form.rises first.form.nonzero second.form.nonzero first.within second.within
+    (record { at = λ row below. first.entry row below ∙ sym (second.entry row below ∙ ap (λ known. entry_in lines known (get_or rows row [])) (sym name)) }) in
     let lower : one.lower ≡ other.lower = first.lower ∙ sym (second.lower ∙ ap (λ known. (bounds_in lines known).lower) (sym name)) in
     let upper : one.upper ≡ other.upper = first.upper ∙ sym (second.upper ∙ ap (λ known. (bounds_in lines known).upper) (sym name)) in
     ap (λ (known : List ℕ). record one { name = known }) name ∙ ap (λ (known : ℚ). record one { name = other.name; cost = known }) cost ∙ ap (λ (known : List Entry). record one { name = other.name; cost = other.cost; entries = known }) entries
@@ -119,7 +119,7 @@ one_meaning lines one other first second =
     let skipped : one.skipped.items ≡ other.skipped.items = cc in
     let names : row_names one.rows.items ≡ row_names other.rows.items = first.rows ∙ sym second.rows in
     let known : All (IsStatedColumn lines one.objective (row_names one.rows.items)) other.columns.items =
-        subst (λ name. All (IsStatedColumn lines name (row_names one.rows.items)) other.columns.items) (sym objective) (subst (λ rows. All (IsStatedColumn lines other.objective rows) other.columns.items) (sym names) second.column) in
+    subst (λ name. All (IsStatedColumn lines name (row_names one.rows.items)) other.columns.items) (sym objective) (subst (λ rows. All (IsStatedColumn lines other.objective rows) other.columns.items) (sym names) second.column) in
     record {
       objective = objective;
       skipped = skipped;

@@ -4,7 +4,6 @@ use Rattle.core_defs.specs.declared.cause.Cause.{Cause}
 use Rattle.core_defs.specs.declared.cause.Cause.TheVariants as cause
 
 abbrev pub number_of_cause : Cause → ℕ
-number_of_cause cause.NotBuilt = 9
 number_of_cause cause.SectionUnknown = 10
 number_of_cause cause.SectionOrder = 11
 number_of_cause cause.SectionMissing = 12
@@ -25,3 +24,4 @@ number_of_cause cause.NoObjective = 26
 number_of_cause cause.RangeOnFree = 27
 number_of_cause cause.ColumnUnknown = 28
 number_of_cause cause.CoreLimit = 29
+number_of_cause (cause.Passes p) = 57

@@ -1,11 +1,11 @@
 //! Why a text is refused.
 ghost use Rattle.std.specs.Prelude.{◌≡◌};
 
+use frac128::Passed;
+
 /// Why a line is refused.
 #[derive(Clone, Copy, Debug, PartialEq, Eq)]
 pub enum Cause {
-    /// 9: the line is of a form that isn't built yet.
-    NotBuilt,
     /// 10: a header isn't one of the file.
     SectionUnknown,
     /// 11: a section or a data line stands out of order.
@@ -46,6 +46,8 @@ pub enum Cause {
     ColumnUnknown,
     /// 29: a limit of the core is exceeded.
     CoreLimit,
+    /// 57: this operation of a row's interval passes 128 bits.
+    Passes(Passed),
 }
 
 impl Cause {
@@ -56,7 +58,6 @@ impl Cause {
         ensures { result ≡ number_of_cause self.now }
     {
         match self {
-            Cause::NotBuilt => 9,
             Cause::SectionUnknown => 10,
             Cause::SectionOrder => 11,
             Cause::SectionMissing => 12,
@@ -77,6 +78,7 @@ impl Cause {
             Cause::RangeOnFree => 27,
             Cause::ColumnUnknown => 28,
             Cause::CoreLimit => 29,
+            Cause::Passes(_) => 57,
         }
     }
 }

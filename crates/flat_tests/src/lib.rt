@@ -1,5 +1,7 @@
-//! Tests of the flat calls on programs that are read from core files.
+//! Tests of the flat calls on a program that is read from a core file, and on a program on a tree.
 #![tactic(auto)]
 
 #[cfg(test)]
 mod tests;
+#[cfg(test)]
+mod tree;

@@ -1,9 +1,11 @@
 -- More than six fields fit no line.
-use Rattle.std.proofs.Common.{◌≡◌, ◌<◌, ℕ, List, [], ◌∷◌, length, Err, refl, arith}
+use Rattle.std.proofs.Common.{◌≡◌, ◌+◌, ◌<◌, ℕ, suc, Bool, true, false, List, [], ◌∷◌, length, Some, Err, refl, sym, ap, ◌∙◌, arith}
+use Rattle.std.specs.Prelude.{if◌then◌else◌}
 use Rattle.core_defs.specs.declared.kinds.BoundKind.{BoundKind}
 use Rattle.core_defs.specs.declared.cause.Cause.TheVariants as cause
+use Rattle.core_defs.specs.Bounds.{bound_kind, has_value}
 use Rattle.core_defs.specs.Filed.{Filed}
-use Rattle.core_defs.specs.Step.{row_line, column_line, rhs_line, range_line, value_line, plain_line}
+use Rattle.core_defs.specs.Step.{row_line, column_line, rhs_line, range_line, value_line, plain_line, bound_line}
 
 pub long_row : (f : Filed) (fields : List (List ℕ)) → length fields ≡ 7 → row_line f fields ≡ Err cause.FieldCount
 unfolding row_line
@@ -59,4 +61,15 @@ long_plain f kind (_ ∷ _ ∷ []) long = absurd (omega arith)
 long_plain f kind (_ ∷ _ ∷ _ ∷ []) long = absurd (omega arith)
 long_plain f kind (_ ∷ _ ∷ _ ∷ _ ∷ _) long = refl
 
-pub ruleset bound_lines = (long_value, long_plain)
+-- and seven fields fit no line of BOUNDS
+pub long_bound : (f : Filed) (fields : List (List ℕ)) (kind : BoundKind) (word : List ℕ) → (rest : List (List ℕ)) × (fields ≡ word ∷ rest) → bound_kind word ≡ Some kind → length fields ≡ 7 → bound_line f fields ≡ Err cause.FieldCount
+unfolding bound_line
+long_bound f fields kind word (rest, e) k seven =
+    let long : 3 < length rest = let n : suc (length rest) ≡ 7 = sym (ap length e) ∙ seven in omega (arith, n) in
+    rw (e, k) (go (has_value kind) long)
+  where
+    go : (b : Bool) → 3 < length rest → (if b then value_line f kind rest else plain_line f kind rest) ≡ Err cause.FieldCount
+    go true long = long_value f kind rest long
+    go false long = long_plain f kind rest long
+
+pub ruleset bound_lines = (long_value, long_plain, long_bound)

@@ -128,8 +128,11 @@ impl Draft {
         let Some(kind) = bound_kind(word) else {
             return Err(Stop::Fault(Cause::BoundKind));
         };
-        let Some([_, rest @ ..]) = line.fields() else {
+        let Some(fields) = line.fields() else {
             return Err(Stop::Fault(Cause::FieldCount));
+        };
+        let [_, rest @ ..] = fields else {
+            return Err(Stop::Fault(Cause::BoundKind));
         };
         if has_value(kind) {
             self.value_line(kind, rest)

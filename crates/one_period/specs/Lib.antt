@@ -1,5 +1,8 @@
-pub mod Standard
+pub mod Node
+pub mod Parts
+pub mod Rows
 pub mod Lists
+pub mod Found
 pub mod Solved
-pub mod Laws
 pub mod Truth
+pub mod Laws

@@ -1,39 +1,71 @@
--- What the simplex method found for a program of one period.
-use Rattle.std.specs.Prelude.{◌≡◌, ℕ, List, Some, None}
-use Rattle.scen_defs.specs.declared.report.Finding.{Finding}
-use Rattle.scen_defs.specs.declared.report.Report.{Report}
+-- What is found for a program of one period shows itself; reports without ends and lists.
+use Rattle.std.specs.Prelude.{◌≡◌, ℕ, List, length, Some, None}
 use Rattle.rationals.specs.Rational.{ℚ}
-use Rattle.rationals.specs.Sparse.{Entry, coefficient}
-use Rattle.lp_defs.specs.Solution.{solution}
-use Rattle.lp_defs.specs.Certificates.{IsOptimal, IsUnbounded}
-use Rattle.simplex_core.specs.Told.{Tells, Shows, IsNotInfeasible}
-use Rattle.simplex_core.specs.declared.outcome.Outcome.{Outcome}
 use Rattle.scen_defs.specs.declared.program.Program.{Program}
 use Rattle.scen_defs.specs.declared.program.Node.{Node}
+use Rattle.scen_defs.specs.declared.report.Finding.{Finding}
+use Rattle.scen_defs.specs.declared.report.Report.{Report}
 use Rattle.scen_defs.specs.Values.{At, at}
-use Rattle.scen_defs.specs.Program.{View, IsTree}
-use Rattle.scen_defs.specs.Flat.{Feasible, IsGood, IsDirection, cost, value}
-use Rattle.one_period.specs.Standard.{IsAtMostProgram, standard_of}
+use Rattle.scen_defs.specs.Fits.{HaveNames}
+use Rattle.scen_defs.specs.Program.{View, IsTree, content, view_of}
+use Rattle.scen_defs.specs.Flat.{Feasible, IsGood, IsDirection, ShowsInfeasible, cost, value}
+use Rattle.one_period.specs.declared.found.Found.{Found}
+use Rattle.one_period.specs.declared.found.Found.TheVariants as found_end
+use Rattle.one_period.specs.Node.{IsOneNode}
+use Rattle.one_period.specs.Found.{found}
 
--- the outcome is that of the path, and shows that it is right for the standard form of the program
-pub record IsSolved (program : Program) (pivots : ℕ) (outcome : Outcome) : Type 0 where
-  pub node : Node
-  pub at_most : IsAtMostProgram program node
-  pub tells : Tells (solution (standard_of program node) pivots) outcome
-  pub shows : Shows (standard_of program node) outcome
-  pub feasible : IsNotInfeasible outcome
+-- the program as theorems see it
+abbrev pub seen : Program → View
+seen program = view_of (content program)
 
--- the point and the duals prove each other best
-pub record IsBest (program : Program) (point : List Entry) (duals : List ℚ) : Type 0 where
-  pub node : Node
-  pub at_most : IsAtMostProgram program node
-  pub best : IsOptimal (standard_of program node) (coefficient point) duals
+-- ---- what is found
 
--- the cost falls without end from the point in the direction of the ray
-pub record IsEndless (program : Program) (point ray : List Entry) : Type 0 where
+-- the policy is feasible, the multipliers are good, and one costs what the others are worth
+pub record AreBest (v : View) (policy dual : List At) : Type 0 where
+  pub tree : IsTree v
+  pub feasible : Feasible v (at policy)
+  pub good : IsGood v (at dual)
+  pub equal : value v (at dual) ≡ cost v (at policy)
+
+-- the multipliers show that nothing is feasible
+pub record IsNowhere (v : View) (ray : List At) : Type 0 where
+  pub tree : IsTree v
+  pub shows : ShowsInfeasible v (at ray)
+
+-- the policy is feasible, and the cost falls in the direction
+pub record AreEndless (v : View) (policy direction : List At) : Type 0 where
+  pub tree : IsTree v
+  pub feasible : Feasible v (at policy)
+  pub falls : IsDirection v (at direction)
+
+abbrev pub Shows : View → Found → Type 0
+Shows v (found_end.Best policy dual) = AreBest v policy dual
+Shows v (found_end.Nowhere ray) = IsNowhere v ray
+Shows v (found_end.Endless policy direction) = AreEndless v policy direction
+Shows v found_end.PivotsEnded = Unit {0}
+Shows v (found_end.Passed p) = Unit {0}
+
+-- each number of a policy or a direction is that of a column, each of multipliers that of a row
+abbrev pub FoundHasNames : Program → Found → Type 0
+FoundHasNames program (found_end.Best policy dual) = HaveNames (length program.columns.items) policy × HaveNames (length program.rows.items) dual
+FoundHasNames program (found_end.Nowhere ray) = HaveNames (length program.rows.items) ray
+FoundHasNames program (found_end.Endless policy direction) = HaveNames (length program.columns.items) policy × HaveNames (length program.columns.items) direction
+FoundHasNames program found_end.PivotsEnded = Unit {0}
+FoundHasNames program (found_end.Passed p) = Unit {0}
+
+-- it shows itself, and its lists can be printed
+pub record IsSound (program : Program) (all : Found) : Type 0 where
+  pub shows : Shows (seen program) all
+  pub names : FoundHasNames program all
+
+-- it is what is found in at most so many pivots
+pub record IsFound (program : Program) (pivots : ℕ) (all : Found) : Type 0 where
   pub node : Node
-  pub at_most : IsAtMostProgram program node
-  pub endless : IsUnbounded (standard_of program node) (coefficient point) (coefficient ray)
+  pub one_node : IsOneNode program node
+  pub is : all ≡ found program node pivots
+  pub sound : IsSound program all
+
+-- ---- reports
 
 -- a report of one node and one scenario without ends and lists
 abbrev pub left_open : Finding → Report
@@ -53,18 +85,3 @@ left_open finding = record {
 
 abbrev pub with_policy : Report → ℚ → List At → Report
 with_policy report upper policy = record report { upper = Some upper; policy = Some policy }
-
--- ---- the same of the lists that are printed
-
--- the policy is feasible, the multipliers are good, and one costs what the others are worth
-pub record AreBest (v : View) (policy dual : List At) : Type 0 where
-  pub tree : IsTree v
-  pub feasible : Feasible v (at policy)
-  pub good : IsGood v (at dual)
-  pub equal : value v (at dual) ≡ cost v (at policy)
-
--- the policy is feasible, and the cost falls in the direction
-pub record AreEndless (v : View) (policy direction : List At) : Type 0 where
-  pub tree : IsTree v
-  pub feasible : Feasible v (at policy)
-  pub falls : IsDirection v (at direction)

@@ -1,11 +1,10 @@
 -- What makes a report of a program true.
-use Rattle.std.specs.Prelude.{◌≡◌, ◌⊎◌, ℕ, List, Option, Some, None, Err}
-use Rattle.rationals.specs.Rational.{ℚ, ◌≤ℚ◌}
+use Rattle.std.specs.Prelude.{◌≡◌, ◌⊎◌, ℕ, Bool, true, false, List, Option, Some, None, is_some, Err}
+use Rattle.rationals.specs.Rational.{ℚ, zero_ℚ, ◌≤ℚ◌, ◌<ℚ◌}
 use Rattle.rationals.specs.Passes.{Operation}
-use Rattle.lp_defs.specs.Solution.{Solution, Cut_off, Passes, solution}
 use Rattle.scen_defs.specs.Values.{At, at}
 use Rattle.scen_defs.specs.Program.{View}
-use Rattle.scen_defs.specs.Flat.{Feasible, cost, IsGood, value, IsDirection}
+use Rattle.scen_defs.specs.Flat.{Feasible, cost, IsGood, value, IsDirection, without_costs, ShowsInfeasible}
 use Rattle.scen_defs.specs.declared.program.Program.{Program}
 use Rattle.scen_defs.specs.declared.program.Node.{Node}
 use Rattle.scen_defs.specs.declared.report.Place.{Place}
@@ -14,8 +13,11 @@ use Rattle.scen_defs.specs.declared.report.Finding.{Finding}
 use Rattle.scen_defs.specs.declared.report.Finding.TheVariants.{Optimal, Infeasible, Unbounded, OpenSolves, OpenPivots, OpenPassed}
 use Rattle.scen_defs.specs.declared.report.Report.{Report}
 use Rattle.scen_model.specs.declared.stop.Stop.TheVariants.{Passed as PassedStop}
-use Rattle.one_period.specs.Standard.{IsAtMostProgram, standard_of}
-use Rattle.one_period.specs.Laws.{seen}
+use Rattle.one_period.specs.declared.found.Found.{Found}
+use Rattle.one_period.specs.declared.found.Found.TheVariants as found_end
+use Rattle.one_period.specs.Node.{IsOneNode}
+use Rattle.one_period.specs.Found.{found}
+use Rattle.one_period.specs.Solved.{seen}
 use Rattle.scen_model.specs.Walks.{cost_walk, dual_walk}
 
 -- ---- the ends
@@ -44,6 +46,13 @@ pub record ShowsSlope (v : View) (slope : ℚ) (direction : List At) : Type 0 wh
   pub costs : cost v (at direction) ≡ slope
   pub endless : (limit : ℚ) → (x : ℕ → ℕ → ℚ) × Feasible v x × (cost v x ≤ℚ limit)
 
+-- multipliers that are good where all costs are 0, and are then worth this number above 0, so no point is feasible
+pub record ShowsNothing (v : View) (number : ℚ) (ray : List At) : Type 0 where
+  pub certificate : ShowsInfeasible v (at ray)
+  pub worth : value (without_costs v) (at ray) ≡ number
+  pub above : zero_ℚ <ℚ number
+  pub nothing : (x : ℕ → ℕ → ℚ) → Feasible v x → ⊥
+
 -- ---- the finding
 
 -- both ends are there, and equal
@@ -51,7 +60,6 @@ pub record IsOptimal (report : Report) : Type 0 where
   pub cost : ℚ
   pub lower : report.lower ≡ Some cost
   pub upper : report.upper ≡ Some cost
-  pub direction : report.direction ≡ None
 
 -- the upper end and the direction are there
 pub record IsUnbounded (v : View) (report : Report) : Type 0 where
@@ -64,45 +72,76 @@ pub record IsUnbounded (v : View) (report : Report) : Type 0 where
   pub direction_is : report.direction ≡ Some direction
   pub shows : ShowsSlope v slope direction
 
+-- neither end is there, and the ray and its value are
+pub record IsInfeasible (v : View) (report : Report) : Type 0 where
+  pub lower_is : report.lower ≡ None
+  pub upper_is : report.upper ≡ None
+  pub value : ℚ
+  pub value_is : report.extra ≡ Some value
+  pub ray : List At
+  pub ray_is : report.ray ≡ Some ray
+  pub shows : ShowsNothing v value ray
+
 -- the operation ends the computation of the cost of a feasible policy, or of a direction
 abbrev pub EndsCost : View → Operation → Type 0
 EndsCost v p = (x : List At) × (Feasible v (at x) ⊎ IsDirection v (at x)) × (cost_walk v (at x) ≡ Err p)
 
--- the operation ends the computation of the value of good multipliers
+-- the operation ends the computation of the value of good multipliers, or of those that show that nothing is feasible
 abbrev pub EndsValue : View → Operation → Type 0
-EndsValue v p = (y : List At) × IsGood v (at y) × (dual_walk v (at y) ≡ Err (PassedStop p))
+EndsValue v p = (y : List At) × ((IsGood v (at y) × (dual_walk v (at y) ≡ Err (PassedStop p))) ⊎ (ShowsInfeasible v (at y) × (dual_walk (without_costs v) (at y) ≡ Err (PassedStop p))))
 
--- The first operation that passes 128 bits stands at this place: in a pivot of the path, in a cost, or in a value.
-abbrev pub PassesAt : View → Solution → Place → Operation → Type 0
-PassesAt v path (Solve k) p = (k ≡ 1) × (pivot : ℕ) × (path ≡ Passes pivot p)
-PassesAt v path (Cost k) p = (k ≡ 1) × EndsCost v p
-PassesAt v path Dual p = EndsValue v p
-PassesAt v path (Cut k) p = ⊥
-PassesAt v path Ground p = ⊥
-PassesAt v path Check p = ⊥
+-- The first operation that passes 128 bits stands at this place: before anything was found, in a cost, or in a value.
+abbrev pub PassesAt : View → Found → Place → Operation → Type 0
+PassesAt v all (Solve k) p = (k ≡ 1) × (all ≡ found_end.Passed p)
+PassesAt v all (Cost k) p = (k ≡ 1) × EndsCost v p
+PassesAt v all Dual p = EndsValue v p
+PassesAt v all (Cut k) p = ⊥
+PassesAt v all Ground p = ⊥
+PassesAt v all Check p = ⊥
 
--- What a finding says, where the simplex method's path has this answer.
-abbrev pub Explains : View → Solution → Report → Finding → Type 0
-Explains v path report Optimal = IsOptimal report
-Explains v path report Unbounded = IsUnbounded v report
-Explains v path report Infeasible = ⊥
-Explains v path report (OpenSolves n) = ⊥
-Explains v path report (OpenPivots k) = (k ≡ 1) × (path ≡ Cut_off)
-Explains v path report (OpenPassed place p) = PassesAt v path place p
+-- What a finding says, where this is found.
+abbrev pub Explains : View → Found → Report → Finding → Type 0
+Explains v all report Optimal = IsOptimal report
+Explains v all report Unbounded = IsUnbounded v report
+Explains v all report Infeasible = IsInfeasible v report
+Explains v all report (OpenSolves n) = ⊥
+Explains v all report (OpenPivots k) = (k ≡ 1) × (all ≡ found_end.PivotsEnded)
+Explains v all report (OpenPassed place p) = PassesAt v all place p
+
+-- ---- which parts a finding has
+
+-- a ray shows INFEASIBLE
+abbrev pub has_ray : Finding → Bool
+has_ray Infeasible = true
+has_ray finding = false
+
+-- a direction shows UNBOUNDED
+abbrev pub has_direction : Finding → Bool
+has_direction Unbounded = true
+has_direction finding = false
+
+-- the value of the ray, the cost of the direction
+abbrev pub has_extra : Finding → Bool
+has_extra Infeasible = true
+has_extra Unbounded = true
+has_extra finding = false
 
 -- ---- the report
 
-pub record IsTrue (v : View) (path : Solution) (report : Report) : Type 0 where
+pub record IsTrue (v : View) (all : Found) (report : Report) : Type 0 where
   -- a lower end is there exactly with a dual, which shows it
   pub lower : Together (ShowsLower v) report.lower report.dual
   -- an upper end is there exactly with a policy, which shows it
   pub upper : Together (ShowsUpper v) report.upper report.policy
-  -- OPTIMAL has equal ends, UNBOUNDED its direction; OPEN says why
-  pub finding : Explains v path report report.finding
-  pub ray : report.ray ≡ None
+  -- OPTIMAL has equal ends, UNBOUNDED its direction, INFEASIBLE its ray; OPEN says why
+  pub finding : Explains v all report report.finding
+  -- a direction, a ray and their number stand there exactly where the finding has them
+  pub direction : is_some report.direction ≡ has_direction report.finding
+  pub ray : is_some report.ray ≡ has_ray report.finding
+  pub extra : is_some report.extra ≡ has_extra report.finding
 
--- The report is true of the program, whose path is that of its standard form in at most so many pivots.
+-- The report is true of the program, of which this is found in at most so many pivots.
 pub record SolvesProgram (program : Program) (pivots : ℕ) (report : Report) : Type 0 where
   pub node : Node
-  pub at_most : IsAtMostProgram program node
-  pub truth : IsTrue (seen program) (solution (standard_of program node) pivots) report
+  pub one_node : IsOneNode program node
+  pub truth : IsTrue (seen program) (found program node pivots) report

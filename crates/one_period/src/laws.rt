@@ -1,8 +1,8 @@
-//! What the standard form of a program of one period says of the program itself.
-ghost use Rattle.one_period.specs.Laws.{StandardFormLaws};
+//! What is found for a program of one period shows itself.
+ghost use Rattle.one_period.specs.Laws.{PeriodLaws};
 
-/// A point of the standard form is a feasible policy of equal cost, its duals a good dual of equal value,
-/// and its ray a direction.
+/// Of a program of one period: a policy and multipliers prove each other best; multipliers show that no
+/// policy is feasible; a policy is feasible and the cost falls in a direction.
 pub fn standard_form_means()
-    ensures { StandardFormLaws }
+    ensures { PeriodLaws }
 {}

@@ -1,12 +1,13 @@
 //! Solves programs of one period, and reports what was found.
 #![tactic(auto)]
 
-mod forms;
+mod found;
 mod laws;
+mod limits;
 mod lists;
+mod own;
+mod part;
 mod report;
-mod standard;
 
 pub use laws::standard_form_means;
 pub use report::solve_program;
-pub use standard::{StandardFault, standard_form};

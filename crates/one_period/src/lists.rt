@@ -1,77 +1,53 @@
-//! Points and duals as lists of values at node 0.
-ghost use Rattle.std.specs.Prelude.{◌≡◌, ◌<◌, ◌≤◌, ◌^◌, ◌++◌, IfOk, OnOk, length};
-ghost use Rattle.rationals.specs.Forms.{IsForm};
+//! Points and multipliers as lists of values at node 0.
+ghost use Rattle.std.specs.Prelude.{◌≡◌, ◌<◌, ◌≤◌, ◌^◌, ◌++◌, IfOk, MatchResult, OnOk, Ok, length, suc};
+ghost use Rattle.rationals.specs.Sparse.{coefficient};
+ghost use Rattle.frac128.specs.Faults.{FaultOf, IfNotMemory};
 ghost use Rattle.scen_defs.specs.Values.{EndsBefore};
-ghost use Rattle.scen_defs.specs.Fits.{HaveNames};
-ghost use Rattle.one_period.specs.Lists.{columns_below, row_value, rows_from};
+ghost use Rattle.one_period.specs.Lists.{columns_walk, value_at_root, values_from};
 
-use frac128::{Form, Frac, Memory, Term};
-use scen_defs::{Program, Values};
+use crate::part::{Part, Vector, value};
+use frac128::{Form, FormFault, Frac, Memory};
+use scen_defs::Values;
 use std::alloc::Global;
 
-/// The values of the columns of a program: a policy or a direction.
-#[tactic(auto, using(crate::proofs::NameLemmas::columns_have_names))]
-pub(crate) fn point_values(alloc: Global, program: &Program, point: Form) -> Result<Values, Memory>
-    requires { length program.now.columns.items < 2 ^ 32 }
-    ensures values { IfOk result (λ values. values ≡ columns_below (length program.now.columns.items) point) }
-    ensures names { IfOk result (HaveNames (length program.now.columns.items)) }
-    ensures form { IfOk result (λ _. IsForm point) }
-{
-    let columns = program.columns.len() as u64;
-    column_values(alloc, &point.into_terms(), columns)
-}
-
-/// The values of the columns below `columns`.
-fn column_values(alloc: Global, terms: &[Term], columns: u64) -> Result<Values, Memory>
-    requires form { IsForm terms.now }
-    requires few { columns ≤ 2 ^ 32 }
-    ensures { IfOk result (λ values. values ≡ columns_below columns terms.now) }
+/// The values of the columns in a point or a direction over the new columns.
+pub(crate) fn column_values(
+    alloc: Global,
+    vector: Vector,
+    parts: &[Part],
+    point: &Form,
+) -> Result<Values, FormFault>
+    requires { length parts.now < 2 ^ 32 }
+    ensures { IfNotMemory result (columns_walk vector (coefficient point.now) parts.now) }
 {
     let mut values = Values::empty(alloc);
-    for term in terms {
-        if term.column >= columns {
-            break;
-        }
-        values.push(0, term.column as u32, term.value)?;
+    for (column, part) in parts.iter().enumerate() {
+        let number = value(vector, *part, point)?;
+        push_nonzero(&mut values, column as u32, number)?;
     }
     Ok(values)
 }
 
-/// The multipliers of the rows of a program.
-#[tactic(auto, using(crate::proofs::NameLemmas::rows_have_names))]
-pub(crate) fn dual_values(
-    alloc: Global,
-    program: &Program,
-    duals: &[Frac],
-) -> Result<Values, Memory>
-    requires each_row { length duals.now ≡ length program.now.rows.items }
-    requires few { length duals.now < 2 ^ 32 }
-    ensures values { IfOk result (λ values. values ≡ rows_from 0 duals.now) }
-    ensures names { IfOk result (HaveNames (length program.now.rows.items)) }
-{
-    let _rows = program.rows.len();
-    row_values(alloc, duals)
-}
-
-/// The duals that aren't 0, by row.
-fn row_values(alloc: Global, duals: &[Frac]) -> Result<Values, Memory>
-    requires { length duals.now ≤ 2 ^ 32 }
-    ensures { IfOk result (λ values. values ≡ rows_from 0 duals.now) }
+/// The multipliers of rows that aren't 0, by row.
+pub(crate) fn row_values(alloc: Global, duals: &[Frac]) -> Result<Values, Memory>
+    requires { length duals.now < 2 ^ 32 }
+    ensures { IfOk result (λ values. values ≡ values_from 0 duals.now) }
 {
     let mut values = Values::empty(alloc);
     for (row, dual) in duals.iter().enumerate() {
-        push_row(&mut values, row as u32, *dual)?;
+        push_nonzero(&mut values, row as u32, *dual)?;
     }
     Ok(values)
 }
 
-/// Adds the dual of a row, unless it is 0.
-fn push_row(values: &mut Values, row: u32, dual: Frac) -> Result<(), Memory>
-    requires { EndsBefore values.old 0 row }
-    ensures { OnOk result (values.new ≡ values.old ++ row_value row dual) }
+/// Adds the value of a column or the multiplier of a row, unless it is 0.
+fn push_nonzero(values: &mut Values, index: u32, value: Frac) -> Result<(), Memory>
+    requires { EndsBefore values.old 0 index }
+    ensures value { OnOk result (values.new ≡ values.old ++ value_at_root index value) }
+    ensures before { OnOk result (EndsBefore values.new 0 (suc index)) }
 {
-    if dual.is_zero() {
+    if value.is_zero() {
         return Ok(());
     }
-    values.push(0, row, dual)
+    values.push(0, index, value)
 }

@@ -1,23 +1,19 @@
-//! What an outcome of the simplex method says of a program of one period.
-ghost use Rattle.std.specs.Prelude.{◌≡◌, IfOk, IsErrOf, length, Ok};
+//! The report of what is found for a program of one period.
+ghost use Rattle.std.specs.Prelude.{◌≡◌, IfOk, length, Ok};
 ghost use Rattle.scen_defs.specs.Fits.{HaveNames, ListsHaveNames};
 ghost use Rattle.scen_defs.specs.Values.{at};
 ghost use Rattle.scen_defs.specs.declared.program.Node.{Node};
 ghost use Rattle.scen_defs.specs.declared.report.Place.{Place};
-ghost use Rattle.lp_defs.specs.Solution.{Solution};
 ghost use Rattle.scen_model.specs.Walks.{cost_walk};
-ghost use Rattle.one_period.specs.Laws.{seen};
-ghost use Rattle.one_period.specs.Standard.{IsAtMostProgram};
-ghost use Rattle.one_period.specs.Solved.{IsSolved, IsBest, IsEndless, AreBest, AreEndless, left_open, with_policy};
+ghost use Rattle.one_period.specs.declared.found.Found.{Found};
+ghost use Rattle.one_period.specs.Node.{IsOneNode};
+ghost use Rattle.one_period.specs.Solved.{seen, AreBest, AreEndless, IsFound, IsNowhere, left_open, with_policy};
 ghost use Rattle.one_period.specs.Truth.{IsTrue, SolvesProgram};
-ghost use Rattle.one_period.specs.declared.standard.StandardFault.TheVariants.{NotBuilt};
 
-use crate::lists::{dual_values, point_values};
-use crate::standard::{StandardFault, standard_form};
-use frac128::{Form, Frac, Memory, Passed};
-use scen_defs::{Finding, Halt, Place, Program, Report, Values};
-use scen_model::{cost, dual_value};
-use simplex_core::{Outcome, solve};
+use crate::found::{Found, find};
+use frac128::{Frac, Memory, Passed};
+use scen_defs::{Finding, Halt, Node, Place, Program, Report, Values};
+use scen_model::{cost, dual_value, zero_value};
 use std::alloc::Global;
 
 /// The number of the only solve.
@@ -25,61 +21,52 @@ const SOLVE: u64 = 1;
 
 /// Solves a program of one period in at most `pivots` pivots, and reports what was found.
 ///
-/// The program has one node, columns that are at least 0 and rows that are at most their right-hand
-/// sides, which are at least 0; `NotBuilt` comes exactly for any other.
-pub fn solve_program(alloc: Global, program: &Program, pivots: u64) -> Result<Report, StandardFault>
+/// New columns, which are at least 0, stand for the program's columns in order: a column with a lower bound
+/// is that bound and a new column; else one with an upper bound is that bound less a new column; else it is
+/// the difference of two new columns. The rows are, in order, of each own row one equation where its ends
+/// are equal, else one row for its low end and one for its high end, where these are there; then for each
+/// column with two bounds the row that its new column is at most their difference. A right side is the end
+/// less, entry by entry, the entry times the bound that its column is shifted by.
+///
+/// The simplex method then follows its path. Behind it come, where it ends, by row the sum of the
+/// multipliers of the row's limits, by column its value, and by column how far it moves in a direction; of
+/// an infeasible program the operations that show it. The first of all these operations that passes 128
+/// bits is told as one of the solve. Then come the policy's cost, and the dual's or the ray's value, or the
+/// direction's cost; where one of their operations passes, an end that is known before it is told.
+pub fn solve_program(alloc: Global, program: &Program, pivots: u64) -> Result<Report, Memory>
+    requires { (node : Node) × IsOneNode program.now node }
     ensures names { IfOk result (ListsHaveNames program.now) }
     ensures truth { IfOk result (SolvesProgram program.now pivots) }
-    ensures not_built { IsErrOf result NotBuilt → (node : Node) → IsAtMostProgram program.now node → ⊥ }
 {
-    let form = standard_form(alloc, program)?;
-    let outcome = solve(alloc, &form, pivots)?;
-    let report = reported(alloc, program, pivots, outcome)?;
-    Ok(report)
+    let node = root(program);
+    let found = find(alloc, program, node, pivots)?;
+    reported(program, pivots, found)
 }
 
-/// The report of an outcome.
-fn reported(
-    alloc: Global,
-    program: &Program,
-    pivots: u64,
-    outcome: Outcome,
-) -> Result<Report, Memory>
-    requires { IsSolved program.now pivots outcome }
-    ensures names { IfOk result (ListsHaveNames program.now) }
-    ensures truth { IfOk result (SolvesProgram program.now pivots) }
+/// The only node.
+fn root(program: &Program) -> &Node
+    requires { (node : Node) × IsOneNode program.now node }
+    ensures { IsOneNode program.now result.now }
 {
-    match outcome {
-        Outcome::Optimal { point, duals } => best(alloc, program, point, &duals),
-        Outcome::Unbounded { point, ray } => endless(alloc, program, point, ray),
-        Outcome::Infeasible { duals: _ } => unreachable!(),
-        Outcome::PivotsEnded => Ok(left_open(Finding::OpenPivots(SOLVE))),
-        Outcome::Passed(_pivot, passed) => {
-            Ok(left_open(Finding::OpenPassed(Place::Solve(SOLVE), passed)))
-        }
+    match program.nodes.as_slice() {
+        [Some(node)] => node,
+        _ => unreachable!(),
     }
 }
 
-/// The report of a point and duals that prove each other best.
-fn best(alloc: Global, program: &Program, point: Form, duals: &[Frac]) -> Result<Report, Memory>
-    requires { IsBest program.now point duals.now }
+/// The report of what is found.
+fn reported(program: &Program, pivots: u64, found: Found) -> Result<Report, Memory>
+    requires { IsFound program.now pivots found }
     ensures names { IfOk result (ListsHaveNames program.now) }
-    ensures truth { IfOk result (λ report. (path : Solution) → IsTrue (seen program.now) path report) }
+    ensures truth { IfOk result (SolvesProgram program.now pivots) }
 {
-    let policy = point_values(alloc, program, point)?;
-    let dual = dual_values(alloc, program, duals)?;
-    at_best(program, policy, dual)
-}
-
-/// The report of a point and a ray along which the cost falls without end.
-fn endless(alloc: Global, program: &Program, point: Form, ray: Form) -> Result<Report, Memory>
-    requires { IsEndless program.now point ray }
-    ensures names { IfOk result (ListsHaveNames program.now) }
-    ensures truth { IfOk result (λ report. (path : Solution) → IsTrue (seen program.now) path report) }
-{
-    let policy = point_values(alloc, program, point)?;
-    let direction = point_values(alloc, program, ray)?;
-    without_end(program, policy, direction)
+    match found {
+        Found::Best(policy, dual) => at_best(program, policy, dual),
+        Found::Nowhere(ray) => nowhere(program, ray),
+        Found::Endless(policy, direction) => without_end(program, policy, direction),
+        Found::PivotsEnded => Ok(left_open(Finding::OpenPivots(SOLVE))),
+        Found::Passed(passed) => Ok(left_open(Finding::OpenPassed(Place::Solve(SOLVE), passed))),
+    }
 }
 
 /// The report of a policy and a dual that prove each other best.
@@ -88,7 +75,7 @@ fn at_best(program: &Program, policy: Values, dual: Values) -> Result<Report, Me
     requires dual { HaveNames (length program.now.rows.items) dual }
     requires best { AreBest (seen program.now) policy dual }
     ensures names { IfOk result (ListsHaveNames program.now) }
-    ensures truth { IfOk result (λ report. (path : Solution) → IsTrue (seen program.now) path report) }
+    ensures truth { IfOk result (λ report. (all : Found) → IsTrue (seen program.now) all report) }
 {
     match cost(program, &policy) {
         Ok(upper) => with_value(program, upper, policy, dual),
@@ -111,7 +98,7 @@ fn with_value(
     requires best { AreBest (seen program.now) policy dual }
     requires upper { cost_walk (seen program.now) (at policy) ≡ Ok upper }
     ensures names { IfOk result (ListsHaveNames program.now) }
-    ensures truth { IfOk result (λ report. (path : Solution) → IsTrue (seen program.now) path report) }
+    ensures truth { IfOk result (λ report. (all : Found) → IsTrue (seen program.now) all report) }
 {
     match dual_value(program, &dual) {
         Ok(Some(lower)) => {
@@ -137,7 +124,7 @@ fn without_end(program: &Program, policy: Values, direction: Values) -> Result<R
     requires direction { HaveNames (length program.now.columns.items) direction }
     requires endless { AreEndless (seen program.now) policy direction }
     ensures names { IfOk result (ListsHaveNames program.now) }
-    ensures truth { IfOk result (λ report. (path : Solution) → IsTrue (seen program.now) path report) }
+    ensures truth { IfOk result (λ report. (all : Found) → IsTrue (seen program.now) all report) }
 {
     match cost(program, &policy) {
         Ok(upper) => with_slope(program, upper, policy, direction),
@@ -160,7 +147,7 @@ fn with_slope(
     requires endless { AreEndless (seen program.now) policy direction }
     requires upper { cost_walk (seen program.now) (at policy) ≡ Ok upper }
     ensures names { IfOk result (ListsHaveNames program.now) }
-    ensures truth { IfOk result (λ report. (path : Solution) → IsTrue (seen program.now) path report) }
+    ensures truth { IfOk result (λ report. (all : Found) → IsTrue (seen program.now) all report) }
 {
     match cost(program, &direction) {
         Ok(slope) => {
@@ -175,6 +162,30 @@ fn with_slope(
             let passed = operation(halt)?;
             let report = left_open(Finding::OpenPassed(Place::Cost(SOLVE), passed));
             Ok(with_policy(report, upper, policy))
+        }
+    }
+}
+
+/// The report of multipliers that show that no policy is feasible.
+fn nowhere(program: &Program, ray: Values) -> Result<Report, Memory>
+    requires ray { HaveNames (length program.now.rows.items) ray }
+    requires nowhere { IsNowhere (seen program.now) ray }
+    ensures names { IfOk result (ListsHaveNames program.now) }
+    ensures truth { IfOk result (λ report. (all : Found) → IsTrue (seen program.now) all report) }
+{
+    match zero_value(program, &ray) {
+        Ok(Some(value)) => {
+            let report = left_open(Finding::Infeasible);
+            Ok(Report {
+                extra: Some(value),
+                ray: Some(ray),
+                ..report
+            })
+        }
+        Ok(None) => unreachable!(),
+        Err(halt) => {
+            let passed = operation(halt)?;
+            Ok(left_open(Finding::OpenPassed(Place::Dual, passed)))
         }
     }
 }

@@ -1,8 +1,9 @@
-//! Prints reports.
+//! Prints reports and the operations that they name.
 #![tactic(auto)]
 
 mod lists;
 mod pieces;
 mod print;
 
+pub use pieces::print_operation;
 pub use print::print_report;

@@ -58,8 +58,8 @@ fn put_numbered(alloc: Global, out: &mut Vec<u8>, word: &[u8], number: u64) -> R
     put_count(alloc, out, number)
 }
 
-/// Appends an operation and its operands.
-fn put_operation(alloc: Global, out: &mut Vec<u8>, passed: Passed) -> Result<(), Memory>
+/// Appends an operation and its operands, as `MUL 2 1/3`.
+pub fn print_operation(alloc: Global, passed: Passed, out: &mut Vec<u8>) -> Result<(), Memory>
     ensures { OnOk result (out.new.items ≡ out.old.items ++ operation_text passed) }
 {
     put(out, op_word(passed.op))?;
@@ -83,7 +83,7 @@ pub(crate) fn put_finding(alloc: Global, out: &mut Vec<u8>, finding: Finding) ->
             put(out, b"OPEN PASSED ")?;
             put_place(alloc, out, place)?;
             put(out, b" ")?;
-            put_operation(alloc, out, passed)
+            print_operation(alloc, passed, out)
         }
     }
 }

@@ -42,7 +42,7 @@ pub fn find(entries: &[Term], column: u64) -> Frac
 fn less(factor: Frac, from: Frac, times: Frac) -> Result<Frac, Passed>
     ensures { result ≡ less_walk factor from times }
 {
-    from.sub(factor.mul(times)?)
+    from.less_product(factor, times)
 }
 
 #[inline(always)]

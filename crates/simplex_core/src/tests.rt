@@ -11,6 +11,8 @@ use std::test::Fail;
 /// point and the ray, by row the duals.
 const PROGRAMS: &str = "\
 1 1 1 0=4;1 3 0 1=6|-3 -2 0 0|100|optimal 4 0 0 2; -3 0
+1 1 1 0=4;1 3 0 1=6|-3 -2 0 0|2|pivots ended
+1 1 1 0=4;1 3 0 1=6|-3 -2 0 0|3|optimal 4 0 0 2; -3 0
 -1 1=0|-1 0|100|unbounded 0 0; 1 1
 1 -1=1|0 -1|100|unbounded 1 0; 1 1
 1=1;1=2|0|100|infeasible -1 1

@@ -9,9 +9,9 @@ use Rattle.rationals.specs.Passes.{Operation, add_walk, sub_walk, then_walk}
 use Rattle.rationals.proofs.WalkLaws.{walk_value}
 use Rattle.smps_words.specs.declared.row_kind.RowKind.{RowKind}
 use Rattle.smps_words.specs.declared.row_kind.RowKind.TheVariants.{Less, Greater, Equal}
-use Rattle.mps_core.specs.declared.parts.RowDef.{RowDef}
-use Rattle.mps_core.specs.declared.parts.ColumnDef.{ColumnDef}
-use Rattle.mps_core.specs.declared.program.Core.{Core}
+use Rattle.core_defs.specs.declared.parts.RowDef.{RowDef}
+use Rattle.core_defs.specs.declared.parts.ColumnDef.{ColumnDef}
+use Rattle.core_defs.specs.declared.program.Core.{Core}
 use Rattle.scen_defs.specs.declared.program.Column.{Column}
 use Rattle.scen_defs.specs.declared.program.Row.{Row}
 use Rattle.scen_defs.specs.declared.program.NodeRow.{NodeRow}
@@ -83,18 +83,18 @@ interval_is Equal b (Some r) ends e = go (add_walk b r) refl e
 
 -- ---- the rows of the node
 -- row i and so on have the numbers and intervals of these
-abbrev Lines : List ColumnDef → ℕ → List RowDef → List NodeRow → Type 0
+abbrev pub Lines : List ColumnDef → ℕ → List RowDef → List NodeRow → Type 0
 Lines cs i [] [] = Unit {0}
 Lines cs i [] (q ∷ rows) = ⊥
 Lines cs i (r ∷ rs) [] = ⊥
 Lines cs i (r ∷ rs) (q ∷ rows) = ((ends : Interval) × (q ≡ node_row cs i ends) × IsInterval r.kind r.range ends) × Lines cs (suc i) rs rows
 
-record Built (cs : List ColumnDef) (built : List NodeRow) (i : ℕ) (rs : List RowDef) (rows : List NodeRow) : Type 0 where
-  more : List NodeRow
-  rows_are : rows ≡ built ++ more
-  lines : Lines cs i rs more
+pub record Built (cs : List ColumnDef) (built : List NodeRow) (i : ℕ) (rs : List RowDef) (rows : List NodeRow) : Type 0 where
+  pub more : List NodeRow
+  pub rows_are : rows ≡ built ++ more
+  pub lines : Lines cs i rs more
 
-rows_built : (cs : List ColumnDef) (built : List NodeRow) (i : ℕ) (rs : List RowDef) (rows : List NodeRow) → rows_from cs built i rs ≡ Ok rows → Built cs built i rs rows
+pub rows_built : (cs : List ColumnDef) (built : List NodeRow) (i : ℕ) (rs : List RowDef) (rows : List NodeRow) → rows_from cs built i rs ≡ Ok rows → Built cs built i rs rows
 rows_built cs built i [] rows e = let q : rows ≡ built = cc in record { more = []; rows_are = q ∙ sym (append-nil built); lines = tt }
 rows_built cs built i (r ∷ rs) rows e = go (interval_walk r.kind r.rhs r.range) refl e (λ ends k. rows_built cs (built ++ node_row cs i ends ∷ []) (suc i) rs rows k)
   where
@@ -151,7 +151,7 @@ each_always : {A : Type 0} (P : A → Type 0) (xs : List A) → ((a : A) → P a
 each_always P [] f = tt
 each_always P (x ∷ xs) f = (f x, each_always P xs f)
 
-length_mapped : {A B : Type 0} (f : A → B) (xs : List A) → length (map f xs) ≡ length xs
+pub length_mapped : {A B : Type 0} (f : A → B) (xs : List A) → length (map f xs) ≡ length xs
 length_mapped f [] = refl
 length_mapped f (x ∷ xs) = ap suc (length_mapped f xs)
 

@@ -1,8 +1,8 @@
 -- The program of one period is a program.
 use Rattle.std.specs.Prelude.{◌≡◌, ◌<◌, ◌^◌, map, length, Ok}
-use Rattle.mps_core.specs.declared.parts.RowDef.{RowDef}
-use Rattle.mps_core.specs.declared.parts.ColumnDef.{ColumnDef}
-use Rattle.mps_core.specs.declared.program.Core.{Core}
+use Rattle.core_defs.specs.declared.parts.RowDef.{RowDef}
+use Rattle.core_defs.specs.declared.parts.ColumnDef.{ColumnDef}
+use Rattle.core_defs.specs.declared.program.Core.{Core}
 use Rattle.scen_defs.specs.Lists.{Each}
 use Rattle.scen_defs.specs.Ends.{InOrder}
 use Rattle.scen_defs.specs.Program.{Program}

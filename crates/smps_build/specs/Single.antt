@@ -6,9 +6,9 @@ use Rattle.rationals.specs.Forms.{put}
 use Rattle.rationals.specs.Passes.{Operation, add_walk, sub_walk, then_walk}
 use Rattle.smps_words.specs.declared.row_kind.RowKind.{RowKind}
 use Rattle.smps_words.specs.declared.row_kind.RowKind.TheVariants.{Less, Greater, Equal}
-use Rattle.mps_core.specs.declared.parts.RowDef.{RowDef}
-use Rattle.mps_core.specs.declared.parts.ColumnDef.{ColumnDef}
-use Rattle.mps_core.specs.declared.program.Core.{Core}
+use Rattle.core_defs.specs.declared.parts.RowDef.{RowDef}
+use Rattle.core_defs.specs.declared.parts.ColumnDef.{ColumnDef}
+use Rattle.core_defs.specs.declared.program.Core.{Core}
 use Rattle.scen_defs.specs.declared.program.Column.{Column}
 use Rattle.scen_defs.specs.declared.program.Row.{Row}
 use Rattle.scen_defs.specs.declared.program.NodeRow.{NodeRow}

@@ -1,2 +1,2 @@
-pub mod ThinLemmas
+pub mod NodeLemmas
 pub mod PrintLemmas

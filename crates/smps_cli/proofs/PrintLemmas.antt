@@ -1,14 +1,16 @@
--- What is printed, by the finding of the report.
-use Rattle.std.proofs.Common.{◌≡◌, ℕ, List, sym, subst}
-use Rattle.mps_core.specs.Means.{TextMeans}
-use Rattle.mps_core.specs.Thin.{IsThinText}
+-- What is printed: a report, by its finding, or a refusal.
+use Rattle.std.proofs.Common.{◌≡◌, ◌⊎◌, ℕ, List, inl, inr, refl, sym, ap, subst, ◌∙◌}
+use Rattle.core_defs.specs.Means.{TextMeans}
+use Rattle.core_defs.specs.Fault.{IsCoreFile}
+use Rattle.core_defs.specs.declared.cause.Cause.TheVariants.{Passes}
+use Rattle.core_defs.specs.declared.program.Core.{Core}
 use Rattle.smps_words.specs.Line.{reading_of}
-use Rattle.mps_core.specs.declared.program.Core.{Core}
 use Rattle.scen_defs.specs.declared.report.Finding.{Finding}
 use Rattle.scen_defs.specs.declared.report.Finding.TheVariants.{Optimal, Infeasible, Unbounded, OpenSolves, OpenPivots, OpenPassed}
 use Rattle.smps_cli.specs.declared.status.Status.{Status}
 use Rattle.smps_cli.specs.Findings.{command_status}
-use Rattle.smps_cli.specs.Printed.{PrintsReportOf, PrintsTrueReport}
+use Rattle.smps_cli.specs.Lines.{status_line}
+use Rattle.smps_cli.specs.Printed.{PrintsReportOf, PrintsTrueReport, RefusesEnd, IsPassing}
 use Rattle.smps_cli.specs.Answers.{MayBeSolved}
 
 by_finding : (bytes output : List ℕ) (finding : Finding) → PrintsTrueReport bytes output (command_status finding) → MayBeSolved bytes (command_status finding) output
@@ -20,8 +22,18 @@ by_finding bytes output (OpenPivots k) h = h
 by_finding bytes output (OpenPassed place p) h = h
 
 -- a report of the core that the bytes mean may be printed
-pub may_be_printed : (bytes output : List ℕ) (status : Status) (core : Core) → IsThinText (reading_of 0 bytes).lines → TextMeans bytes core → PrintsReportOf core output status → MayBeSolved bytes status output
-may_be_printed bytes output status core forms means h =
-    let whole : PrintsTrueReport bytes output status = record { forms = forms; core = core; means = means; prints = h } in
+may_be_printed : (bytes output : List ℕ) (status : Status) (core : Core) → IsCoreFile (reading_of 0 bytes).lines → TextMeans bytes core → PrintsReportOf core output status → MayBeSolved bytes status output
+may_be_printed bytes output status core read means h =
+    let whole : PrintsTrueReport bytes output status = record { read = read; core = core; means = means; prints = h } in
     subst (λ (s : Status). MayBeSolved bytes s output) (sym h.told)
     (by_finding bytes output h.report.finding (subst (λ (s : Status). PrintsTrueReport bytes output s) h.told whole))
+
+-- and so may the refusal of an end
+may_be_refused : (bytes output : List ℕ) (status : Status) (core : Core) → IsCoreFile (reading_of 0 bytes).lines → TextMeans bytes core → RefusesEnd core output status → MayBeSolved bytes status output
+may_be_refused bytes output status core read means h =
+    let passing : IsPassing bytes 0 (Passes h.operation) = record { read = read; core = core; means = means; operation = h.operation; passes = h.passes; line_is = refl; cause_is = refl } in
+    subst (λ (s : Status). MayBeSolved bytes s output) (sym h.told) (refl, inr passing, h.text ∙ ap status_line h.told)
+
+pub may_be_answered : (bytes output : List ℕ) (status : Status) (core : Core) → IsCoreFile (reading_of 0 bytes).lines → TextMeans bytes core → PrintsReportOf core output status ⊎ RefusesEnd core output status → MayBeSolved bytes status output
+may_be_answered bytes output status core read means (inl h) = may_be_printed bytes output status core read means h
+may_be_answered bytes output status core read means (inr h) = may_be_refused bytes output status core read means h

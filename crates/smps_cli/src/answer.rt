@@ -51,7 +51,6 @@ pub(crate) fn answered<R: Runtime, H: Shelf>(
 pub(crate) fn one_line(alloc: Global, status: Status) -> Result<Answer, Memory>
     ensures { IfOk result (λ answer. (answer.status ≡ status) × (answer.output.items ≡ status_line status)) }
 {
-    let line = status.line(alloc)?;
-    let output = Vec::from_slice(alloc, line.as_bytes())?;
+    let output = status.line(alloc)?;
     Ok(Answer { status, output })
 }

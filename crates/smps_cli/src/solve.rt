@@ -1,10 +1,10 @@
 //! The command `solve` on a core file alone.
-ghost use Rattle.std.specs.Prelude.{◌≡◌, ◌≤◌, IfOk, Ok, length};
-ghost use Rattle.mps_core.specs.Core.{IsCore, IsThin};
+ghost use Rattle.std.specs.Prelude.{◌≡◌, ◌≤◌, ◌⊎◌, IfOk, Ok, length};
+ghost use Rattle.core_defs.specs.Core.{IsCore};
 ghost use Rattle.scen_defs.specs.Fits.{ListsHaveNames};
 ghost use Rattle.scen_defs.specs.Program.{content};
-ghost use Rattle.smps_build.specs.Single.{single_walk, BuildFaultOf};
-ghost use Rattle.smps_cli.specs.Printed.{PrintsReportOf};
+ghost use Rattle.smps_build.specs.Single.{single_walk};
+ghost use Rattle.smps_cli.specs.Printed.{PrintsReportOf, RefusesEnd};
 ghost use Rattle.smps_cli.specs.Answers.{MayBeSolved, file_limit};
 ghost use Rattle.report_text.specs.Text.{report_text};
 ghost use Rattle.smps_cli.specs.Findings.{command_status};
@@ -14,7 +14,7 @@ use crate::answer::{Answer, one_line};
 use crate::status::{FileKind, Status};
 use frac128::Memory;
 use mps_core::{Cause, Core, ReadFail, read_core};
-use one_period::{StandardFault, solve_program};
+use one_period::solve_program;
 use report_text::print_report;
 use scen_defs::{Finding, Program, Report};
 use smps_build::{BuildFault, single};
@@ -37,40 +37,26 @@ pub(crate) fn solved(alloc: Global, text: &[u8]) -> Result<Answer, Memory>
 
 /// The answer for a core.
 fn solved_core(alloc: Global, core: &Core) -> Result<Answer, Memory>
-    requires kept { IsCore core.now }
-    requires thin { IsThin core.now }
-    ensures { IfOk result (λ answer. PrintsReportOf core.now answer.output.items answer.status) }
-{
-    let program = program_of(alloc, core)?;
-    match solve_program(alloc, &program, PIVOTS) {
-        Ok(report) => printed(alloc, &program, &report),
-        Err(StandardFault::NotBuilt) => unreachable!(),
-        Err(StandardFault::Memory) => Err(Memory),
-    }
-}
-
-/// The program of a core. No operation of its intervals passes, since no row has a range.
-fn program_of(alloc: Global, core: &Core) -> Result<Program, Memory>
-    requires { IsThin core.now }
-    ensures { IfOk result (λ program. single_walk core.now ≡ Ok (content program)) }
+    requires { IsCore core.now }
+    ensures { IfOk result (λ answer. PrintsReportOf core.now answer.output.items answer.status ⊎ RefusesEnd core.now answer.output.items answer.status) }
 {
     match single(alloc, core) {
-        Ok(program) => Ok(program),
-        Err(fault) => Err(wanting(core, fault)),
+        Ok(program) => solved_program(alloc, core, &program),
+        Err(BuildFault::Passed(passed)) => refused(alloc, 0, Cause::Passes(passed)),
+        Err(BuildFault::Limit) => unreachable!(),
+        Err(BuildFault::Memory) => Err(Memory),
     }
 }
 
-/// Only want of memory keeps a core without ranges from its program.
-fn wanting(core: &Core, fault: BuildFault) -> Memory
-    requires thin { IsThin core.now }
-    requires fault { BuildFaultOf (single_walk core.now) fault }
+/// The answer for the program of a core.
+fn solved_program(alloc: Global, core: &Core, program: &Program) -> Result<Answer, Memory>
+    requires kept { IsCore core.now }
+    requires states { single_walk core.now ≡ Ok (content program.now) }
+    ensures { IfOk result (λ answer. PrintsReportOf core.now answer.output.items answer.status) }
 {
     let _rows = core.rows.len();
-    match fault {
-        BuildFault::Memory => Memory,
-        BuildFault::Limit => unreachable!(),
-        BuildFault::Passed(_passed) => unreachable!(),
-    }
+    let report = solve_program(alloc, program, PIVOTS)?;
+    printed(alloc, program, &report)
 }
 
 /// The answer that refuses a core file.

@@ -1,9 +1,11 @@
 //! How a run ends, and the line that says so.
-ghost use Rattle.std.specs.Prelude.{◌≡◌, IfOk, string_bytes};
-ghost use Rattle.smps_cli.specs.Lines.{file_word, refused_text, status_line, status_number};
+ghost use Rattle.std.specs.Prelude.{◌≡◌, ◌++◌, IfOk, OnOk};
+ghost use Rattle.smps_cli.specs.Lines.{file_word, numbered_text, values_text, status_line, status_number};
 
+use frac128::Memory;
 use mps_core::Cause;
-use std::alloc::{AllocError, Global};
+use report_text::print_operation;
+use std::alloc::Global;
 
 /// Which of the files a status speaks of.
 #[derive(Clone, Copy, Debug, PartialEq, Eq)]
@@ -70,19 +72,26 @@ impl Status {
 
     /// The one line that is printed for the status; none for a command that ended, for a fault of the
     /// output and for want of memory.
-    pub(crate) fn line(&self, alloc: Global) -> Result<String, AllocError>
-        ensures { IfOk result (λ line. string_bytes line ≡ status_line self.now) }
+    pub(crate) fn line(&self, alloc: Global) -> Result<Vec<u8>, Memory>
+        ensures { IfOk result (λ line. line.items ≡ status_line self.now) }
     {
         match self {
-            Status::Words => String::from_str(alloc, "words refused\n"),
+            Status::Words => line_of(alloc, "words refused\n"),
             Status::Refused(file, line, cause) => refused_line(alloc, *file, *line, *cause),
             Status::TooLong(file) => too_long_line(alloc, *file),
             Status::ReadFault(file) => failed_line(alloc, *file),
             Status::Done | Status::SomeOpen | Status::WriteFault | Status::Memory => {
-                Ok(String::new(alloc))
+                Ok(Vec::new(alloc))
             }
         }
     }
+}
+
+fn line_of(alloc: Global, text: &str) -> Result<Vec<u8>, Memory>
+    ensures { IfOk result (λ line. line.items ≡ text.now) }
+{
+    let line = Vec::from_slice(alloc, text.as_bytes())?;
+    Ok(line)
 }
 
 fn refused_line(
@@ -90,34 +99,53 @@ fn refused_line(
     file: FileKind,
     line: u32,
     cause: Cause,
-) -> Result<String, AllocError>
-    ensures { IfOk result (λ text. string_bytes text ≡ status_line (Status.Refused file line cause)) }
+) -> Result<Vec<u8>, Memory>
+    ensures { IfOk result (λ text. text.items ≡ status_line (Status.Refused file line cause)) }
 {
-    numbered_line(alloc, file.word(), line, cause.number())
-}
-
-fn numbered_line(alloc: Global, word: &str, line: u32, number: u32) -> Result<String, AllocError>
-    ensures { IfOk result (λ text. string_bytes text ≡ refused_text word.now line number) }
-{
-    let place = format!(in alloc; " line {line}: ")?;
-    let cause = format!(in alloc; "{number}\n")?;
-    let mut text = String::from_str(alloc, "refused ")?;
-    text.push_str(word)?;
-    text.push_str(place.as_str())?;
-    text.push_str(cause.as_str())?;
+    let mut text = numbered(alloc, file.word(), line, cause.number())?;
+    put_values(alloc, &mut text, cause)?;
+    text.extend_from_slice(b"\n")?;
     Ok(text)
 }
 
-fn too_long_line(alloc: Global, file: FileKind) -> Result<String, AllocError>
-    ensures { IfOk result (λ text. string_bytes text ≡ status_line (Status.TooLong file)) }
+/// The line up to the number of the cause.
+fn numbered(alloc: Global, word: &str, line: u32, number: u32) -> Result<Vec<u8>, Memory>
+    ensures { IfOk result (λ text. text.items ≡ numbered_text word.now line number) }
 {
-    let word = file.word();
-    format!(in alloc; "refused {word}: too long\n")
+    let place = format!(in alloc; " line {line}: ")?;
+    let cause = format!(in alloc; "{number}")?;
+    let mut text = line_of(alloc, "refused ")?;
+    text.extend_from_slice(word.as_bytes())?;
+    text.extend_from_slice(place.as_bytes())?;
+    text.extend_from_slice(cause.as_bytes())?;
+    Ok(text)
 }
 
-fn failed_line(alloc: Global, file: FileKind) -> Result<String, AllocError>
-    ensures { IfOk result (λ text. string_bytes text ≡ status_line (Status.ReadFault file)) }
+/// Appends what stands behind the number of a cause.
+fn put_values(alloc: Global, text: &mut Vec<u8>, cause: Cause) -> Result<(), Memory>
+    ensures { OnOk result (text.new.items ≡ text.old.items ++ values_text cause) }
+{
+    match cause {
+        Cause::Passes(passed) => {
+            text.extend_from_slice(b" ")?;
+            print_operation(alloc, passed, text)
+        }
+        _ => Ok(()),
+    }
+}
+
+fn too_long_line(alloc: Global, file: FileKind) -> Result<Vec<u8>, Memory>
+    ensures { IfOk result (λ text. text.items ≡ status_line (Status.TooLong file)) }
 {
     let word = file.word();
-    format!(in alloc; "read failed: {word}\n")
+    let text = format!(in alloc; "refused {word}: too long\n")?;
+    line_of(alloc, text.as_str())
+}
+
+fn failed_line(alloc: Global, file: FileKind) -> Result<Vec<u8>, Memory>
+    ensures { IfOk result (λ text. text.items ≡ status_line (Status.ReadFault file)) }
+{
+    let word = file.word();
+    let text = format!(in alloc; "read failed: {word}\n")?;
+    line_of(alloc, text.as_str())
 }

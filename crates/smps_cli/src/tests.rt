@@ -1,6 +1,11 @@
 //! Whole runs over shelves and sinks in memory, worked by hand. The table is a text, since each member of
 //! an array is a step of the proof.
+mod beale;
+mod programs;
+
 use crate::{Status, run};
+use beale::{BEALE, ORDERS};
+use programs::PROGRAMS;
 use smps_io::{MemoryShelf, MemorySink, NeverFails};
 use std::alloc::{AllocError, Global};
 use std::process::Abort;
@@ -15,6 +20,8 @@ use std::test::Fail;
 /// the sink fails. The sink takes 7 bytes a call.
 ///
 /// A file that begins with `@` is 2^23 line feeds, as many bytes as a file may have, and what follows the `@`.
+///
+/// A `~` in a file stands for the columns of Beale's program, which cycles where ties are broken carelessly.
 ///
 /// Slack columns come behind the columns, one for each row: S1, S2. The path, where it isn't plain:
 ///
@@ -206,35 +213,33 @@ LOWER none
 UPPER 0
 POLICY 0
 END
-#solve --core F|whole|Refused(Core, 4, NotBuilt)
-NAME MIX
+#solve --core F|whole|Refused(Core, 3, RowKind)
 ROWS
  N COST
- G LIM1
- L LIM2
+ Q NEED
 COLUMNS
- A COST -3 LIM1 1
- A LIM2 1
- B COST -2 LIM1 1
- B LIM2 3
-RHS
- RHS LIM1 4 LIM2 6
+ X COST 1 NEED 1
 ENDATA
-|refused core line 4: 9
-#solve --core F|whole|Refused(Core, 13, NotBuilt)
-NAME MIX
+|refused core line 3: 13
+#solve --core F|whole|Refused(Core, 6, SectionMissing)
 ROWS
  N COST
- L LIM1
- L LIM2
+ G NEED
 COLUMNS
- A COST -3 LIM1 1
- A LIM2 1
- B COST -2 LIM1 1
- B LIM2 3
+ X COST 1 NEED 1
+|refused core line 6: 12
+#solve --core F|whole|Refused(Core, 0, Passes(Passed { a: Frac { num: -170141183460469231731687303715884105727, den: 1 }, b: Frac { num: 1, den: 2 }, op: Sub }))
+ROWS
+ N COST
+ L LIM
+COLUMNS
+ X COST 1 LIM 1
 RHS
- RHS LIM1 4 LIM2 6
-|refused core line 13: 9
+ RHS LIM -170141183460469231731687303715884105727
+RANGES
+ RNG LIM -1/2
+ENDATA
+|refused core line 0: 57 SUB -170141183460469231731687303715884105727 1/2
 #|whole|Words
 |words refused
 #solve|whole|Words
@@ -255,8 +260,8 @@ RHS
 |read failed: core
 #solve --core G|whole|ReadFault(Core)
 |read failed: core
-#solve --core G|sure|Refused(Core, 1, NotBuilt)
-|refused core line 1: 9
+#solve --core G|sure|Refused(Core, 1, SectionMissing)
+|refused core line 1: 12
 #solve --core F|fetch=2|Done
 ROWS
  N COST
@@ -283,8 +288,11 @@ COLUMNS
  X COST 1
 ENDATA
 |REPORT 1 NODES#|put=2|WriteFault
-|words r#solve --core F|whole|Refused(Core, 8388609, NotBuilt)
-@|refused core line 8388609: 9
+|words r#solve --core F|put=2|WriteFault
+ROWS
+ Q COST
+|refused#solve --core F|whole|Refused(Core, 8388609, SectionMissing)
+@|refused core line 8388609: 12
 #solve --core F|whole|TooLong(Core)
 @ |refused core: too long
 ";
@@ -380,23 +388,38 @@ fn long_file(alloc: Global, more: &[u8]) -> Result<Vec<u8>, AllocError> {
     Ok(bytes)
 }
 
+/// The bytes of a file of the table.
+fn file_bytes(alloc: Global, file: &str) -> Result<Vec<u8>, AllocError> {
+    if let Some((_, more)) = file.split_once('@') {
+        return long_file(alloc, more.as_bytes());
+    }
+    match file.split_once('~') {
+        Some((before, after)) => {
+            let mut bytes = before.as_bytes().to_vec(alloc)?;
+            bytes.extend_from_slice(BEALE.as_bytes())?;
+            bytes.extend_from_slice(after.as_bytes())?;
+            Ok(bytes)
+        }
+        None => file.as_bytes().to_vec(alloc),
+    }
+}
+
 /// Runs a row of the table.
 fn checked_row(rt: &(impl Runtime + Abort), alloc: Global, case: &Case) -> Result<(), AllocError> {
-    let bytes = match case.file.split_once('@') {
-        None => case.file.as_bytes().to_vec(alloc)?,
-        Some((_, more)) => long_file(alloc, more.as_bytes())?,
-    };
+    let bytes = file_bytes(alloc, case.file)?;
     check(rt, alloc, case, bytes)
 }
 
 #[test]
 fn runs_end_as_worked_by_hand(rt: HostRuntime) -> Result<(), Fail> {
     let mut wanting = 0u64;
-    for row in RUNS.split('#') {
-        let case = case_of(row).ok_or("a row without its parts")?;
-        match checked_row(&rt, rt.alloc(), &case) {
-            Ok(()) => {}
-            Err(AllocError) => wanting = wanting.saturating_add(1),
+    for table in [RUNS, PROGRAMS, ORDERS] {
+        for row in table.split('#') {
+            let case = case_of(row).ok_or("a row without its parts")?;
+            match checked_row(&rt, rt.alloc(), &case) {
+                Ok(()) => {}
+                Err(AllocError) => wanting = wanting.saturating_add(1),
+            }
         }
     }
     // the one allocation that a run of the tests may have fail

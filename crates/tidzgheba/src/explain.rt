@@ -23,8 +23,68 @@ pub fn explanation(status: &Status) -> Option<&'static str> {
 
 fn refused(cause: Cause) -> &'static str {
     match cause {
-        Cause::NotBuilt => {
-            "that line isn't of the forms that are read today: docs/CAUSES.md explains cause 9 with an example, docs/FORMATS.md states the forms"
+        Cause::SectionUnknown => {
+            "that header isn't a section of the file: docs/CAUSES.md, cause 10, says how to mend it"
+        }
+        Cause::SectionOrder => {
+            "that line stands out of order, or no section takes it: docs/CAUSES.md, cause 11, says how to mend it"
+        }
+        Cause::SectionMissing => {
+            "COLUMNS or ENDATA is missing: docs/CAUSES.md, cause 12, says how to mend it"
+        }
+        Cause::RowKind => {
+            "that row's kind isn't N, L, G or E: docs/CAUSES.md, cause 13, says how to mend it"
+        }
+        Cause::RowTwice => {
+            "that row's name was there before: docs/CAUSES.md, cause 14, says how to mend it"
+        }
+        Cause::RowUnknown => {
+            "that row isn't stated in ROWS: docs/CAUSES.md, cause 15, says how to mend it"
+        }
+        Cause::ColumnSplit => {
+            "that column's lines don't stand together: docs/CAUSES.md, cause 16, says how to mend it"
+        }
+        Cause::EntryTwice => {
+            "that row is named twice: docs/CAUSES.md, cause 17, says how to mend it"
+        }
+        Cause::FieldCount => {
+            "that line has too many or too few fields: docs/CAUSES.md, cause 18, says how to mend it"
+        }
+        Cause::NumberBad => {
+            "that field isn't a number: docs/CAUSES.md, cause 19, says how to mend it"
+        }
+        Cause::NumberWide => {
+            "that number doesn't fit into 128 bits: docs/CAUSES.md, cause 20, says how to mend it"
+        }
+        Cause::BoundKind => {
+            "that bound's kind isn't LO, UP, FX, FR, MI or PL: docs/CAUSES.md, cause 21, says how to mend it"
+        }
+        Cause::BoundsCross => {
+            "that column's lower bound is above its upper bound: docs/CAUSES.md, cause 22, says how to mend it"
+        }
+        Cause::UpperNegative => {
+            "that upper bound is below 0, and the column's lower bound isn't stated before it: docs/CAUSES.md, cause 23, says how to mend it"
+        }
+        Cause::IntegerMarker => {
+            "integer columns aren't solved: docs/CAUSES.md, cause 24, says how to mend it"
+        }
+        Cause::ObjectiveRhs => {
+            "the objective has a right-hand side other than 0: docs/CAUSES.md, cause 25, says how to mend it"
+        }
+        Cause::NoObjective => {
+            "no N row stands before COLUMNS: docs/CAUSES.md, cause 26, says how to mend it"
+        }
+        Cause::RangeOnFree => {
+            "that N row has no end for a range: docs/CAUSES.md, cause 27, says how to mend it"
+        }
+        Cause::ColumnUnknown => {
+            "that column isn't stated in COLUMNS: docs/CAUSES.md, cause 28, says how to mend it"
+        }
+        Cause::CoreLimit => {
+            "there are more than 4,000 rows, 4,000 columns or 100,000 entries: docs/CAUSES.md, cause 29, says how to mend it"
+        }
+        Cause::Passes(_) => {
+            "an end of a row doesn't fit into 128 bits: docs/CAUSES.md, cause 57, says how to mend it"
         }
     }
 }

@@ -1,4 +1,4 @@
-use Rattle.one_period.specs.Laws.{seen}
+use Rattle.one_period.specs.Solved.{seen}
 use Rattle.one_period.proofs.TruthLemmas.{slope_made, open_slope_made}
 use Rattle.one_period.proofs.report.with_slope.Goals as goal
 

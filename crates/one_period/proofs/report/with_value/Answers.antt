@@ -1,4 +1,4 @@
-use Rattle.one_period.specs.Laws.{seen}
+use Rattle.one_period.specs.Solved.{seen}
 use Rattle.one_period.proofs.TruthLemmas.{value_made, open_value_made, never_without_value}
 use Rattle.one_period.proofs.report.with_value.Goals as goal
 

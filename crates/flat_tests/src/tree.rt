@@ -1,0 +1,224 @@
+//! A program on a tree: X costs 1 and is decided first; then a demand of 2 or 6 is seen, each with probability
+//! 1/2, and Y, which costs 3/2, is decided. X and Y together are at least the demand.
+use frac128::{Form, Frac, Memory, parse};
+use scen_model::{
+    Column, Kind, Node, NodeRow, Program, Row, Scenario, Values, cost, derive, dual_value,
+    feasible, fits, is_direction, zero_value,
+};
+use smps_words::{Name, RowKind};
+use std::alloc::Global;
+use std::test::Fail;
+
+/// Values of columns, each as node, column and value; whether they fit, are feasible and are a direction, and
+/// their cost; and whether they are feasible where finite ends are 0 and absent bounds are -1 and 1.
+///
+/// X is column 0, of node 0; Y is column 1, of the nodes 1 and 2.
+const POINTS: &str = "\
+0 0 2,2 1 4|fit feasible 5 no
+|fit short 0 yes
+0 0 2|fit short 2 no
+0 0 6|fit feasible 6 no
+0 0 1,1 1 1,2 1 5|fit feasible 11/2 no
+0 0 2,2 1 3|fit short 17/4 no
+0 0 1/2,1 1 1/2|fit short 7/8 yes
+0 0 6,1 1 -1|fit short 21/4 no
+1 0 6|stray
+0 1 6|stray
+3 1 1|stray
+";
+
+/// Multipliers of the row at the nodes 1 and 2: whether they fit, their value, and that with all costs 0.
+///
+/// A multiplier above 0 uses the demand; X's reduced cost is 1 less both, Y's 3/4 less its node's. One below 0
+/// uses an upper bound or a high end that isn't there.
+const DUALS: &str = "\
+1 0 1/4,2 0 3/4|fit 5 none
+|fit 0 0
+1 0 3/4|fit 3/2 none
+1 0 1,2 0 1/4|fit none none
+1 0 -1|fit none none
+0 0 1|stray
+1 1 1|stray
+";
+
+fn names(alloc: Global, text: &str) -> Result<Vec<Name>, Memory> {
+    let mut all = Vec::new(alloc);
+    for word in text.split(' ') {
+        all.push(Name::new(alloc, word.as_bytes())?)?;
+    }
+    Ok(all)
+}
+
+/// The form with one value.
+fn single(alloc: Global, column: u64, value: Frac) -> Result<Form, Memory> {
+    let mut form = Form::empty(alloc);
+    if !value.is_zero() {
+        form.push(column, value)?;
+    }
+    Ok(form)
+}
+
+fn column(alloc: Global, name: &str, stage: u32) -> Result<Column, Memory> {
+    Ok(Column {
+        name: Name::new(alloc, name.as_bytes())?,
+        stage,
+        lower: Some(Frac::zero()),
+        upper: None,
+    })
+}
+
+/// A node of the second stage with this demand.
+fn demand(alloc: Global, low: i64) -> Result<Option<Node>, Fail> {
+    let entries = single(alloc, 0, Frac::one())?.add_scaled(
+        Frac::one(),
+        &single(alloc, 1, Frac::one())?,
+    )?;
+    let mut rows = Vec::new(alloc);
+    rows.push(NodeRow {
+        row: 0,
+        entries,
+        low: Some(Frac::from_int(low)),
+        high: None,
+    })?;
+    Ok(Some(Node {
+        stage: 1,
+        parent: Some(0),
+        cost: single(alloc, 1, parse(b"3/2")?)?,
+        rows,
+    }))
+}
+
+fn scenario(alloc: Global, name: &str, last: u32) -> Result<Scenario, Fail> {
+    Ok(Scenario {
+        name: Name::new(alloc, name.as_bytes())?,
+        probability: parse(b"1/2")?,
+        path: vec![in alloc; 0, last]?,
+    })
+}
+
+fn cover(alloc: Global) -> Result<Program, Fail> {
+    let root = Node {
+        stage: 0,
+        parent: None,
+        cost: single(alloc, 0, Frac::one())?,
+        rows: Vec::new(alloc),
+    };
+    let row = Row {
+        name: Name::new(alloc, b"DEMAND")?,
+        stage: 1,
+        kind: RowKind::Greater,
+        range: None,
+    };
+    Ok(Program {
+        objective: Name::new(alloc, b"COST")?,
+        rhs: Name::new(alloc, b"RHS")?,
+        periods: names(alloc, "P1 P2")?,
+        columns: vec![in alloc; column(alloc, "X", 0)?, column(alloc, "Y", 1)?]?,
+        rows: vec![in alloc; row]?,
+        nodes: vec![in alloc; Some(root), demand(alloc, 2)?, demand(alloc, 6)?]?,
+        scenarios: vec![in alloc; scenario(alloc, "S1", 1)?, scenario(alloc, "S2", 2)?]?,
+    })
+}
+
+/// The values of a row of a table.
+fn values(alloc: Global, text: &str) -> Result<Values, Fail> {
+    let mut values = Values::empty(alloc);
+    for item in text.split(',') {
+        if let Some((place, value)) = item.rsplit_once(' ') {
+            let (node, index) = place.split_once(' ').ok_or("no index")?;
+            let node = node.parse::<u32>()?;
+            let index = index.parse::<u32>()?;
+            let value = parse(value.as_bytes())?;
+            if !values.ends_before(node, index) || value.is_zero() {
+                return Err(Fail::from("values out of order"));
+            }
+            values.push(node, index, value)?;
+        }
+    }
+    Ok(values)
+}
+
+/// Whether the calls answer so of a point.
+fn agrees_at_point(
+    alloc: Global,
+    cover: &Program,
+    text: &str,
+    expected: &str,
+) -> Result<bool, Fail> {
+    let point = values(alloc, text)?;
+    if !fits(cover, &point, false) {
+        return Ok(expected == "stray");
+    }
+    let meets = if feasible(cover, &point)? {
+        "feasible"
+    } else {
+        "short"
+    };
+    let recession = derive(alloc, cover, Kind::Recession)?;
+    let stays = if feasible(&recession, &point)? {
+        "yes"
+    } else {
+        "no"
+    };
+    let free = derive(alloc, cover, Kind::Feasible)?;
+    let mut line = b"fit ".to_vec(alloc)?;
+    line.extend_from_slice(meets.as_bytes())?;
+    line.extend_from_slice(b" ")?;
+    frac128::print(alloc, cost(cover, &point)?, &mut line)?;
+    line.extend_from_slice(b" ")?;
+    line.extend_from_slice(stays.as_bytes())?;
+    Ok(
+        line.as_slice() == expected.as_bytes()
+            && cost(&free, &point)?.is_zero()
+            && !is_direction(cover, &point)?,
+    )
+}
+
+/// Appends the value of multipliers, behind a blank.
+fn put(alloc: Global, value: Option<Frac>, line: &mut Vec<u8>) -> Result<(), Memory> {
+    line.extend_from_slice(b" ")?;
+    match value {
+        Some(value) => frac128::print(alloc, value, line),
+        None => {
+            line.extend_from_slice(b"none")?;
+            Ok(())
+        }
+    }
+}
+
+/// Whether the calls answer so of multipliers.
+fn agrees_at_dual(
+    alloc: Global,
+    cover: &Program,
+    text: &str,
+    expected: &str,
+) -> Result<bool, Fail> {
+    let dual = values(alloc, text)?;
+    if !fits(cover, &dual, true) {
+        return Ok(expected == "stray");
+    }
+    let mut line = b"fit".to_vec(alloc)?;
+    put(alloc, dual_value(cover, &dual)?, &mut line)?;
+    put(alloc, zero_value(cover, &dual)?, &mut line)?;
+    Ok(line.as_slice() == expected.as_bytes())
+}
+
+#[test]
+fn calls_on_a_tree(rt: HostRuntime) -> Result<(), Fail> {
+    let cover = cover(rt.alloc())?;
+    for line in POINTS.lines() {
+        let (text, expected) = line.split_once('|').ok_or("no answer")?;
+        assert!(rt;
+            agrees_at_point(rt.alloc(), &cover, text, expected)?,
+            "{line}"
+        );
+    }
+    for line in DUALS.lines() {
+        let (text, expected) = line.split_once('|').ok_or("no answer")?;
+        assert!(rt;
+            agrees_at_dual(rt.alloc(), &cover, text, expected)?,
+            "{line}"
+        );
+    }
+    Ok(())
+}

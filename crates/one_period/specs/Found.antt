@@ -1,0 +1,95 @@
+-- What is found for a program of one period, operation by operation: its limits, the path of their standard form, and what is made of its end.
+use Rattle.std.specs.Prelude.{◌≡◌, ℕ, List, Ok, Err}
+use Rattle.rationals.specs.Rational.{ℚ}
+use Rattle.rationals.specs.Passes.{then_walk}
+use Rattle.lp_defs.specs.Walks.{Walk}
+use Rattle.lp_defs.specs.Program as lp
+use Rattle.lp_defs.specs.Solution.{Solution, Optimum, Nowhere, Endless, Cut_off, Passes, solution}
+use Rattle.farkas_ray.specs.Sums.{ray_walk}
+use Rattle.slack_form.specs.declared.limits.Limit.{Limit}
+use Rattle.slack_form.specs.Standard.{behind as behind_slacks, equations, turned_rights, turned_back}
+use Rattle.frac128.specs.declared.form.FormFault.{FormFault}
+use Rattle.frac128.specs.declared.form.FormFault.TheVariants as fault
+use Rattle.farkas_ray.specs.declared.halted.Halted.{Halted}
+use Rattle.farkas_ray.specs.declared.halted.Halted.TheVariants as halted
+use Rattle.scen_defs.specs.Values.{At}
+use Rattle.scen_defs.specs.declared.program.Program.{Program}
+use Rattle.scen_defs.specs.declared.program.Node.{Node}
+use Rattle.scen_defs.specs.declared.program.NodeRow.{NodeRow}
+use Rattle.one_period.specs.declared.part.Part.{Part}
+use Rattle.one_period.specs.declared.part.Vector.TheVariants.{Point, Direction}
+use Rattle.one_period.specs.declared.found.Found.{Found}
+use Rattle.one_period.specs.declared.found.Found.TheVariants as found_end
+use Rattle.one_period.specs.Parts.{parts_from, behind_all, spread_form}
+use Rattle.one_period.specs.Rows.{rows_walk, own_walk}
+use Rattle.one_period.specs.Lists.{values_from, columns_walk}
+
+-- the parts of the program's columns
+abbrev pub parts_of : Program → List Part
+parts_of program = parts_from 0 program.columns.items
+
+-- the standard form of the program, where these are its limits
+abbrev pub standard_seen : Program → Node → List Limit → lp.Program
+standard_seen program node limits = record {
+  columns = behind_slacks (behind_all 0 (parts_of program)) limits;
+  rows = equations (behind_all 0 (parts_of program)) limits;
+  right = turned_rights limits;
+  cost = spread_form (parts_of program) node.cost;
+}
+
+-- ---- the end of the path
+
+-- the multipliers of the program's rows, from those of the standard form's
+abbrev pub multipliers_walk : List NodeRow → List Limit → List ℚ → Walk (List At)
+multipliers_walk rows limits y = then_walk (own_walk rows (turned_back limits y)) (λ own. Ok (values_from 0 own))
+
+-- the multipliers, then the policy
+abbrev pub best_walk : List Part → List NodeRow → List Limit → (ℕ → ℚ) → List ℚ → Walk Found
+best_walk parts rows limits x y = then_walk (multipliers_walk rows limits y) (λ dual. then_walk (columns_walk Point x parts) (λ policy. Ok (found_end.Best policy dual)))
+
+-- the multipliers, then the operations that show that they exclude every point
+abbrev pub tested_walk : lp.Program → List ℚ → Walk (Unit {0})
+tested_walk standard y = then_walk (ray_walk standard y) (λ shown. Ok tt)
+
+abbrev pub nowhere_walk : List NodeRow → List Limit → lp.Program → List ℚ → Walk Found
+nowhere_walk rows limits standard y = then_walk (multipliers_walk rows limits y) (λ ray. then_walk (tested_walk standard y) (λ _. Ok (found_end.Nowhere ray)))
+
+-- the policy, then the direction
+abbrev pub endless_walk : List Part → (ℕ → ℚ) → (ℕ → ℚ) → Walk Found
+endless_walk parts x d = then_walk (columns_walk Point x parts) (λ policy. then_walk (columns_walk Direction d parts) (λ direction. Ok (found_end.Endless policy direction)))
+
+abbrev pub end_walk : List Part → List NodeRow → List Limit → lp.Program → Solution → Walk Found
+end_walk parts rows limits standard (Optimum x y) = best_walk parts rows limits x y
+end_walk parts rows limits standard (Nowhere y) = nowhere_walk rows limits standard y
+end_walk parts rows limits standard (Endless x d) = endless_walk parts x d
+end_walk parts rows limits standard Cut_off = Ok found_end.PivotsEnded
+end_walk parts rows limits standard (Passes k p) = Err p
+
+-- ---- all
+
+abbrev pub path_walk : Program → Node → ℕ → List Limit → Walk Found
+path_walk program node pivots limits = end_walk (parts_of program) node.rows.items limits (standard_seen program node limits) (solution (standard_seen program node limits) pivots)
+
+abbrev pub found_walk : Program → Node → ℕ → Walk Found
+found_walk program node pivots = then_walk (rows_walk (parts_of program) node.rows.items program.columns.items) (path_walk program node pivots)
+
+-- what a walk finds, or the operation in which it ends
+abbrev pub or_passed : Walk Found → Found
+or_passed (Ok f) = f
+or_passed (Err p) = found_end.Passed p
+
+-- what is found in at most so many pivots
+abbrev pub found : Program → Node → ℕ → Found
+found program node pivots = or_passed (found_walk program node pivots)
+
+-- ---- faults
+
+-- what ended a call, as a fault
+abbrev pub IsFaultOf : Halted → FormFault → Type 0
+IsFaultOf (halted.Passed p) f = f ≡ fault.Passed p
+IsFaultOf halted.Memory f = f ≡ fault.Memory
+
+-- what is found where a fault ends the computation
+abbrev pub StoppedBy : FormFault → Found → Type 0
+StoppedBy (fault.Passed p) all = all ≡ found_end.Passed p
+StoppedBy fault.Memory all = ⊥

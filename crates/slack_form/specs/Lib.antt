@@ -1,0 +1,4 @@
+pub mod Limits
+pub mod Standard
+pub mod Certificates
+pub mod Laws

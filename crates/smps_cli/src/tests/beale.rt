@@ -1,0 +1,181 @@
+//! Beale's program, on which a careless rule for ties cycles: with its rows in each order, and twice each.
+
+/// The columns and what is behind them.
+pub(super) const BEALE: &str = "\
+COLUMNS
+ X1 R1 1
+ X2 R2 1
+ X3 R3 1
+ X4 COST -3/4 R1 1/4
+ X4 R2 1/2
+ X5 COST 20 R1 -8
+ X5 R2 -12
+ X6 COST -1/2 R1 -1
+ X6 R2 -1/2 R3 1
+ X7 COST 6 R1 9
+ X7 R2 3
+RHS
+ RHS R3 1
+ENDATA
+";
+
+/// In the form of the runs.
+pub(super) const ORDERS: &str = "\
+solve --core F|whole|Done
+NAME BEALE
+ROWS
+ N COST
+ E R1
+ E R2
+ E R3
+~|REPORT 1 NODES 1 SCENARIOS 1
+STATUS OPTIMAL
+LOWER -5/4
+UPPER -5/4
+POLICY 3
+0 X1 3/4
+0 X4 1
+0 X6 1
+DUAL 2
+0 R2 -3/2
+0 R3 -5/4
+END
+#solve --core F|whole|Done
+NAME BEALE
+ROWS
+ N COST
+ E R1
+ E R3
+ E R2
+~|REPORT 1 NODES 1 SCENARIOS 1
+STATUS OPTIMAL
+LOWER -5/4
+UPPER -5/4
+POLICY 3
+0 X1 3/4
+0 X4 1
+0 X6 1
+DUAL 2
+0 R3 -5/4
+0 R2 -3/2
+END
+#solve --core F|whole|Done
+NAME BEALE
+ROWS
+ N COST
+ E R2
+ E R1
+ E R3
+~|REPORT 1 NODES 1 SCENARIOS 1
+STATUS OPTIMAL
+LOWER -5/4
+UPPER -5/4
+POLICY 3
+0 X1 3/4
+0 X4 1
+0 X6 1
+DUAL 2
+0 R2 -3/2
+0 R3 -5/4
+END
+#solve --core F|whole|Done
+NAME BEALE
+ROWS
+ N COST
+ E R2
+ E R3
+ E R1
+~|REPORT 1 NODES 1 SCENARIOS 1
+STATUS OPTIMAL
+LOWER -5/4
+UPPER -5/4
+POLICY 3
+0 X1 3/4
+0 X4 1
+0 X6 1
+DUAL 2
+0 R2 -3/2
+0 R3 -5/4
+END
+#solve --core F|whole|Done
+NAME BEALE
+ROWS
+ N COST
+ E R3
+ E R1
+ E R2
+~|REPORT 1 NODES 1 SCENARIOS 1
+STATUS OPTIMAL
+LOWER -5/4
+UPPER -5/4
+POLICY 3
+0 X1 3/4
+0 X4 1
+0 X6 1
+DUAL 2
+0 R3 -5/4
+0 R2 -3/2
+END
+#solve --core F|whole|Done
+NAME BEALE
+ROWS
+ N COST
+ E R3
+ E R2
+ E R1
+~|REPORT 1 NODES 1 SCENARIOS 1
+STATUS OPTIMAL
+LOWER -5/4
+UPPER -5/4
+POLICY 3
+0 X1 3/4
+0 X4 1
+0 X6 1
+DUAL 2
+0 R3 -5/4
+0 R2 -3/2
+END
+#solve --core F|whole|Done
+* each row twice
+NAME BEALE
+ROWS
+ N COST
+ E R1
+ E R2
+ E R3
+ E S1
+ E S2
+ E S3
+COLUMNS
+ X1 R1 1 S1 1
+ X2 R2 1 S2 1
+ X3 R3 1 S3 1
+ X4 COST -3/4
+ X4 R1 1/4 S1 1/4
+ X4 R2 1/2 S2 1/2
+ X5 COST 20
+ X5 R1 -8 S1 -8
+ X5 R2 -12 S2 -12
+ X6 COST -1/2
+ X6 R1 -1 S1 -1
+ X6 R2 -1/2 S2 -1/2
+ X6 R3 1 S3 1
+ X7 COST 6
+ X7 R1 9 S1 9
+ X7 R2 3 S2 3
+RHS
+ RHS R3 1 S3 1
+ENDATA
+|REPORT 1 NODES 1 SCENARIOS 1
+STATUS OPTIMAL
+LOWER -5/4
+UPPER -5/4
+POLICY 3
+0 X1 3/4
+0 X4 1
+0 X6 1
+DUAL 2
+0 R2 -3/2
+0 R3 -5/4
+END
+";
