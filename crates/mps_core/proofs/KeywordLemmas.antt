@@ -1,5 +1,5 @@
 -- The codes of the words are those of what they name.
-use Rattle.std.proofs.Common.{◌≡◌, ◌∙◌, ap, ℕ, Bool, true, false, List, Option, Some, None, refl, sym, if◌then◌else◌}
+use Rattle.std.proofs.Common.{◌≡◌, ◌∙◌, ap, ℕ, Bool, true, false, List, Option, Some, None, refl, if◌then◌else◌}
 use Rattle.std.specs.Prelude.{codes}
 use Rattle.smps_words.specs.Names.{same_name}
 use Rattle.core_defs.specs.Bounds.{bound_kind}

@@ -1,5 +1,5 @@
 -- The last of some names.
-use Rattle.std.proofs.Common.{◌++◌, ◌≡◌, ◌<◌, ◌-◌, ◌+◌, ◌∙◌, ap, ℕ, suc, List, [], ◌∷◌, Option, Some, None, length, get_or, refl, sym, arith}
+use Rattle.std.proofs.Common.{◌++◌, ◌≡◌, ◌-◌, ◌+◌, ◌∙◌, ap, ℕ, suc, List, [], ◌∷◌, Option, Some, None, length, get_or, refl, sym, arith}
 use Rattle.core_defs.specs.Filed.{Filed, last_of, closed, closed_at, part_of}
 
 pub last_is : (names : List (List ℕ)) (place : ℕ) → place + 1 ≡ length names → last_of names ≡ Some (get_or names place [])

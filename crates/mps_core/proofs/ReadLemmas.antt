@@ -1,11 +1,10 @@
 -- What reading a text gives, by the laws of core files.
-use Rattle.std.proofs.Common.{◌≡◌, ◌≤◌, ◌<◌, ◌∙◌, ap, ℕ, true, List, Result, Ok, Err, length, map, sym, subst, nat_lt, arith}
+use Rattle.std.proofs.Common.{◌≡◌, ◌<◌, ◌∙◌, ap, ℕ, true, List, Result, Ok, Err, length, sym, subst, nat_lt, arith}
 use Rattle.std.proofs.lemmas.Bool.Decides.{nat_tests}
 use Rattle.std.proofs.lemmas.List.{length-map}
 use Rattle.smps_words.specs.Line.{TextLine, reading_of}
 use Rattle.core_defs.specs.declared.cause.ReadFail.{ReadFail}
 use Rattle.core_defs.specs.declared.cause.ReadFail.TheVariants as fail
-use Rattle.core_defs.specs.declared.cause.Refusal.{Refusal}
 use Rattle.core_defs.specs.declared.parts.ColumnDef.{ColumnDef}
 use Rattle.core_defs.specs.declared.program.Core.{Core}
 use Rattle.core_defs.specs.Fault.{IsReadOrRefused}

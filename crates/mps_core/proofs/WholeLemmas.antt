@@ -1,11 +1,11 @@
 -- The constraints and the columns of what is filed.
-use Rattle.std.proofs.Common.{◌≡◌, ◌+◌, ◌<◌, ◌∙◌, ap, ℕ, zero, suc, List, [], ◌∷◌, Option, Some, None, length, get_or, drop, map, refl, sym, arith, add-one}
+use Rattle.std.proofs.Common.{◌≡◌, ◌+◌, ◌<◌, ◌∙◌, ap, ℕ, zero, suc, List, [], ◌∷◌, Option, Some, None, length, get_or, drop, refl, sym, arith, add-one}
 use Rattle.std.proofs.Math.Seq.{drop-cons}
-use Rattle.smps_words.specs.declared.row_kind.RowKind.TheVariants.{Less}
+use Rattle.rationals.specs.Rational.{ℚ}
 use Rattle.core_defs.specs.declared.parts.ColumnPart.{ColumnPart}
 use Rattle.core_defs.specs.Core.{row_names, column_names}
 use Rattle.core_defs.specs.Filed.{Filed, nothing_filed, last_of, closed, closed_at}
-use Rattle.core_defs.specs.Finished.{row_def, row_defs, column_def, column_defs}
+use Rattle.core_defs.specs.Finished.{row_defs, column_defs}
 
 closed_at_is : (last : Option (List ℕ)) (f : Filed) → closed_at last f ≡ record f { parts = (closed_at last f).parts; costs = (closed_at last f).costs; terms = (closed_at last f).terms }
 closed_at_is None f = refl
@@ -65,10 +65,10 @@ same_names f d is = ap (λ (g : Filed). g.names) (as_closed f d is)
 pub same_rhs_set : (f d : Filed) → d ≡ closed f → d.rhs_set ≡ f.rhs_set
 same_rhs_set f d is = ap (λ (g : Filed). g.rhs_set) (as_closed f d is)
 
-pub same_row_defs : (f d : Filed) (parts : List ColumnPart) → d ≡ closed f → row_defs (record d { parts = parts }) 0 d.rows ≡ row_defs f 0 f.rows
-same_row_defs f d parts is =
+pub same_row_defs : (f d : Filed) (parts : List ColumnPart) (values : List (Option ℚ)) → d ≡ closed f → row_defs (record d { parts = parts; free_rhs = values }) 0 d.rows ≡ row_defs f 0 f.rows
+same_row_defs f d parts values is =
     let e = as_closed f d is in
-    rows_by (record d { parts = parts }) f (ap (λ (g : Filed). g.kinds) e) (ap (λ (g : Filed). g.rhs) e) (ap (λ (g : Filed). g.ranges) e) 0 d.rows ∙ ap (row_defs f 0) (same_rows f d is)
+    rows_by (record d { parts = parts; free_rhs = values }) f (ap (λ (g : Filed). g.kinds) e) (ap (λ (g : Filed). g.rhs) e) (ap (λ (g : Filed). g.ranges) e) 0 d.rows ∙ ap (row_defs f 0) (same_rows f d is)
 
 pub same_column_defs : (f d : Filed) → d ≡ closed f → column_defs (record nothing_filed { names = d.names; bounds = d.bounds }) 0 d.parts ≡ column_defs f 0 (closed f).parts
 same_column_defs f d is =

@@ -106,6 +106,8 @@ pub(crate) fn core_of(alloc: Global, draft: Draft) -> Result<Core, AllocError>
     let mut draft = draft;
     draft.close_column()?;
     let parts = mem::replace(&mut draft.parts, Vec::new(alloc));
+    // Of N rows nothing is kept, and there may be many.
+    draft.free_rhs = Vec::new(alloc);
     let objective = Name::new(alloc, draft.free.name(0))?;
     let skipped = skipped_rows(alloc, &draft.free)?;
     let rows = row_defs(alloc, &draft)?;

@@ -1,7 +1,7 @@
 -- The number fits.
 use Rattle.std.proofs.Common.{◌≡◌, ◌∙◌, ◌^◌, ap, pos, Some, Bool, false, refl, arith}
 use Rattle.rationals.proofs.GcdLemmas.{gcd-one}
-use Rattle.rationals.specs.Rational.{ℚ, ◌÷◌}
+use Rattle.rationals.specs.Rational.{◌÷◌}
 use Rattle.rationals.specs.Passes.{fitted, too_wide, unless}
 use Rattle.rationals.proofs.Lowest.{PartsAre, parts_of}
 use Rattle.core_defs.specs.Bounds.{infinite}

@@ -1,8 +1,7 @@
 -- The last column is closed first; that changes no constraint, name or bound.
-use Rattle.std.proofs.Common.{◌≡◌, ◌≤◌, ◌<◌, ◌∙◌, ◌∷◌, [], ap, sym, subst, length, drop, get_or, List, ℕ, arith}
+use Rattle.std.proofs.Common.{◌∙◌, ◌∷◌, ap, sym, length, drop, List, ℕ, arith}
 use Rattle.core_defs.specs.Core.{row_names, column_names}
-use Rattle.core_defs.specs.Filed.{Filed, nothing_filed, closed}
-use Rattle.core_defs.specs.Finished.{row_defs, column_defs}
+use Rattle.core_defs.specs.Filed.{closed}
 use Rattle.core_defs.specs.Stated.{name_of_set}
 use Rattle.mps_core.specs.View.{filed}
 use Rattle.mps_core.proofs.WholeLemmas.{row_names_are, row_count, column_names_are, column_count, same_free, same_rows, same_names, same_rhs_set, same_row_defs, same_column_defs, split_first}
@@ -13,7 +12,7 @@ name-requires c = omega (arith, ap length (same_free (filed c.args.draft) (filed
 
 pub of_parts-requires-clause-rows : goal.of_parts-requires-clause-rows
 of_parts-requires-clause-rows c =
-    let rows = c.in_ok-rows.ensures ∙ same_row_defs (filed c.args.draft) (filed c.close_column.new.self) c.new.result.items c.in_ok-close_column.ensures.closed in
+    let rows = c.in_ok-rows.ensures ∙ same_row_defs (filed c.args.draft) (filed c.close_column.new.self) c.new.result.items c.new-2.result.items c.in_ok-close_column.ensures.closed in
     same_rows (filed c.args.draft) (filed c.close_column.new.self) c.in_ok-close_column.ensures.closed ∙ sym (ap row_names rows ∙ row_names_are (filed c.args.draft) 0 c.args.draft.rows)
 
 pub of_parts-requires-clause-columns : goal.of_parts-requires-clause-columns
@@ -24,7 +23,7 @@ of_parts-requires-clause-columns c =
 
 pub of_parts-requires-clause-few_rows : goal.of_parts-requires-clause-few_rows
 of_parts-requires-clause-few_rows c =
-    let rows = c.in_ok-rows.ensures ∙ same_row_defs (filed c.args.draft) (filed c.close_column.new.self) c.new.result.items c.in_ok-close_column.ensures.closed in
+    let rows = c.in_ok-rows.ensures ∙ same_row_defs (filed c.args.draft) (filed c.close_column.new.self) c.new.result.items c.new-2.result.items c.in_ok-close_column.ensures.closed in
     omega (arith, ap length rows, row_count (filed c.args.draft) 0 c.args.draft.rows, c.requires.few_rows)
 
 pub of_parts-requires-clause-few_columns : goal.of_parts-requires-clause-few_columns
@@ -36,7 +35,7 @@ of_parts-requires-clause-few_columns c =
 pub returns : goal.returns
 returns c =
     let is = c.in_ok-close_column.ensures.closed in
-    let rows = c.in_ok-rows.ensures ∙ same_row_defs (filed c.args.draft) (filed c.close_column.new.self) c.new.result.items is in
+    let rows = c.in_ok-rows.ensures ∙ same_row_defs (filed c.args.draft) (filed c.close_column.new.self) c.new.result.items c.new-2.result.items is in
     let columns = rw c.replace-parts.ensures.value at c.in_ok-columns.ensures ∙ same_column_defs (filed c.args.draft) (filed c.close_column.new.self) is in
     let free = same_free (filed c.args.draft) (filed c.close_column.new.self) is in
     record {
