@@ -1,0 +1,384 @@
+//! Texts that are refused for their fields, numbers, bounds, or what is left out.
+//!
+//! In their order:
+//!
+//! - 18: the number of fields
+//! - 19: not a number
+//! - 20: wide
+//! - 21: the kind of a bound, before the number of fields, also in another set
+//! - 22: bounds that cross, behind that line
+//! - 23: an upper bound below 0 without a lower one, before 22
+//! - 24: a marker
+//! - 25: the objective's right-hand side, before 17
+//! - 26: no objective
+//! - 27: a range on an N row, before 19
+//! - 28: a bound's column isn't known, before 19
+
+/// In the form of the table.
+pub(super) const FIELDS: &str = "\
+2: 18
+ROWS
+ N
+#2: 18
+ROWS
+ N C 1
+#7: 18
+NAME COVER
+ROWS
+ N COST
+ G DEMAND
+COLUMNS
+ X COST 1 DEMAND 1
+ Y COST
+RHS
+ RHS DEMAND 2
+ENDATA
+#4: 18
+ROWS
+ N C
+COLUMNS
+ X C zz C
+#4: 18
+ROWS
+ N C
+COLUMNS
+ X
+#4: 18
+ROWS
+ N C
+COLUMNS
+ X C 1 D 1 E
+#4: 18
+ROWS
+ N C
+COLUMNS
+ X C 1 2 3 4 5 6
+#5: 18
+ROWS
+ N C
+COLUMNS
+RHS
+ RHS
+#6: 18
+ROWS
+ N C
+COLUMNS
+RHS
+ RHS C 0
+ T C 1 C 1 C
+#5: 18
+ROWS
+ N C
+COLUMNS
+RANGES
+ R C 1 C 1 C 1 C
+#6: 18
+ROWS
+ N C
+COLUMNS
+ X C 1
+BOUNDS
+ UP X
+#6: 18
+ROWS
+ N C
+COLUMNS
+ X C 1
+BOUNDS
+ UP B X 1 1
+#6: 18
+ROWS
+ N C
+COLUMNS
+ X C 1
+BOUNDS
+ FR
+#6: 18
+ROWS
+ N C
+COLUMNS
+ X C 1
+BOUNDS
+ PL B X 1 1 1 1
+#7: 19
+NAME COVER
+ROWS
+ N COST
+ G DEMAND
+COLUMNS
+ X COST 1 DEMAND 1
+ Y COST 3/0 DEMAND 1
+RHS
+ RHS DEMAND 2
+ENDATA
+#4: 19
+ROWS
+ N C
+COLUMNS
+ X C 1.2.3
+#5: 19
+ROWS
+ N C
+COLUMNS
+RHS
+ RHS C x
+#6: 19
+ROWS
+ N C
+ L R
+COLUMNS
+RANGES
+ R R -
+#6: 19
+ROWS
+ N C
+COLUMNS
+ X C 1
+BOUNDS
+ UP B X 1E
+#7: 20
+NAME COVER
+ROWS
+ N COST
+ G DEMAND
+COLUMNS
+ X COST 1 DEMAND 1
+ Y COST 1E39 DEMAND 1
+RHS
+ RHS DEMAND 2
+ENDATA
+#4: 20
+ROWS
+ N C
+COLUMNS
+ X C 0/170141183460469231731687303715884105728
+#5: 20
+ROWS
+ N C
+COLUMNS
+RHS
+ RHS C 1E-39
+#6: 20
+ROWS
+ N C
+COLUMNS
+ X C 1
+BOUNDS
+ UP B X 1E39
+#6: 21
+ROWS
+ N C
+COLUMNS
+ X C 1
+BOUNDS
+ BV B X
+#6: 21
+ROWS
+ N C
+COLUMNS
+ X C 1
+BOUNDS
+ up B X 1
+#6: 21
+ROWS
+ N C
+COLUMNS
+ X C 1
+BOUNDS
+ UPP
+#6: 21
+ROWS
+ N C
+COLUMNS
+ X C 1
+BOUNDS
+ Z B X 1 1 1 1
+#7: 21
+ROWS
+ N C
+COLUMNS
+ X C 1
+BOUNDS
+ UP B X 1
+ Z T X 1
+#7: 22
+ROWS
+ N C
+COLUMNS
+ X C 1
+BOUNDS
+ LO B X 5
+ UP B X 3
+ UP B X 9
+ENDATA
+#7: 22
+ROWS
+ N C
+COLUMNS
+ X C 1
+BOUNDS
+ UP B X 3
+ LO B X 4
+#7: 22
+ROWS
+ N C
+COLUMNS
+ X C 1
+BOUNDS
+ FX B X 2
+ UP B X -1
+#8: 22
+ROWS
+ N C
+COLUMNS
+ X C 1
+BOUNDS
+ MI B X
+ UP B X -1
+ LO B X 0
+#11: 23
+NAME COVER
+ROWS
+ N COST
+ G DEMAND
+COLUMNS
+ X COST 1 DEMAND 1
+ Y COST 3/2 DEMAND 1
+RHS
+ RHS DEMAND 2
+BOUNDS
+ UP BND X -1
+ENDATA
+#7: 23
+ROWS
+ N C
+COLUMNS
+ X C 1
+BOUNDS
+ PL B X
+ UP B X -1
+#7: 23
+ROWS
+ N C
+COLUMNS
+ X C 1
+BOUNDS
+ UP B X 3
+ UP B X -1/2
+#9: 23
+ROWS
+ N C
+COLUMNS
+ X C 1
+ Y C 1
+BOUNDS
+ LO B Y -1
+ MI T X
+ UP B X -1
+#6: 24
+NAME COVER
+ROWS
+ N COST
+ G DEMAND
+COLUMNS
+ M1 'MARKER' 'INTORG'
+ Y COST 3/2 DEMAND 1
+RHS
+ RHS DEMAND 2
+ENDATA
+#5: 24
+ROWS
+ N C
+ L 'MARKER'
+COLUMNS
+ X 'MARKER' 1
+#6: 24
+ROWS
+ N C
+COLUMNS
+ X C 1
+ Y C 1
+ X 'MARKER' 1
+#10: 25
+NAME COVER
+ROWS
+ N COST
+ G DEMAND
+COLUMNS
+ X COST 1 DEMAND 1
+ Y COST 3/2 DEMAND 1
+RHS
+ RHS DEMAND 2
+ RHS COST 1
+ENDATA
+#6: 25
+ROWS
+ N C
+COLUMNS
+RHS
+ RHS C 0
+ RHS C 1
+#6: 25
+ROWS
+ N C
+ L R
+COLUMNS
+RHS
+ R 1 C -1
+#4: 26
+NAME COVER
+ROWS
+ G DEMAND
+COLUMNS
+ X COST 1 DEMAND 1
+ Y COST 3/2 DEMAND 1
+RHS
+ RHS DEMAND 2
+ENDATA
+#1: 26
+COLUMNS
+#2: 26
+NAME
+COLUMNS
+#5: 27
+ROWS
+ N C
+COLUMNS
+RANGES
+ R C zz
+#6: 27
+ROWS
+ N C
+ N S
+COLUMNS
+RANGES
+ S 1
+#6: 27
+ROWS
+ N C
+ L R
+COLUMNS
+RANGES
+ R R 1 C 1
+#6: 28
+ROWS
+ N C
+COLUMNS
+ X C 1
+BOUNDS
+ UP B Q zz
+#6: 28
+ROWS
+ N C
+COLUMNS
+ X C 1
+BOUNDS
+ FR B Q
+#6: 28
+ROWS
+ N C
+COLUMNS
+ X C 1
+BOUNDS
+ MI C
+";

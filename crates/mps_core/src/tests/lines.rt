@@ -1,0 +1,297 @@
+//! Texts that are refused for their sections, or for the names of rows and columns.
+//!
+//! In their order:
+//!
+//! - 12: a section is missing
+//! - 10: no section
+//! - 11: out of order
+//! - 13: the kind of a row
+//! - 14: a row's name was there
+//! - 15: a row isn't known
+//! - 16: a column's lines apart
+//! - 17: twice
+
+/// In the form of the table.
+pub(super) const LINES: &str = "\
+1: 12
+#2: 12
+NAME COVER
+#3: 12
+NAME COVER
+ROWS
+#4: 12
+NAME COVER
+ROWS
+ N COST
+#5: 12
+NAME COVER
+ROWS
+ N COST
+ G DEMAND
+#6: 12
+NAME COVER
+ROWS
+ N COST
+ G DEMAND
+COLUMNS
+#7: 12
+NAME COVER
+ROWS
+ N COST
+ G DEMAND
+COLUMNS
+ X COST 1 DEMAND 1
+#8: 12
+NAME COVER
+ROWS
+ N COST
+ G DEMAND
+COLUMNS
+ X COST 1 DEMAND 1
+ Y COST 3/2 DEMAND 1
+#9: 12
+NAME COVER
+ROWS
+ N COST
+ G DEMAND
+COLUMNS
+ X COST 1 DEMAND 1
+ Y COST 3/2 DEMAND 1
+RHS
+#10: 12
+NAME COVER
+ROWS
+ N COST
+ G DEMAND
+COLUMNS
+ X COST 1 DEMAND 1
+ Y COST 3/2 DEMAND 1
+RHS
+ RHS DEMAND 2
+#10: 12
+NAME COVER
+ROWS
+ N COST
+ G DEMAND
+COLUMNS
+ X COST 1 DEMAND 1
+ Y COST 3/2 DEMAND 1
+RHS
+ RHS DEMAND 2#12: 12
+NAME COVER
+ROWS
+ N COST
+ G DEMAND
+COLUMNS
+ X COST 1 DEMAND 1
+ Y COST 3/2 DEMAND 1
+RHS
+ RHS DEMAND 2
+
+* note
+#6: 12
+ROWS
+ N C
+RHS
+ RHS C 0
+ENDATA
+#5: 12
+ROWS
+ N C
+ENDATA
+COLUMNS
+#2: 12
+ENDATA
+#1: 10
+SOUP
+#2: 10
+NAME A
+Rows
+#3: 10
+ROWS
+ N C
+N D
+#5: 10
+ROWS
+ N C
+COLUMNS
+ X C 1
+ENDATAX
+#2: 11
+ROWS
+NAME
+#2: 11
+ROWS
+ROWS
+#1: 11
+ N C
+#2: 11
+NAME
+ N C
+#2: 11
+RHS
+COLUMNS
+#6: 11
+ROWS
+ N C
+COLUMNS
+BOUNDS
+
+RHS
+#4: 13
+NAME COVER
+ROWS
+ N COST
+ Q DEMAND
+COLUMNS
+ X COST 1 DEMAND 1
+ Y COST 3/2 DEMAND 1
+RHS
+ RHS DEMAND 2
+ENDATA
+#3: 13
+ROWS
+ N C
+ l R
+#3: 13
+ROWS
+ N C
+ * note
+#6: 13
+* a note
+
+ROWS
+ N C
+
+ NL R
+#3: 13
+ROWS
+ N C
+ Q C
+ Q S
+#4: 14
+ROWS
+ N C
+ L R
+ G R
+#3: 14
+ROWS
+ N C
+ N C
+#3: 14
+ROWS
+ N C
+ L C
+#4: 14
+ROWS
+ N C
+ L R
+ N R
+#4: 15
+ROWS
+ N C
+COLUMNS
+ X D 1
+#4: 15
+ROWS
+ N C
+COLUMNS
+ X C 1 D zz
+#4: 15
+ROWS
+ N C
+COLUMNS
+ M 'MARKER' 1 C 1
+#4: 15
+ROWS
+ N C
+RHS
+ RHS Q 1
+ENDATA
+#5: 15
+ROWS
+ N C
+COLUMNS
+RANGES
+ R Q zz
+#8: 16
+NAME COVER
+ROWS
+ N COST
+ G DEMAND
+COLUMNS
+ X COST 1 DEMAND 1
+ Y COST 3/2 DEMAND 1
+ X COST 1
+RHS
+ RHS DEMAND 2
+ENDATA
+#6: 16
+ROWS
+ N C
+COLUMNS
+ X C 1
+ Y C 1
+ X Q zz
+#7: 16
+ROWS
+ N C
+ L R
+COLUMNS
+ X C 1
+ Y C 1
+ X R 1
+#7: 17
+NAME COVER
+ROWS
+ N COST
+ G DEMAND
+COLUMNS
+ X COST 1 DEMAND 1
+ Y COST 3/2 COST 1
+RHS
+ RHS DEMAND 2
+ENDATA
+#5: 17
+ROWS
+ N C
+ L R
+COLUMNS
+ X R 0 R 0
+#6: 17
+ROWS
+ N C
+ N S
+COLUMNS
+ X S 1
+ X S 1
+#7: 17
+ROWS
+ N C
+ L R
+COLUMNS
+RHS
+ RHS R 0
+ RHS R 0
+#7: 17
+ROWS
+ N C
+ N S
+COLUMNS
+RHS
+ S 1
+ S 1
+#5: 17
+ROWS
+ N C
+COLUMNS
+RHS
+ RHS C 0 C 0
+#6: 17
+ROWS
+ N C
+ E R
+COLUMNS
+RANGES
+ R R 1 R 2
+";
