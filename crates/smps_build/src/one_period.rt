@@ -7,7 +7,7 @@ use crate::fault::BuildFault;
 use crate::forms::{costs_of, row_forms};
 use crate::interval::interval;
 use frac128::Frac;
-use mps_core::{ColumnDef, Core, RowDef};
+use core_defs::{ColumnDef, Core, RowDef};
 use scen_defs::{Column, Node, NodeRow, Program, Row, Scenario};
 use smps_words::Name;
 use std::alloc::{AllocError, Global};

@@ -2,7 +2,7 @@
 ghost use Rattle.std.specs.Prelude.{◌≡◌, [], ◌∷◌, IfOk, length, replicate};
 
 use frac128::Memory;
-use mps_core::Core;
+use core_defs::Core;
 use smps_words::Name;
 use std::alloc::Global;
 
