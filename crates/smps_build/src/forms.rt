@@ -6,8 +6,8 @@ ghost use Rattle.scen_defs.specs.Lists.{Each};
 ghost use Rattle.smps_build.specs.Gathered.{with_column, forms_from};
 ghost use Rattle.smps_build.specs.Single.{costs_from};
 
-use frac128::{Form, Frac, Memory, Term};
 use core_defs::{ColumnDef, RowDef};
+use frac128::{Form, Frac, Memory, Term};
 use std::alloc::{AllocError, Global};
 
 /// Adds a value in a column above all others, unless it is 0.

@@ -6,8 +6,8 @@ ghost use Rattle.smps_build.specs.Single.{column_of, row_of, rows_from, single_w
 use crate::fault::BuildFault;
 use crate::forms::{costs_of, row_forms};
 use crate::interval::interval;
-use frac128::Frac;
 use core_defs::{ColumnDef, Core, RowDef};
+use frac128::Frac;
 use scen_defs::{Column, Node, NodeRow, Program, Row, Scenario};
 use smps_words::Name;
 use std::alloc::{AllocError, Global};

@@ -1,8 +1,8 @@
 // Periods.
 ghost use Rattle.std.specs.Prelude.{◌≡◌, [], ◌∷◌, IfOk, length, replicate};
 
-use frac128::Memory;
 use core_defs::Core;
+use frac128::Memory;
 use smps_words::Name;
 use std::alloc::Global;
 
