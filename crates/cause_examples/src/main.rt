@@ -54,7 +54,7 @@ fn ended(rt: &HostRuntime, counts: Result<(u64, u64), AllocError>) -> ExitCode {
 fn examined(rt: &HostRuntime, alloc: Global, text: &str) -> Result<(u64, u64), AllocError> {
     let mut right = 0u64;
     let mut wrong = 0u64;
-    let mut before = "";
+    let mut before: &[u8] = &[];
     for part in text.split("```\n") {
         if let Some(line) = printed_line(part) {
             if is_refused(rt, alloc, before, line)? {
@@ -64,7 +64,7 @@ fn examined(rt: &HostRuntime, alloc: Global, text: &str) -> Result<(u64, u64), A
                 let _ = println!(rt; "not {line}");
             }
         }
-        before = part;
+        before = part.as_bytes();
     }
     Ok((right, wrong))
 }
@@ -80,7 +80,7 @@ fn printed_line(part: &str) -> Option<&str> {
 fn is_refused<R: Runtime>(
     rt: &R,
     alloc: Global,
-    file: &str,
+    file: &[u8],
     line: &str,
 ) -> Result<bool, AllocError> {
     let words = vec![in alloc;
@@ -88,7 +88,7 @@ fn is_refused<R: Runtime>(
         String::from_str(alloc, "--core")?,
         String::from_str(alloc, "F")?,
     ]?;
-    let bytes = file.as_bytes().to_vec(alloc)?;
+    let bytes = file.to_vec(alloc)?;
     let files = vec![in alloc; (String::from_str(alloc, "F")?, bytes)]?;
     let mut sink = MemorySink::new(alloc, 4096, Vec::new(alloc));
     let _ = run(rt, alloc, &words, &mut NeverFails::new(files), &mut sink);
