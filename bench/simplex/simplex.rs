@@ -158,7 +158,10 @@ impl Tableau {
         let mut pivot = self.rows.remove(index).line;
         pivot.divide(find(&pivot.entries, column, self.work.zero))?;
         for row in &mut self.rows {
-            row.line.clear(column, &pivot, &mut self.work)?;
+            let factor = find(&row.line.entries, column, self.work.zero);
+            if !factor.is_zero() {
+                row.line.subtract(factor, &pivot, &mut self.work)?;
+            }
         }
         self.objective.clear(column, &pivot, &mut self.work)?;
         self.rows.insert(index, Row { basic: column, line: pivot });
