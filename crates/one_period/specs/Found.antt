@@ -7,7 +7,7 @@ use Rattle.lp_defs.specs.Program as lp
 use Rattle.lp_defs.specs.Solution.{Solution, Optimum, Nowhere, Endless, Cut_off, Passes, solution}
 use Rattle.farkas_ray.specs.Sums.{ray_walk}
 use Rattle.slack_form.specs.declared.limits.Limit.{Limit}
-use Rattle.slack_form.specs.Standard.{behind as behind_slacks, equations, turned_rights, turned_back}
+use Rattle.slack_form.specs.Standard.{standard_from, turned_back}
 use Rattle.frac128.specs.declared.form.FormFault.{FormFault}
 use Rattle.frac128.specs.declared.form.FormFault.TheVariants as fault
 use Rattle.farkas_ray.specs.declared.halted.Halted.{Halted}
@@ -30,12 +30,7 @@ parts_of program = parts_from 0 program.columns.items
 
 -- the standard form of the program, where these are its limits
 abbrev pub standard_seen : Program → Node → List Limit → lp.Program
-standard_seen program node limits = record {
-  columns = behind_slacks (behind_all 0 (parts_of program)) limits;
-  rows = equations (behind_all 0 (parts_of program)) limits;
-  right = turned_rights limits;
-  cost = spread_form (parts_of program) node.cost;
-}
+standard_seen program node limits = standard_from (behind_all 0 (parts_of program)) limits (spread_form (parts_of program) node.cost)
 
 -- ---- the end of the path
 

@@ -59,13 +59,12 @@ abbrev pub turned_rights : List Limit → List ℚ
 turned_rights [] = []
 turned_rights (row ∷ rows) = turned (is_turned row) row.right ∷ turned_rights rows
 
+-- rows over the columns below n, with their cost
+abbrev pub standard_from : ℕ → List Limit → List Entry → lp.Program
+standard_from n rows cost = record { columns = behind n rows; rows = equations n rows; right = turned_rights rows; cost = cost }
+
 abbrev pub standard_of : Limits → lp.Program
-standard_of limits = record {
-  columns = behind limits.columns limits.rows.items;
-  rows = equations limits.columns limits.rows.items;
-  right = turned_rights limits.rows.items;
-  cost = limits.cost;
-}
+standard_of limits = standard_from limits.columns limits.rows.items limits.cost
 
 -- ---- multipliers
 
