@@ -45,13 +45,22 @@ pub fn whole(n: i128) -> Frac {
     Frac::new(n, 1).unwrap()
 }
 
+/// The entry of a column, found by bisection.
 fn find(entries: &[Term], column: u64, zero: Frac) -> Frac {
-    for term in entries {
-        if term.column == column {
-            return term.value;
+    let mut first = 0;
+    let mut end = entries.len();
+    while first < end {
+        let middle = first + (end - first) / 2;
+        if entries[middle].column < column {
+            first = middle + 1;
+        } else {
+            end = middle;
         }
     }
-    zero
+    match entries.get(first) {
+        Some(term) if term.column == column => term.value,
+        _ => zero,
+    }
 }
 
 fn less(factor: Frac, from: Frac, times: Frac) -> Result<Frac, Passed> {
@@ -149,7 +158,10 @@ impl Tableau {
         let mut pivot = self.rows.remove(index).line;
         pivot.divide(find(&pivot.entries, column, self.work.zero))?;
         for row in &mut self.rows {
-            row.line.clear(column, &pivot, &mut self.work)?;
+            let factor = find(&row.line.entries, column, self.work.zero);
+            if !factor.is_zero() {
+                row.line.subtract(factor, &pivot, &mut self.work)?;
+            }
         }
         self.objective.clear(column, &pivot, &mut self.work)?;
         self.rows.insert(index, Row { basic: column, line: pivot });

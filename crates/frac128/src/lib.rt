@@ -16,7 +16,7 @@ mod term;
 mod tests;
 mod text;
 
-pub use form::{Form, FormFault};
+pub use form::{Form, FormFault, value_in};
 pub use fraction::Frac;
 pub use memory::Memory;
 pub use passed::Passed;

@@ -8,3 +8,4 @@ pub mod Drives
 pub mod Solves
 pub mod Checks
 pub mod Columns
+pub mod Rises

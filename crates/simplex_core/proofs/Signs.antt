@@ -1,7 +1,6 @@
 -- What an `i8` that holds a sign compares as.
-use Rattle.std.proofs.Common.{Bool, true, false, nat_eq, to_z, of_z, ◌≡◌, ℤ, pos, negsuc, zero, suc, refl, sym, subst}
+use Rattle.std.proofs.Common.{Bool, true, false, to_z, of_z, ◌≡◌, ℤ, pos, negsuc, zero, suc, refl, sym, subst}
 use Rattle.std.specs.Prelude.{int_lt}
-use Rattle.std.specs.Ordering.{int_eq}
 use Rattle.std.specs.Int.{w8}
 use lib.Signed.{lt_z}
 use Rattle.rationals.specs.Rational.{ℚ, zero_ℚ, ne_of_gt_ℚ, sign_ℚ, sign_of}

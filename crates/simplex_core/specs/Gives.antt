@@ -1,6 +1,10 @@
 -- What a function gives that follows a walk, and may want memory.
 use Rattle.std.specs.Prelude.{◌≡◌, Result, Ok, Err}
+use Rattle.rationals.specs.Rational.{ℚ}
+use Rattle.rationals.specs.Passes.{then_walk}
 use Rattle.lp_defs.specs.Walks.{Walk}
+use Rattle.lp_defs.specs.Lines.{Line, cleared_by}
+use Rattle.lp_defs.specs.Path.{Row}
 use Rattle.frac128.specs.declared.form.FormFault.{FormFault}
 use Rattle.frac128.specs.Faults.{FaultOf}
 
@@ -8,3 +12,7 @@ use Rattle.frac128.specs.Faults.{FaultOf}
 abbrev pub Gives : {A B : Type 0} → Walk A → Result B FormFault → A → Type 0
 Gives w (Ok done) new = w ≡ Ok new
 Gives w (Err e) new = FaultOf w e
+
+-- a row less f times a line
+abbrev pub less_row : ℚ → Line → Row → Walk Row
+less_row f line r = then_walk (cleared_by f line r.line) (λ new. Ok (record { basic = r.basic; line = new }))

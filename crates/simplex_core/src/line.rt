@@ -1,16 +1,17 @@
 //! Lines of a tableau.
 ghost use Rattle.std.specs.Prelude.{◌≡◌, ◌≢◌, ◌+◌, ◌<◌, ◌≤◌, []};
 ghost use Rattle.std.specs.Vec.{vec_len, vec_capacity};
+ghost use Rattle.rationals.specs.Sparse.{Ascending};
 ghost use Rattle.lp_defs.specs.Lines.{value_at, keep, less_walk, less_entries, divided_entries, divided, cleared, cleared_by};
 ghost use Rattle.rationals.specs.Rational.{zero_ℚ};
 ghost use Rattle.simplex_core.specs.Gives.{Gives};
 
 use crate::sign::is_zero;
-use frac128::{FormFault, Frac, Passed, Term};
+use frac128::{FormFault, Frac, Passed, Term, value_in};
 use std::marker::Model;
 use std::mem;
 
-/// A sparse row of a tableau with its right side.
+/// A sparse row of a tableau with its right side. The columns of its entries rise.
 #[derive(Drop)]
 pub struct Line {
     entries: Vec<Term>,
@@ -19,23 +20,22 @@ pub struct Line {
 
 impl Model for Line {
     ghost use Rattle.lp_defs.specs.Lines.{Line};
+    ghost use Rattle.rationals.specs.Sparse.{Ascending};
 
     ghost Value = { Line };
 
     ghost view = { λ l. record { entries = l.entries.items; right = l.right } };
+
+    ghost invariant = { λ l. Ascending 0 l.entries.items };
 }
 
 /// The entry of a column.
 #[inline(always)]
 pub fn find(entries: &[Term], column: u64) -> Frac
+    requires { Ascending 0 entries.now }
     ensures { result ≡ value_at entries.now column }
 {
-    for term in entries {
-        if term.column == column {
-            return term.value;
-        }
-    }
-    Frac::zero()
+    value_in(entries, column)
 }
 
 #[inline(always)]
@@ -98,8 +98,10 @@ fn subtract_terms(
 }
 
 fn divide_all(entries: &mut [Term], by: Frac) -> Result<(), FormFault>
-    requires { by ≢ zero_ℚ }
-    ensures { Gives (divided_entries by entries.old []) result entries.new }
+    requires nonzero { by ≢ zero_ℚ }
+    requires rise { Ascending 0 entries.old }
+    ensures gives { Gives (divided_entries by entries.old []) result entries.new }
+    ensures rise { Ascending 0 entries.new }
 {
     for i in 0..entries.len() {
         let term = entries[i];
@@ -114,6 +116,7 @@ fn divide_all(entries: &mut [Term], by: Frac) -> Result<(), FormFault>
 
 impl Line {
     pub fn new(entries: Vec<Term>, right: Frac) -> Line
+        requires { Ascending 0 entries.items }
         ensures { result ≡ record { entries = entries.items; right = right } }
     {
         Line { entries, right }

@@ -1,10 +1,11 @@
 //! Rows of a tableau.
 ghost use Rattle.std.specs.Prelude.{◌≡◌, []};
-ghost use Rattle.lp_defs.specs.Path.{cleared_row, cleared_rows};
-ghost use Rattle.simplex_core.specs.Gives.{Gives};
+ghost use Rattle.lp_defs.specs.Path.{cleared_rows};
+ghost use Rattle.simplex_core.specs.Gives.{Gives, less_row};
 
 use crate::line::Line;
-use frac128::{FormFault, Term};
+use crate::sign::is_zero;
+use frac128::{FormFault, Frac, Term};
 use std::marker::Model;
 
 /// A row of a tableau and its basic column.
@@ -47,20 +48,20 @@ impl Row {
         self.line
     }
 
-    /// Clears a column, in which `pivot` has 1.
-    pub fn clear(
+    /// Takes `factor` times another row away.
+    pub fn subtract(
         &mut self,
-        column: u64,
-        pivot: &Line,
+        factor: Frac,
+        other: &Line,
         spare: &mut Vec<Term>,
     ) -> Result<(), FormFault>
-        ensures { Gives (cleared_row column pivot.now self.old) result self.new }
+        ensures { Gives (less_row factor other.now self.old) result self.new }
     {
-        self.line.clear(column, pivot, spare)
+        self.line.subtract(factor, other, spare)
     }
 }
 
-/// Clears a column of all rows.
+/// Clears a column of all rows. Rows that have nothing there aren't called: most have nothing.
 pub fn clear_all(
     rows: &mut [Row],
     column: u64,
@@ -70,7 +71,10 @@ pub fn clear_all(
     ensures { Gives (cleared_rows column pivot.now rows.old []) result rows.new }
 {
     for k in 0..rows.len() {
-        rows[k].clear(column, pivot, spare)?;
+        let factor = rows[k].line().value_at(column);
+        if !is_zero(factor) {
+            rows[k].subtract(factor, pivot, spare)?;
+        }
     }
     Ok(())
 }

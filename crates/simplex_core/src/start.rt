@@ -1,12 +1,36 @@
 //! The rows and the objective row with which a phase begins.
-ghost use Rattle.std.specs.Prelude.{◌≡◌, ◌+◌, ◌<◌, ◌^◌, length, IfOk};
+ghost use Rattle.std.specs.Prelude.{◌≡◌, ◌+◌, ◌<◌, ◌≤◌, ◌^◌, ◌∷◌, ◌++◌, [], length, IfOk};
+ghost use Rattle.rationals.specs.Rational.{one_ℚ};
+ghost use Rattle.rationals.specs.Sparse.{Ascending};
 ghost use Rattle.frac128.specs.Faults.{IfNotMemory};
+ghost use Rattle.lp_defs.specs.Program.{IsFormBelow, AllFormsBelow};
 ghost use Rattle.lp_defs.specs.Phases.{unit_rows, with_units, unit_costs, cost_line, priced};
 
 use crate::line::{Line, find};
 use crate::row::Row;
 use frac128::{Form, FormFault, Frac, Memory, Term};
 use std::alloc::Global;
+
+/// A form with its artificial column and its right side.
+fn artificial_row(
+    alloc: Global,
+    form: &Form,
+    right: Frac,
+    first: u64,
+    column: u64,
+) -> Result<Row, Memory>
+    requires below { IsFormBelow first form.now }
+    requires column { first ≤ column }
+    ensures { IfOk result (λ row. row ≡ record { basic = column; line = record { entries = form.now ++ record { column = column; value = one_ℚ } ∷ []; right = right } }) }
+{
+    let _first = first;
+    let mut entries = form.terms().to_vec(alloc)?;
+    entries.push(Term {
+        column,
+        value: Frac::one(),
+    })?;
+    Ok(Row::new(column, Line::new(entries, right)))
+}
 
 /// A row for each form with its artificial column and its right side; the artificial columns are `first`
 /// and those behind it.
@@ -18,17 +42,13 @@ pub fn artificial_rows(
 ) -> Result<Vec<Row>, Memory>
     requires one_each { length right.now ≡ length forms.now }
     requires room { first + length forms.now < 2 ^ 64 }
+    requires below { AllFormsBelow first forms.now }
     ensures { IfOk result (λ rows. rows.items ≡ unit_rows first (with_units first forms.now) right.now) }
 {
     let mut rows = Vec::new(alloc);
     for index in 0..forms.len() {
         let column = first + index as u64;
-        let mut entries = forms[index].terms().to_vec(alloc)?;
-        entries.push(Term {
-            column,
-            value: Frac::one(),
-        })?;
-        rows.push(Row::new(column, Line::new(entries, right[index])))?;
+        rows.push(artificial_row(alloc, &forms[index], right[index], first, column)?)?;
     }
     Ok(rows)
 }
@@ -55,6 +75,7 @@ pub fn price(
     rows: &[Row],
     spare: &mut Vec<Term>,
 ) -> Result<Line, FormFault>
+    requires { Ascending 0 cost.now }
     ensures { IfNotMemory result (priced cost.now rows.now (cost_line cost.now)) }
 {
     let mut objective = Line::new(cost.to_vec(alloc)?, Frac::zero());

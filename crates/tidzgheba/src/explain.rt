@@ -8,7 +8,11 @@ pub fn explanation(status: &Status) -> Option<&'static str> {
         Status::Done | Status::SomeOpen => None,
         Status::Words => Some("usage: tidzgheba solve --core FILE"),
         Status::Refused(_, _, cause) => Some(refused(*cause)),
-        Status::TooLong(_) => Some("the file has more than 8,388,608 bytes, the most that is read"),
+        Status::TooLong(_) => {
+            Some(
+                "the file has more than 8,388,608 bytes, the most that is read: docs/CAUSES.md says what to do",
+            )
+        }
         Status::ReadFault(file) => Some(unread(*file)),
         Status::WriteFault => {
             Some(

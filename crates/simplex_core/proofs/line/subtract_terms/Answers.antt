@@ -1,4 +1,4 @@
-use Rattle.std.proofs.Common.{◌≡◌, ◌≤◌, ◌+◌, ◌-◌, ◌⊎◌, inl, inr, length, drop, ◌∙◌}
+use Rattle.std.proofs.Common.{◌≤◌, ◌-◌, ◌⊎◌, inl, inr, length, ◌∙◌}
 use Rattle.std.specs.Vec.{vec_len, vec_capacity}
 use Rattle.std.proofs.lemmas.List.{take_rest}
 use Rattle.simplex_core.proofs.Walks.{rest_is, room_left}

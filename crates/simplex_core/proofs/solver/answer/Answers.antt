@@ -1,8 +1,13 @@
-use Rattle.std.proofs.Common.{◌≡◌, ◌∙◌, Ok}
+use Rattle.std.proofs.Common.{◌≡◌, ◌∙◌, Ok, sym, subst, arith}
+use Rattle.rationals.specs.Sparse.{Ascending}
+use Rattle.lp_defs.proofs.Starts.{costs_rise}
 use Rattle.lp_defs.specs.Phases.{priced, cost_line}
 use Rattle.lp_defs.specs.Solution.{first_rows, first_cost}
 use Rattle.simplex_core.proofs.Solves.{renamed, priced_is, rows_are, cost_is, first_ready, solution_is}
 use Rattle.simplex_core.proofs.solver.answer.Goals as goal
+
+pub price-requires : goal.price-requires
+price-requires c = subst (Ascending 0) (sym (c.deref.ensures.value ∙ c.in_ok-cost.ensures)) (costs_rise 0 _ _ (omega arith))
 
 pub first_phase-requires : goal.first_phase-requires
 first_phase-requires c =

@@ -1,7 +1,11 @@
-use Rattle.std.proofs.Common.{◌≡◌, ◌∙◌, Ok}
+use Rattle.std.proofs.Common.{◌≡◌, ◌∙◌, Ok, sym, subst}
+use Rattle.rationals.specs.Sparse.{Ascending}
 use Rattle.lp_defs.specs.Phases.{priced, cost_line}
 use Rattle.simplex_core.proofs.Solves.{renamed, priced_is, second_ready, second_is}
 use Rattle.simplex_core.proofs.solver.second_phase.Goals as goal
+
+pub price-requires : goal.price-requires
+price-requires c = subst (Ascending 0) (sym (c.terms.ensures ∙ c.cost.ensures)) c.columns-columns.ensures.is_program.cost.form.rises
 
 pub finish-requires-clause-ready : goal.finish-requires-clause-ready
 finish-requires-clause-ready c =

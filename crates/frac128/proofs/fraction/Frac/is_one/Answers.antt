@@ -1,0 +1,7 @@
+use Rattle.std.proofs.Common.{sym, ap₂, ◌∙◌, eqb-true}
+use Rattle.rationals.specs.Rational.{◌÷◌, laws}
+use Rattle.frac128.proofs.RatioLemmas.{passed}
+use Rattle.frac128.proofs.fraction.Frac.is_one.Goals as goal
+
+pub returns-then-is_one_int : goal.returns-then-is_one_int
+returns-then-is_one_int c = λ t. sym c.self.view_is ∙ ap₂ (λ n d. n ÷ d) (sym (passed c.self.inside.num c.self.invariant.fits.num) ∙ c.is_one_int.ensures.0 c.if-is_one_int.true) (eqb-true c.self.inside.den 1 t) ∙ sym laws.one_is
