@@ -44,6 +44,31 @@ enum Style {
     Fraction,
 }
 
+/// What a core with all sections is like.
+#[derive(Clone, Copy)]
+struct Shape {
+    style: Style,
+    /// Whether a column's entries come in rising order, or in none.
+    is_rising: bool,
+    /// Entries of a line.
+    pairs: u64,
+    /// Bytes of a name.
+    width: usize,
+    /// It has this part of the constraints, of the columns and so of the entries: 1 for all, 2 for half of them.
+    part: u64,
+}
+
+/// One entry a line, and a little over 8,000,000 bytes.
+const ONE_A_LINE: Shape = Shape { style: Style::Whole, is_rising: true, pairs: 1, width: 25, part: 1 };
+
+/// Two entries a line, and longer names for as many bytes.
+const TWO_A_LINE: Shape = Shape { style: Style::Decimal, is_rising: true, pairs: 2, width: 34, part: 1 };
+
+/// A name of so many bytes: letters, and a number behind them.
+fn name(letters: &str, number: u64, width: usize) -> String {
+    format!("{letters}{number:00$}", width - letters.len())
+}
+
 fn number(random: &mut Random, style: Style) -> String {
     match style {
         Style::Whole => format!("{}", 1 + random.below(999)),
@@ -52,47 +77,47 @@ fn number(random: &mut Random, style: Style) -> String {
     }
 }
 
-/// A core with all sections; a column's entries come in rising order, or in none.
-fn core(style: Style, is_rising: bool, pairs: u64) -> String {
+fn core(shape: Shape) -> String {
     let mut random = Random(88172645463325252);
+    let (row_count, column_count) = (ROWS / shape.part, COLUMNS / shape.part);
+    let row_names: Vec<String> = (0..row_count).map(|row| name("ROW", row, shape.width)).collect();
+    let column_names: Vec<String> = (0..column_count).map(|column| name("COLUMN", column, shape.width)).collect();
     let mut text = String::from("NAME          LARGE\nROWS\n N  COST\n");
-    for row in 0..ROWS {
-        let kind = ["L", "G", "E"][row as usize % 3];
-        writeln!(text, " {kind}  ROW{row:09}").unwrap();
+    for (place, row) in row_names.iter().enumerate() {
+        let kind = ["L", "G", "E"][place % 3];
+        writeln!(text, " {kind}  {row}").unwrap();
     }
     text.push_str("COLUMNS\n");
-    for column in 0..COLUMNS {
-        let cost = number(&mut random, style);
-        writeln!(text, "    COLUMN{column:06}  COST          {cost:>12}").unwrap();
-        let mut rows: Vec<u64> = (0..ENTRIES).map(|entry| (column * 7 + entry * 151) % ROWS).collect();
-        if is_rising {
+    for (column, name) in (0..).zip(&column_names) {
+        let cost = number(&mut random, shape.style);
+        writeln!(text, "    {name}  COST  {cost:>12}").unwrap();
+        let mut rows: Vec<u64> = (0..ENTRIES).map(|entry| (column * 7 + entry * 151) % row_count).collect();
+        if shape.is_rising {
             rows.sort();
         }
-        for (place, row) in rows.iter().enumerate() {
-            let value = number(&mut random, style);
-            if place as u64 % pairs == 0 {
-                write!(text, "    COLUMN{column:06}").unwrap();
+        for pairs in rows.chunks(shape.pairs as usize) {
+            write!(text, "    {name}").unwrap();
+            for row in pairs {
+                let value = number(&mut random, shape.style);
+                write!(text, "  {}  {value:>12}", row_names[*row as usize]).unwrap();
             }
-            write!(text, "  ROW{row:09}  {value:>12}").unwrap();
-            if place as u64 % pairs == pairs - 1 || place as u64 == ENTRIES - 1 {
-                text.push_str("                  \n");
-            }
+            text.push('\n');
         }
     }
     text.push_str("RHS\n");
-    for row in 0..ROWS {
-        let value = number(&mut random, style);
-        writeln!(text, "    RHS           ROW{row:09}  {value:>12}").unwrap();
+    for row in &row_names {
+        let value = number(&mut random, shape.style);
+        writeln!(text, "    RHS  {row}  {value:>12}").unwrap();
     }
     text.push_str("RANGES\n");
-    for row in 0..ROWS / 4 {
-        let value = number(&mut random, style);
-        writeln!(text, "    RANGE         ROW{row:09}  {value:>12}").unwrap();
+    for row in &row_names[..row_names.len() / 4] {
+        let value = number(&mut random, shape.style);
+        writeln!(text, "    RANGE  {row}  {value:>12}").unwrap();
     }
     text.push_str("BOUNDS\n");
-    for column in 0..COLUMNS {
-        writeln!(text, " LO BOUND         COLUMN{column:06}  {:>12}", "-1000").unwrap();
-        writeln!(text, " UP BOUND         COLUMN{column:06}  {:>12}", "1000").unwrap();
+    for column in &column_names {
+        writeln!(text, " LO BOUND  {column}  {:>12}", "-1000").unwrap();
+        writeln!(text, " UP BOUND  {column}  {:>12}", "1000").unwrap();
     }
     text.push_str("ENDATA\n");
     text
@@ -197,11 +222,12 @@ fn compare(name: &str, text: &str) {
     }
     let note = if answers[0] == answers[1] { "" } else { "   DIFFERENT ANSWERS" };
     println!(
-        "{name:32} {:9} bytes   Rattle {:7.1} ms  Rust {:7.1} ms  ratio {:.2}{note}",
+        "{name:33} {:9} bytes   Rattle {:7.1} ms  Rust {:7.1} ms  ratio {:.2}   Rattle {:5.2} ns a byte{note}",
         text.len(),
         best[0] / 1e6,
         best[1] / 1e6,
-        best[0] / best[1]
+        best[0] / best[1],
+        best[0] / text.len() as f64
     );
 }
 
@@ -216,17 +242,20 @@ fn memory(name: &str, text: &str) {
     let before = peak();
     let sum = unsafe { rattle_read(text.as_ptr(), text.len(), 1) };
     let more = peak() - before;
-    println!("{name:32} {:9} bytes   held at most {more:10} bytes more, {:.1} times ({sum:x})", text.len(), more as f64 / text.len() as f64);
+    println!("{name:33} {:9} bytes   held at most {more:10} bytes more, {:.1} times ({sum:x})", text.len(), more as f64 / text.len() as f64);
 }
 
 fn main() {
-    let texts: [(&str, fn() -> String); 6] = [
-        ("whole numbers, one a line", || core(Style::Whole, true, 1)),
-        ("decimals, two a line", || core(Style::Decimal, true, 2)),
-        ("fractions, two a line", || core(Style::Fraction, true, 2)),
-        ("whole numbers in any order", || core(Style::Whole, false, 1)),
+    // The last two show how the time grows with the size.
+    let texts: [(&str, fn() -> String); 8] = [
+        ("whole numbers, one a line", || core(ONE_A_LINE)),
+        ("decimals, two a line", || core(TWO_A_LINE)),
+        ("fractions, two a line", || core(Shape { style: Style::Fraction, ..TWO_A_LINE })),
+        ("whole numbers in any order", || core(Shape { is_rising: false, ..ONE_A_LINE })),
         ("columns of 4,000 entries, falling", long_columns),
         ("N rows alone", free_rows),
+        ("half of the first", || core(Shape { part: 2, ..ONE_A_LINE })),
+        ("a quarter of the first", || core(Shape { part: 4, ..ONE_A_LINE })),
     ];
     let wanted = std::env::args().nth(1);
     for (place, (name, text)) in texts.iter().enumerate() {

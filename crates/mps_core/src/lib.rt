@@ -16,8 +16,6 @@ mod rows;
 mod sets;
 mod stop;
 mod terms;
-#[cfg(test)]
-mod tests;
 mod values;
 mod whole;
 

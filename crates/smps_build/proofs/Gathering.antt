@@ -45,7 +45,7 @@ own_row : (j i k : ℕ) (e : Entry) (es : List Entry) (forms : List (List Entry)
 own_row j i k e es [] rises at below = absurd (omega arith)
 own_row j i zero e es (form ∷ forms) rises at below =
     both
-    (ap (λ v. form ++ put j v []) (sym (value_here e es i rises (omega arith))) ∙ sym (append-nil (form ++ put j e.value []))
+    (ap (λ v. form ++ put j v []) (sym (value_here e es i 0 rises (omega arith))) ∙ sym (append-nil (form ++ put j e.value []))
     ∙ ap (λ more. (form ++ put j e.value []) ++ more) (sym (put_zero j (coefficient es i) (none_below (suc e.column) i es rises.1 (omega arith)))))
     (other_rows j (suc i) e es forms (λ m b same. absurd (omega (arith, same))))
 own_row j i (suc k) e es (form ∷ forms) rises at below =

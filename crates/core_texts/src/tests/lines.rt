@@ -8,7 +8,7 @@
 //! - 13: the kind of a row
 //! - 14: a row's name was there
 //! - 15: a row isn't known
-//! - 16: a column's lines apart
+//! - 16: a column's lines apart, before 15, 17 and 19
 //! - 17: twice
 
 /// In the form of the table.
@@ -241,6 +241,14 @@ COLUMNS
  X C 1
  Y C 1
  X R 1
+#7: 16
+ROWS
+ N C
+ L R
+COLUMNS
+ X C 1
+ Y R 1
+ X R 1 R 1
 #7: 17
 NAME COVER
 ROWS

@@ -8,7 +8,7 @@
 //! - 21: the kind of a bound, before the number of fields, also in another set
 //! - 22: bounds that cross, behind that line
 //! - 23: an upper bound below 0 without a lower one, before 22
-//! - 24: a marker
+//! - 24: a marker, before 19
 //! - 25: the objective's right-hand side, before 17
 //! - 26: no objective
 //! - 27: a range on an N row, before 19
@@ -299,6 +299,11 @@ COLUMNS
  X C 1
  Y C 1
  X 'MARKER' 1
+#4: 24
+ROWS
+ N C
+COLUMNS
+ M1 'MARKER' zz
 #10: 25
 NAME COVER
 ROWS
@@ -325,6 +330,13 @@ ROWS
 COLUMNS
 RHS
  R 1 C -1
+#6: 25
+ROWS
+ N C
+ N S
+COLUMNS
+RHS
+ C 1/2
 #4: 26
 NAME COVER
 ROWS
@@ -339,6 +351,12 @@ ENDATA
 COLUMNS
 #2: 26
 NAME
+COLUMNS
+#5: 26
+* note
+ROWS
+ L R
+ G S
 COLUMNS
 #5: 27
 ROWS
