@@ -5,13 +5,16 @@
 //! - a product mix: LIM1 times -3 is A's cost and below B's, and A = 4 costs -3 times 4.
 //! - an infeasible core: NEED wants 5, and X is at most 3.
 //! - a free column: X + 3 (2 - X) falls up to X = 2, where Y is 0.
-//! - two bounds: X stands at 3 and Y at -2, and their sum of 1 is above 0.
+//! - an upper bound alone: X is 3/2 at a cost of -2; held by the row it is -10 at a cost of 2.
+//! - two bounds: X stands at 3 and Y at -2, their sum of 1 is above 0, and the cost is -3 - 4.
 //! - a fixed column: X is 4, which leaves 6 for Y.
 //! - ranges: A lies between 2 and 5, B between 5 and 8, C between 5 and 7, D between 3 and 5. The costs
 //!   1, -1, 1 and -1 give 2 - 8 + 5 - 5, and -1, 1, -1 and 1 give -5 + 5 - 7 + 3.
 //! - right-hand sides below 0: X and Y are at least 3 together, Z is X + 1, W at least -4. The cost is
 //!   2 X + 5 Y + X + 1 + 3 W, least at X = 3 and W = -4: 9 + 1 - 12.
+//! - a redundant equation: 3 of X, which costs less than Y.
 //! - an empty column: X is 2 and Y at its bound, 3.
+//! - a row without entries that nothing meets: 0 is to be at least 2.
 //! - equations that exclude each other: X comes in by ONE at 1, and TWO is left with 3 - 2.
 //! - without end behind phase one: X = 2 and Y = 1 cost -2 + 1/2; both grow alike, at -1 + 1/2.
 //! - without end in a free column: Y comes in by its bound at 2, X falls.
