@@ -1,6 +1,9 @@
-//! Tests of the flat calls on a program that is read from a core file, and on a program on a tree.
+//! Tests of the flat calls on programs that are read from core files, beside plain sums and by what reports
+//! carry, and on a program on a tree.
 #![tactic(auto)]
 
+#[cfg(test)]
+mod certificates;
 #[cfg(test)]
 mod tests;
 #[cfg(test)]

@@ -1,3 +1,4 @@
 pub mod NodeLemmas
 pub mod PrintLemmas
 pub mod AnswerLemmas
+pub mod CompleteLemmas

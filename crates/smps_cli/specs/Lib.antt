@@ -3,3 +3,4 @@ pub mod Words
 pub mod Findings
 pub mod Printed
 pub mod Answers
+pub mod Completes

@@ -3,6 +3,7 @@ ghost use Rattle.std.specs.Prelude.{◌≡◌, ℕ, List, None, map, string_byte
 ghost use Rattle.smps_io.specs.Faults.{Rose};
 ghost use Rattle.smps_cli.specs.Words.{core_name};
 ghost use Rattle.smps_cli.specs.Answers.{Answers};
+ghost use Rattle.smps_cli.specs.Completes.{AsksForReport, EndsOrWantsMemory};
 ghost use Rattle.smps_cli.specs.declared.status.FileKind.{FileKind};
 
 use crate::answer::answered;
@@ -15,6 +16,9 @@ use std::rt::Runtime;
 /// Runs the command that the words name: reads its file from the shelf, writes its output to the sink,
 /// and says how it ended. The words don't hold the program's own name; they are `solve`, `--core` and the
 /// name of a core file. Everything is computed before the first byte is written.
+///
+/// A core file within the limit whose rows' ends fit into 128 bits ends with a report where neither the shelf
+/// nor the sink fails, unless memory is wanting.
 pub fn run<R: Runtime, H: Shelf, K: Sink>(
     rt: &R,
     alloc: Global,
@@ -25,6 +29,10 @@ pub fn run<R: Runtime, H: Shelf, K: Sink>(
     ensures words { result ≡ Status.Words → core_name (map string_bytes words.now) ≡ None }
     ensures read { (kind : FileKind) → result ≡ Status.ReadFault kind → Rose (H.faults shelf.old) (H.faults shelf.new) }
     ensures write { result ≡ Status.WriteFault → Rose (K.faults sink.old) (K.faults sink.new) }
+    ensures completes { AsksForReport (H.content shelf.old) (map string_bytes words.now)
+        → (¬ Rose (H.faults shelf.old) (H.faults shelf.new))
+        → (¬ Rose (K.faults sink.old) (K.faults sink.new))
+        → EndsOrWantsMemory result }
     ensures answers { Answers (H.content shelf.old) (map string_bytes words.now) (K.written sink.old) (K.written sink.new) result }
 {
     let answer = match answered(rt, alloc, words, shelf) {
