@@ -16,7 +16,7 @@ unsafe extern "C" {
 }
 
 /// Nanoseconds for each program.
-const TIME: f64 = 3e9;
+const TIME: f64 = 5e9;
 const TASKS: u64 = 6;
 
 /// A program by its cells: a row, a column, twice the numerator, and one more where it is negative, and
@@ -174,7 +174,7 @@ fn compare(name: &str, cells: &Cells) {
         Ok(Outcome::Unbounded { .. }) => "unbounded",
         Err(_) => "passed",
     };
-    let times = (200_000 / (merged + 1)).clamp(1, 100);
+    let times = (5_000_000 / (merged + 1)).clamp(1, 200);
     let rattle = |times| unsafe {
         rattle_solve(cells.words.as_ptr(), cells.words.len(), cells.rows, cells.columns, times)
     };

@@ -63,6 +63,12 @@ fn find(entries: &[Term], column: u64, zero: Frac) -> Frac {
     }
 }
 
+/// The quotient; a number divided by 1 is the number itself.
+#[inline(always)]
+fn over(value: Frac, by: Frac) -> Result<Frac, Passed> {
+    if by.is_one() { Ok(value) } else { value.div(by) }
+}
+
 fn less(factor: Frac, from: Frac, times: Frac) -> Result<Frac, Passed> {
     from.sub(factor.mul(times)?)
 }
@@ -108,9 +114,9 @@ fn subtract_terms(
 impl Line {
     fn divide(&mut self, by: Frac) -> Result<(), Passed> {
         for term in &mut self.entries {
-            term.value = term.value.div(by)?;
+            term.value = over(term.value, by)?;
         }
-        self.right = self.right.div(by)?;
+        self.right = over(self.right, by)?;
         Ok(())
     }
 
@@ -174,7 +180,7 @@ impl Tableau {
         for (index, row) in self.rows.iter().enumerate() {
             let value = find(&row.line.entries, column, self.work.zero);
             if value.num() > 0 {
-                let ratio = row.line.right.div(value)?;
+                let ratio = over(row.line.right, value)?;
                 let is_better = match best {
                     None => true,
                     Some((_, held, basic)) => match ratio.cmp(&held) {

@@ -2,6 +2,7 @@
 ghost use Rattle.std.specs.Prelude.{◌≡◌, None};
 ghost use Rattle.lp_defs.specs.Path.{choose, is_better, leaving, has_above_zero};
 
+use crate::line::over;
 use crate::row::Row;
 use crate::sign::is_above_zero;
 use frac128::{Frac, Passed};
@@ -62,7 +63,7 @@ pub fn leave(rows: &[Row], column: u64) -> Result<Option<Candidate>, Passed>
         let row = &rows[index];
         let value = row.line().value_at(column);
         if is_above_zero(value) {
-            let ratio = row.line().right().div(value)?;
+            let ratio = over(row.line().right(), value)?;
             let basic = row.basic();
             best = choose(
                 best,

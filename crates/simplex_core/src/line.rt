@@ -3,6 +3,7 @@ ghost use Rattle.std.specs.Prelude.{◌≡◌, ◌≢◌, ◌+◌, ◌<◌, ◌�
 ghost use Rattle.std.specs.Vec.{vec_len, vec_capacity};
 ghost use Rattle.rationals.specs.Sparse.{Ascending};
 ghost use Rattle.lp_defs.specs.Lines.{value_at, keep, less_walk, less_entries, divided_entries, divided, cleared, cleared_by};
+ghost use Rattle.rationals.specs.Passes.{div_walk};
 ghost use Rattle.rationals.specs.Rational.{zero_ℚ};
 ghost use Rattle.simplex_core.specs.Gives.{Gives};
 
@@ -36,6 +37,18 @@ pub fn find(entries: &[Term], column: u64) -> Frac
     ensures { result ≡ value_at entries.now column }
 {
     value_in(entries, column)
+}
+
+/// The quotient. Most pivots are 1, and a number divided by 1 is the number itself.
+#[inline(always)]
+pub fn over(value: Frac, by: Frac) -> Result<Frac, Passed>
+    requires { by ≢ zero_ℚ }
+    ensures { result ≡ div_walk value by }
+{
+    if by.is_one() {
+        return Ok(value.over_one());
+    }
+    value.div(by)
 }
 
 #[inline(always)]
@@ -105,7 +118,7 @@ fn divide_all(entries: &mut [Term], by: Frac) -> Result<(), FormFault>
 {
     for i in 0..entries.len() {
         let term = entries[i];
-        let value = term.value.div(by)?;
+        let value = over(term.value, by)?;
         entries[i] = Term {
             column: term.column,
             value,
@@ -146,7 +159,7 @@ impl Line {
         ensures { Gives (divided by self.old) result self.new }
     {
         divide_all(self.entries.as_mut_slice(), by)?;
-        self.right = self.right.div(by)?;
+        self.right = over(self.right, by)?;
         Ok(())
     }
 
