@@ -1,7 +1,7 @@
 //! Why a text is refused.
 ghost use Rattle.std.specs.Prelude.{◌≡◌};
 
-use frac128::Passed;
+use frac128::{Frac, Passed};
 
 /// Why a line is refused.
 #[derive(Clone, Copy, Debug, PartialEq, Eq)]
@@ -46,7 +46,45 @@ pub enum Cause {
     ColumnUnknown,
     /// 29: a limit of the core is exceeded.
     CoreLimit,
-    /// 57: this operation of a row's interval passes 128 bits.
+    /// 30: a period's column or row isn't known.
+    StartUnknown,
+    /// 31: a period doesn't start behind the one before it.
+    PeriodOrder,
+    /// 32: a period's name was there.
+    PeriodTwice,
+    /// 33: this row has an entry of this column of a later period.
+    NotTriangular { row: u64, column: u64 },
+    /// 34: too many periods, or none.
+    PeriodCount,
+    /// 35: a row's or a column's period isn't known.
+    PeriodUnknown,
+    /// 36: this row stands on no line.
+    RowMissing(u64),
+    /// 36: this column stands on no line.
+    ColumnMissing(u64),
+    /// 37: a row or a column stands on an earlier line.
+    PlaceTwice,
+    /// 40: the words of a section aren't known.
+    KindUnknown,
+    /// 41: column and row name no entry.
+    EntryUnknown,
+    /// 42: an entry's period doesn't fit.
+    EntryStage,
+    /// 43: a probability isn't above 0, or is above 1.
+    ProbabilityRange,
+    /// 44: the probabilities add up to this sum, which is too far from 1.
+    ProbabilitySum(Frac),
+    /// 45: a parent isn't ROOT or an earlier scenario.
+    ParentUnknown,
+    /// 46: a branch period isn't known or can't be.
+    BranchPeriod,
+    /// 47: a scenario's name was there.
+    ScenarioTwice,
+    /// 48: SCENARIOS beside another kind of section.
+    ScenariosMixed,
+    /// 49: a limit of the program is exceeded.
+    ScenarioLimit,
+    /// 57: this operation passes 128 bits.
     Passes(Passed),
 }
 
@@ -78,6 +116,25 @@ impl Cause {
             Cause::RangeOnFree => 27,
             Cause::ColumnUnknown => 28,
             Cause::CoreLimit => 29,
+            Cause::StartUnknown => 30,
+            Cause::PeriodOrder => 31,
+            Cause::PeriodTwice => 32,
+            Cause::NotTriangular { row: _, column: _ } => 33,
+            Cause::PeriodCount => 34,
+            Cause::PeriodUnknown => 35,
+            Cause::RowMissing(_) => 36,
+            Cause::ColumnMissing(_) => 36,
+            Cause::PlaceTwice => 37,
+            Cause::KindUnknown => 40,
+            Cause::EntryUnknown => 41,
+            Cause::EntryStage => 42,
+            Cause::ProbabilityRange => 43,
+            Cause::ProbabilitySum(_) => 44,
+            Cause::ParentUnknown => 45,
+            Cause::BranchPeriod => 46,
+            Cause::ScenarioTwice => 47,
+            Cause::ScenariosMixed => 48,
+            Cause::ScenarioLimit => 49,
             Cause::Passes(_) => 57,
         }
     }

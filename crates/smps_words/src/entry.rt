@@ -1,7 +1,7 @@
 //! Entries of a linear program.
 
 /// A number of a linear program that a file may set.
-#[derive(Clone, Copy, Debug, PartialEq, Eq)]
+#[derive(Clone, Copy, Debug, Drop, PartialEq, Eq, Hash)]
 pub enum Entry {
     /// The cost of a column.
     Cost { column: u32 },

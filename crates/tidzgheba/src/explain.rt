@@ -87,6 +87,63 @@ fn refused(cause: Cause) -> &'static str {
         Cause::CoreLimit => {
             "there are more than 4,000 rows, 4,000 columns or 100,000 entries: docs/CAUSES.md, cause 29, says how to mend it"
         }
+        Cause::StartUnknown => {
+            "that line's column or row isn't one where a period can start (cause 30)"
+        }
+        Cause::PeriodOrder => {
+            "that period doesn't start behind the one before it (cause 31)"
+        }
+        Cause::PeriodTwice => {
+            "that period's name was there before (cause 32)"
+        }
+        Cause::NotTriangular { row: _, column: _ } => {
+            "a row has an entry of a column of a later period (cause 33)"
+        }
+        Cause::PeriodCount => {
+            "there are more than 16 periods, or none (cause 34)"
+        }
+        Cause::PeriodUnknown => {
+            "that row's or column's period isn't one of PERIODS (cause 35)"
+        }
+        Cause::RowMissing(_) => {
+            "a row of the core has no period (cause 36)"
+        }
+        Cause::ColumnMissing(_) => {
+            "a column of the core has no period (cause 36)"
+        }
+        Cause::PlaceTwice => {
+            "that row or column stands on an earlier line (cause 37)"
+        }
+        Cause::KindUnknown => {
+            "that section's words aren't known (cause 40)"
+        }
+        Cause::EntryUnknown => {
+            "that column and row name no entry (cause 41)"
+        }
+        Cause::EntryStage => {
+            "that entry's period doesn't fit (cause 42)"
+        }
+        Cause::ProbabilityRange => {
+            "that probability isn't above 0, or is above 1 (cause 43)"
+        }
+        Cause::ProbabilitySum(_) => {
+            "the probabilities add up to a number too far from 1 (cause 44)"
+        }
+        Cause::ParentUnknown => {
+            "that parent isn't ROOT or an earlier scenario (cause 45)"
+        }
+        Cause::BranchPeriod => {
+            "that period isn't known, or no scenario can branch there (cause 46)"
+        }
+        Cause::ScenarioTwice => {
+            "that scenario's name was there before (cause 47)"
+        }
+        Cause::ScenariosMixed => {
+            "SCENARIOS can't stand beside another kind of section (cause 48)"
+        }
+        Cause::ScenarioLimit => {
+            "there are too many scenarios, nodes or entries (cause 49)"
+        }
         Cause::Passes(_) => {
             "an end of a row doesn't fit into 128 bits: docs/CAUSES.md, cause 57, says how to mend it"
         }
