@@ -11,10 +11,13 @@ mod order;
 mod parts;
 mod passed;
 mod significand;
+mod step;
 mod term;
 #[cfg(test)]
 mod tests;
 mod text;
+mod wide;
+mod wide_parts;
 
 pub use form::{Form, FormFault, value_in};
 pub use fraction::Frac;
