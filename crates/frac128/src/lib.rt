@@ -2,7 +2,10 @@
 #![tactic(auto)]
 
 mod digits;
+#[cfg(test)]
+mod edge_tests;
 mod form;
+mod frac_step;
 mod fraction;
 mod gcd;
 mod literal;
