@@ -83,12 +83,16 @@ entries_rise : (f : ℚ) (xs : List Entry) → Orders xs (less_entries f xs)
 entries_rise f [] ys d v m r s e = right_rises f ys d v m s e
 entries_rise f (x ∷ xs) ys d v m r s e = meet_rises f x xs (less_entries f xs) (entries_rise f xs) ys d v m r s e
 
+-- a form less a multiple of another
+pub less_rises : (f : ℚ) (pivot form new : List Entry) → Ascending 0 pivot → Ascending 0 form → less_entries f form pivot [] ≡ Ok new → Ascending 0 new
+less_rises f pivot form new p l e = entries_rise f form pivot [] new 0 l p e
+
 pub form_rises : (f : ℚ) (pivot form new : List Entry) → Ascending 0 pivot → Ascending 0 form → cleared_form f pivot form ≡ Ok new → Ascending 0 new
 form_rises f pivot form new p l e = go (is_zero f) e
   where
     go : (b : Bool) → ◌≡◌ {A = Walk (List Entry)} (elim b [ true ↦ Ok form | false ↦ less_entries f form pivot [] ]) (Ok new) → Ascending 0 new
     go true e = let h : form ≡ new = cc in subst (Ascending 0) h l
-    go false e = entries_rise f form pivot [] new 0 l p e
+    go false e = less_rises f pivot form new p l e
 
 pub cleared_rises : (f : ℚ) (pivot line new : Line) → Ascending 0 pivot.entries → Ascending 0 line.entries → cleared_by f pivot line ≡ Ok new → Ascending 0 new.entries
 cleared_rises f pivot line new p l e = go (is_zero f) e
