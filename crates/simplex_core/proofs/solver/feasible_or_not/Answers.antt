@@ -1,4 +1,4 @@
-use Rattle.std.proofs.Common.{◌≡◌, ℕ, List, ap₂, ◌∙◌}
+use Rattle.std.proofs.Common.{ℕ, List, ap₂, ◌∙◌}
 use Rattle.lp_defs.specs.Path.{Row}
 use Rattle.lp_defs.specs.Phases.{has_artificial_above}
 use Rattle.simplex_core.proofs.Solves.{renamed, driving_ready, feasible_is}
