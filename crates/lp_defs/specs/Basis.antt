@@ -15,9 +15,9 @@ IsUnits (r ∷ rows) = (product r.line.entries (unit r.basic) ≡ one_ℚ) × Al
 
 pub record IsBasic (t : Tableau) : Type 0 where
   pub rows_rise : AllLines (λ line. Ascending 0 line.entries) t.rows
-  pub objective_rises : Ascending 0 t.objective.entries
+  pub objective_rises : Ascending 0 t.objective
   pub units : IsUnits t.rows
-  pub priced : AllRows (λ r. product t.objective.entries (unit r.basic) ≡ zero_ℚ) t.rows
+  pub priced : AllRows (λ r. product t.objective (unit r.basic) ≡ zero_ℚ) t.rows
   pub feasible : AllLines (λ line. zero_ℚ ≤ℚ line.right) t.rows
 
 -- all basic columns are below n

@@ -27,8 +27,8 @@ IsChoice j rows (Some c) = IsChosen j rows c
 
 -- what holds of the last tableau where the path ends by itself
 abbrev pub EndsWell : (Tableau → Type 0) → ℕ → Ending → Type 0
-EndsWell P n (Done k t) = P t × (entering n t.objective.entries ≡ None)
-EndsWell P n (Open j t) = P t × (entering n t.objective.entries ≡ Some j) × NoneAbove j t.rows
+EndsWell P n (Done k t) = P t × (entering n t.objective ≡ None)
+EndsWell P n (Open j t) = P t × (entering n t.objective ≡ Some j) × NoneAbove j t.rows
 EndsWell P n TooLong = Unit {0}
 EndsWell P n (Stopped k p) = Unit {0}
 

@@ -20,7 +20,7 @@ pub record Stage : Type 0 where
 
 -- a pivot by Bland's rule
 pub record IsStep (n : ℕ) (g : Stage) : Type 0 where
-  pub enter : entering n g.from.objective.entries ≡ Some g.enters
+  pub enter : entering n g.from.objective ≡ Some g.enters
   pub leave : IsChosen g.enters g.from.rows g.leaves
   pub pivot : pivoted g.enters g.leaves.index g.from ≡ Ok g.to
 
@@ -46,7 +46,7 @@ stage_enters (Some j) go = go j
 abbrev pub stages : ℕ → ℕ → Tableau → List Stage
 stages n zero t = []
 stages n (suc left) t =
-    stage_enters (entering n t.objective.entries) (λ j. stage_found (leaving j t.rows 0 None) (λ c. add_stage t j c (pivoted j c.index t) (λ next. stages n left next)))
+    stage_enters (entering n t.objective) (λ j. stage_found (leaving j t.rows 0 None) (λ c. add_stage t j c (pivoted j c.index t) (λ next. stages n left next)))
 
 -- of a path's pivots, any that stand one after another begin and end at different basic columns
 abbrev pub NoBasisTwiceOnPath : Type 0

@@ -3,14 +3,14 @@ ghost use Rattle.std.specs.Prelude.{◌≡◌, ◌+◌, ◌<◌, ◌^◌, [], If
 ghost use Rattle.frac128.specs.Faults.{FaultOf};
 ghost use Rattle.lp_defs.specs.Phases.{first_duals, unit_duals};
 
-use crate::line::Line;
+use crate::entries::Entries;
 use frac128::{FormFault, Frac, Memory};
 use std::alloc::Global;
 
 /// The duals of phase one: 1 less the reduced cost, for `count` columns from `first` on.
 pub fn first_duals(
     alloc: Global,
-    objective: &Line,
+    objective: &Entries,
     first: u64,
     count: u64,
 ) -> Result<Vec<Frac>, FormFault>
@@ -28,7 +28,7 @@ pub fn first_duals(
 /// The duals of phase two: the negative reduced costs of `count` columns from `first` on.
 pub fn unit_duals(
     alloc: Global,
-    objective: &Line,
+    objective: &Entries,
     first: u64,
     count: u64,
 ) -> Result<Vec<Frac>, Memory>

@@ -4,6 +4,7 @@
 mod choice;
 mod drive;
 mod duals;
+mod entries;
 mod line;
 mod outcome;
 mod point;

@@ -7,11 +7,10 @@ ghost use Rattle.lp_defs.specs.Solution.{first_end, between, second, second_end,
 ghost use Rattle.lp_defs.specs.Stages.{First, Driving, DrivenOut, Second};
 ghost use Rattle.simplex_core.specs.Told.{Tells, TellsFault, Shows, IsNotInfeasible, IsNotPivotsEnded};
 
-use crate::drive::{Driven, drive};
+use crate::drive::{Driven, drive, has_artificial_above};
 use crate::duals::{first_duals, unit_duals};
 use crate::outcome::Outcome;
 use crate::point::{point, ray};
-use crate::sign::is_below_zero;
 use crate::standard::Standard;
 use crate::start::{artificial_cost, artificial_rows, price};
 use crate::tableau::{End, Tableau};
@@ -103,7 +102,7 @@ fn drive_out(
     }
 }
 
-/// Behind phase one: its duals where the sum of the artificial columns is above 0.
+/// Behind phase one: its duals where an artificial column is basic above 0.
 fn feasible_or_not(
     alloc: Global,
     program: &Standard,
@@ -117,7 +116,7 @@ fn feasible_or_not(
     ensures { IfOk result (Tells (first_end program.now pivots (Done made tableau))) }
 {
     let columns = program.columns();
-    if !is_below_zero(tableau.objective().right()) {
+    if !has_artificial_above(tableau.rows(), columns) {
         return drive_out(alloc, program, tableau, pivots, made, spare);
     }
     let count = program.rows().len() as u64;
@@ -170,14 +169,15 @@ fn answer(alloc: Global, program: &Standard, pivots: u64) -> Result<Outcome, Mem
 /// Each row gets an artificial column, numbered after all others; they are the first basis. Phase one
 /// minimises their sum. The entering column is the least that isn't artificial with a reduced cost below 0.
 /// The leaving row has the least quotient of right side and entry among entries above 0; among equals, the
-/// least basic column. Where the sum ends above 0 the outcome is `Infeasible`; a dual is 1 less the reduced
-/// cost of its row's artificial column. Else each row in order whose basic column is artificial is pivoted
+/// least basic column. Where an artificial column is basic above 0 at its end, the outcome is `Infeasible`; a
+/// dual is 1 less the reduced cost of its row's artificial column. Else each row in order whose basic column is artificial is pivoted
 /// on its least nonzero column that isn't, where it has one. Phase two minimises the cost by the same
 /// rules; a dual is the negative reduced cost of its row's artificial column.
 ///
 /// A pivot takes the quotients of the ratio test by row, then the pivot row's entries by column and its
-/// right side, each divided by the pivot, then for each other row in order, the objective row last, each
-/// entry by column and the right side less factor times pivot row. Phase one's objective row is the
+/// right side, each divided by the pivot, then for each other row in order each entry by column and the right
+/// side, and last each entry of the objective row by column, less factor times pivot row. Each of these
+/// differences is a step: only its value has to fit. The objective row has no right side. Phase one's objective row is the
 /// artificial costs less each row in order, phase two's the costs less, for each row in order, its basic
 /// column's cost times the row. The first of all these operations that passes 128 bits ends the path:
 /// `Passed` has it and the number of its pivot. The rows made before the first pivot count to 0; phase two's

@@ -2,8 +2,8 @@ use Rattle.std.proofs.Common.{◌≤◌, ◌-◌, ◌⊎◌, inl, inr, length, �
 use Rattle.std.specs.Vec.{vec_len, vec_capacity}
 use Rattle.std.proofs.lemmas.List.{take_rest}
 use Rattle.simplex_core.proofs.Walks.{rest_is, room_left}
-use Rattle.simplex_core.proofs.line.subtract_terms.Goals as goal
-use Rattle.simplex_core.proofs.line.subtract_terms.Goals.{then-both-test+else-j-pivot, else-both-test}
+use Rattle.simplex_core.proofs.entries.subtract_terms.Goals as goal
+use Rattle.simplex_core.proofs.entries.subtract_terms.Goals.{then-both-test+else-j-pivot, else-both-test}
 
 pub right-init : goal.right-init
 right-init c =
