@@ -21,8 +21,7 @@ fn right(parts: &[Part], end: Frac, entries: &[Term]) -> Result<Frac, Passed>
 {
     let mut right = end;
     for term in entries {
-        let product = term.value.mul(shift(part_at(parts, term.column)))?;
-        right = right.sub(product)?;
+        right = right.less_product(term.value, shift(part_at(parts, term.column)))?;
     }
     Ok(right)
 }
