@@ -26,12 +26,16 @@ impl Frac {
         Frac::from_parts(self.parts().short_step(factor.parts(), times.parts()))
     }
 
-    /// The number and a product of fractions, added, or nothing where the sum passes.
-    #[inline(always)]
-    fn long_step(self, factor: Frac, times: Frac) -> Option<Frac>
+    /// The number and a product that passes by itself, added, or nothing where the sum passes.
+    #[cold]
+    #[inline(never)]
+    fn wide_step(self, factor: Frac, times: Frac) -> Option<Frac>
         ensures { result ≡ fitted (self +ℚ factor *ℚ times) }
     {
-        match self.parts().step(factor.parts(), times.parts()) {
+        match self
+            .parts()
+            .add_product_widened(factor.parts(), times.parts())
+        {
             Ok(p) => Some(Frac::from_parts(p)),
             Err(_) => None,
         }
@@ -45,7 +49,10 @@ impl Frac {
         if self.are_short(factor, times) {
             return Some(self.short_step(factor, times));
         }
-        self.long_step(factor, times)
+        match factor.product(times) {
+            Some(product) => self.sum(product),
+            None => self.wide_step(factor, times),
+        }
     }
 
     /// What a step names that passes: the product, where that passes by itself, else the sum or the

@@ -1,6 +1,6 @@
 use Rattle.std.proofs.Common.{sym}
 use Rattle.frac128.proofs.Bridge.{step_value, step_found, step_lost}
-use Rattle.frac128.proofs.fraction.Frac.long_step.Goals as goal
+use Rattle.frac128.proofs.fraction.Frac.wide_step.Goals as goal
 
 pub returns-in-Ok : goal.returns-in-Ok
 returns-in-Ok c =
