@@ -1,5 +1,5 @@
 // Steps: a product that is at once added to a number, or taken from it.
-ghost use Rattle.std.specs.Prelude.{◌≡◌, Some, IsTrue};
+ghost use Rattle.std.specs.Prelude.{◌≡◌, Some, Err, IsTrue};
 ghost use Rattle.rationals.specs.Rational.{◌+ℚ◌, ◌*ℚ◌};
 ghost use Rattle.rationals.specs.Passes.{add_product_walk, less_product_walk, named_by, too_wide, fitted};
 ghost use Rattle.frac128.specs.Fraction.{AreShort};
@@ -41,6 +41,17 @@ impl Frac {
         }
     }
 
+    // A function and a match of its own, so that copies for that call are made only where it is called.
+    #[inline(always)]
+    fn step_rarely(self, factor: Frac, times: Frac) -> Option<Frac>
+        ensures { result ≡ fitted (self +ℚ factor *ℚ times) }
+    {
+        match self.wide_step(factor, times) {
+            Some(sum) => Some(sum),
+            None => None,
+        }
+    }
+
     /// The number and a product, added, or nothing where the sum passes.
     #[inline(always)]
     fn step(self, factor: Frac, times: Frac) -> Option<Frac>
@@ -51,7 +62,7 @@ impl Frac {
         }
         match factor.product(times) {
             Some(product) => self.sum(product),
-            None => self.wide_step(factor, times),
+            None => self.step_rarely(factor, times),
         }
     }
 
@@ -76,6 +87,15 @@ impl Frac {
         }
     }
 
+    // As `step_rarely`.
+    #[inline(always)]
+    fn passed(self, op: Op, factor: Frac, times: Frac) -> Result<Frac, Passed>
+        ensures { result ≡ Err (named_by (too_wide (factor *ℚ times)) op self factor times) }
+    {
+        let passed = self.named(op, factor, times);
+        Err(passed)
+    }
+
     /// The number and the product of two others, added. It passes where a part of the sum's lowest terms
     /// is above `i128::MAX` in size, however large the product is.
     #[inline(always)]
@@ -84,7 +104,7 @@ impl Frac {
     {
         match self.step(factor, times) {
             Some(sum) => Ok(sum),
-            None => Err(self.named(Op::Add, factor, times)),
+            None => self.passed(Op::Add, factor, times),
         }
     }
 
@@ -96,7 +116,7 @@ impl Frac {
     {
         match self.step(factor.neg(), times) {
             Some(difference) => Ok(difference),
-            None => Err(self.named(Op::Sub, factor, times)),
+            None => self.passed(Op::Sub, factor, times),
         }
     }
 }

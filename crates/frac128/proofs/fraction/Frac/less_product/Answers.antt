@@ -15,4 +15,4 @@ pub returns-in-None : goal.returns-in-None
 returns-in-None c =
     let e = rw c.neg.ensures at c.in-None.ensures in
     let o = named_by (too_wide (c.args.factor *ℚ c.args.times)) Sub c.args.self c.args.factor c.args.times in
-    rw c.named.ensures (walk_lost (c.args.self -ℚ c.args.factor *ℚ c.args.times) o (e ∙ ap fitted (less_value c.args.self c.args.factor c.args.times)))
+    c.passed.ensures ∙ walk_lost (c.args.self -ℚ c.args.factor *ℚ c.args.times) o (e ∙ ap fitted (less_value c.args.self c.args.factor c.args.times))
