@@ -7,12 +7,13 @@ ghost use Rattle.lp_defs.specs.Solution.{first_end, between, second, second_end,
 ghost use Rattle.lp_defs.specs.Stages.{First, Driving, DrivenOut, Second};
 ghost use Rattle.simplex_core.specs.Told.{Tells, TellsFault, Shows, IsNotInfeasible, IsNotPivotsEnded};
 
+use crate::costs::first_objective;
 use crate::drive::{Driven, drive, has_artificial_above};
 use crate::duals::{first_duals, unit_duals};
 use crate::outcome::Outcome;
 use crate::point::{point, ray};
 use crate::standard::Standard;
-use crate::start::{artificial_cost, artificial_rows, price};
+use crate::start::{artificial_rows, price};
 use crate::tableau::{End, Tableau};
 use frac128::{FormFault, Memory, Term};
 use std::alloc::Global;
@@ -152,11 +153,10 @@ fn answer(alloc: Global, program: &Standard, pivots: u64) -> Result<Outcome, Mem
     let columns = program.columns();
     let count = program.rows().len() as u64;
     let rows = artificial_rows(alloc, program.rows(), program.right(), columns)?;
-    let cost = artificial_cost(alloc, columns, count)?;
-    let mut spare = Vec::new(alloc);
-    match price(alloc, &cost, &rows, &mut spare) {
+    match first_objective(alloc, rows.as_slice(), columns, count) {
         Ok(objective) => {
             let tableau = Tableau::new(rows, objective);
+            let mut spare = Vec::new(alloc);
             first_phase(alloc, program, tableau, pivots, &mut spare)
         }
         Err(fault) => stopped(fault, 0),
