@@ -94,7 +94,8 @@ fn drive_out(
 ) -> Result<Outcome, Memory>
     requires within { made ≤ pivots }
     requires ready { Driving program.now tableau }
-    ensures { IfOk result (Tells (between program.now pivots (driven program.now.columns (length tableau.rows) 0 (pivots - made) made tableau))) }
+    ensures { IfOk result (Tells (between program.now pivots
+        (driven program.now.columns (length tableau.rows) 0 (pivots - made) made tableau))) }
 {
     match drive(&mut tableau, program.columns(), pivots, made, spare)? {
         Driven::Out(last) => second_phase(alloc, program, tableau, pivots, last, spare),
@@ -190,7 +191,8 @@ pub fn solve(alloc: Global, program: &Standard, pivots: u64) -> Result<Outcome, 
     ensures exact { IfOk result (Tells (solution program.now pivots)) }
     ensures certified { IfOk result (Shows program.now) }
     ensures feasible { EndsInUnits program.now → IfOk result IsNotInfeasible }
-    ensures bounded { 2 * 2 ^ (program.now.columns + length program.now.rows) + length program.now.rows ≤ pivots → IfOk result IsNotPivotsEnded }
+    ensures bounded { 2 * 2 ^ (program.now.columns + length program.now.rows) + length program.now.rows ≤ pivots
+        → IfOk result IsNotPivotsEnded }
 {
     let _columns = program.columns();
     let outcome = answer(alloc, program, pivots)?;
