@@ -144,6 +144,22 @@ enum End {
 }
 
 impl Tableau {
+    /// The costs of phase one less each row in order, in one pass: the numbers stand by column.
+    fn price_first(&mut self, first: usize) -> Result<(), Passed> {
+        let one = whole(1);
+        let mut values = vec![self.work.zero; first];
+        values.resize(first + self.rows.len(), one);
+        for row in &self.rows {
+            for term in &row.line.entries {
+                let value = &mut values[term.column as usize];
+                *value = value.less_product(one, term.value)?;
+            }
+        }
+        let terms = values.iter().zip(0..).filter(|(value, _)| !value.is_zero());
+        self.objective = terms.map(|(&value, column)| Term { column, value }).collect();
+        Ok(())
+    }
+
     fn price(&mut self, cost: &[Term]) -> Result<(), Passed> {
         let zero = self.work.zero;
         let mut objective = cost.to_vec();
@@ -254,7 +270,6 @@ fn place(terms: &mut Vec<Term>, column: u64, value: Frac) {
 
 pub fn solve(program: &Program) -> (Result<Outcome, Passed>, u64, u64) {
     let columns = program.columns;
-    let count = program.rows.len() as u64;
     let one = whole(1);
     let mut rows = Vec::new();
     for (index, form) in program.rows.iter().enumerate() {
@@ -263,18 +278,16 @@ pub fn solve(program: &Program) -> (Result<Outcome, Passed>, u64, u64) {
         entries.push(Term { column, value: one });
         rows.push(Row { basic: column, line: Line { entries, right: program.right[index] } });
     }
-    let cost: Vec<Term> =
-        (columns..columns + count).map(|column| Term { column, value: one }).collect();
     let work = Work { zero: whole(0), spare: Vec::new(), pivots: 0, merged: 0 };
     let mut tableau = Tableau { rows, objective: Vec::new(), work };
-    let outcome = answer(program, &mut tableau, &cost);
+    let outcome = answer(program, &mut tableau);
     (outcome, tableau.work.pivots, tableau.work.merged)
 }
 
-fn answer(program: &Program, tableau: &mut Tableau, cost: &[Term]) -> Result<Outcome, Passed> {
+fn answer(program: &Program, tableau: &mut Tableau) -> Result<Outcome, Passed> {
     let columns = program.columns;
     let artificial = columns..columns + program.rows.len() as u64;
-    tableau.price(cost)?;
+    tableau.price_first(columns as usize)?;
     tableau.follow(columns)?;
     let is_above = |row: &Row| row.basic >= columns && row.line.right.num() > 0;
     if tableau.rows.iter().any(is_above) {

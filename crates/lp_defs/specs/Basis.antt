@@ -11,7 +11,10 @@ use Rattle.lp_defs.specs.Ends.{unit, IsPoint}
 -- each basic column is 1 in its row and 0 in the others
 abbrev pub IsUnits : List Row → Type 0
 IsUnits [] = Unit {0}
-IsUnits (r ∷ rows) = (product r.line.entries (unit r.basic) ≡ one_ℚ) × AllRows (λ s. product r.line.entries (unit s.basic) ≡ zero_ℚ) rows × AllRows (λ s. product s.line.entries (unit r.basic) ≡ zero_ℚ) rows × IsUnits rows
+IsUnits (r ∷ rows) = (product r.line.entries (unit r.basic) ≡ one_ℚ)
+    × AllRows (λ s. product r.line.entries (unit s.basic) ≡ zero_ℚ) rows
+    × AllRows (λ s. product s.line.entries (unit r.basic) ≡ zero_ℚ) rows
+    × IsUnits rows
 
 pub record IsBasic (t : Tableau) : Type 0 where
   pub rows_rise : AllLines (λ line. Ascending 0 line.entries) t.rows

@@ -63,4 +63,5 @@ divided_entries a (x ∷ xs) done =
 
 abbrev pub divided : ℚ → Line → Walk Line
 divided a line =
-    then_walk (divided_entries a line.entries []) (λ entries. then_walk (div_walk line.right a) (λ right. Ok (record { entries = entries; right = right })))
+    then_walk (divided_entries a line.entries []) (λ entries.
+    then_walk (div_walk line.right a) (λ right. Ok (record { entries = entries; right = right })))

@@ -43,7 +43,8 @@ choose (Some b) c = elim (is_better c b) [ true ↦ Some c | false ↦ Some b ]
 abbrev pub leaving : ℕ → List Row → ℕ → Option Candidate → Walk (Option Candidate)
 leaving j [] i best = Ok best
 leaving j (r ∷ rows) i best = elim (is_above_zero (value_at r.line.entries j)) [
-  | true ↦ then_walk (div_walk r.line.right (value_at r.line.entries j)) (λ q. leaving j rows (i + 1) (choose best (record { index = i; ratio = q; basic = r.basic })))
+  | true ↦ then_walk (div_walk r.line.right (value_at r.line.entries j))
+      (λ q. leaving j rows (i + 1) (choose best (record { index = i; ratio = q; basic = r.basic })))
   | false ↦ leaving j rows (i + 1) best
 ]
 

@@ -73,7 +73,8 @@ driven n (suc rows) i left k t = driven_at i left k t (replacing n (row_at t.row
 -- phase one: 1 less the reduced cost, of column j and the columns behind it, m of them
 abbrev pub first_duals : ℕ → ℕ → List Entry → List ℚ → Walk (List ℚ)
 first_duals j zero objective done = Ok done
-first_duals j (suc m) objective done = then_walk (sub_walk one_ℚ (value_at objective j)) (λ y. first_duals (suc j) m objective (done ++ y ∷ []))
+first_duals j (suc m) objective done =
+    then_walk (sub_walk one_ℚ (value_at objective j)) (λ y. first_duals (suc j) m objective (done ++ y ∷ []))
 
 -- phase two: the negative reduced costs
 abbrev pub unit_duals : ℕ → ℕ → List Entry → List ℚ

@@ -9,7 +9,7 @@ use Rattle.frac128.specs.Faults.{FaultOf}
 use Rattle.frac128.specs.declared.form.FormFault.{FormFault}
 use Rattle.lp_defs.specs.Walks.{Walk}
 use Rattle.lp_defs.specs.Lines.{value_at}
-use Rattle.lp_defs.specs.Phases.{unit_duals, first_duals, unit_costs}
+use Rattle.lp_defs.specs.Phases.{unit_duals, first_duals}
 
 pub one_more : (d new whole : List ℚ) (c e : ℕ) (o : List Entry) (v : ℚ) → c < e → new ≡ d ++ v ∷ [] → v ≡ neg_ℚ (value_at o c) → d ++ unit_duals c (e - c) o ≡ whole → new ++ unit_duals (c + 1) (e - (c + 1)) o ≡ whole
 one_more d new whole c e o v h k m w =
@@ -18,14 +18,6 @@ one_more d new whole c e o v h k m w =
     ap (λ (l : List ℚ). l ++ unit_duals (c + 1) (e - (c + 1)) o) k ∙ append_assoc d (v ∷ []) (unit_duals (c + 1) (e - (c + 1)) o)
     ∙ ap (λ (q : ℚ). d ++ q ∷ unit_duals (c + 1) (e - (c + 1)) o) m
     ∙ ap (λ (l : ℕ). d ++ neg_ℚ (value_at o c) ∷ unit_duals l (e - (c + 1)) o) (add-one c) ∙ here
-
-pub one_more_cost : (d new whole : List Entry) (c e : ℕ) (v : ℚ) → c < e → new ≡ d ++ record { column = c; value = v } ∷ [] → v ≡ one_ℚ → d ++ unit_costs c (e - c) ≡ whole → new ++ unit_costs (c + 1) (e - (c + 1)) ≡ whole
-one_more_cost d new whole c e v h k m w =
-    let n : e - c ≡ suc (e - (c + 1)) = omega arith in
-    let here : d ++ unit_costs c (suc (e - (c + 1))) ≡ whole = subst (λ (l : ℕ). d ++ unit_costs c l ≡ whole) n w in
-    ap (λ (l : List Entry). l ++ unit_costs (c + 1) (e - (c + 1))) k ∙ append_assoc d (record { column = c; value = v } ∷ []) (unit_costs (c + 1) (e - (c + 1)))
-    ∙ ap (λ (q : ℚ). d ++ record { column = c; value = q } ∷ unit_costs (c + 1) (e - (c + 1))) m
-    ∙ ap (λ (l : ℕ). d ++ record { column = c; value = one_ℚ } ∷ unit_costs l (e - (c + 1))) (add-one c) ∙ here
 
 first_here : (d : List ℚ) (whole : Walk (List ℚ)) (c e : ℕ) (o : List Entry) → c < e → first_duals c (e - c) o d ≡ whole → first_duals c (suc (e - (c + 1))) o d ≡ whole
 first_here d whole c e o h w = let n : e - c ≡ suc (e - (c + 1)) = omega arith in subst (λ (l : ℕ). first_duals c l o d ≡ whole) n w

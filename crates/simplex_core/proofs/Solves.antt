@@ -1,8 +1,8 @@
 -- From the parts of a solve to its answer.
-use Rattle.std.proofs.Common.{◌≡◌, ℕ, ◌+◌, ◌-◌, ◌*◌, ◌^◌, ◌≤◌, Bool, true, false, List, [], Result, Ok, length, sym, ap, ap₂, ◌∙◌, subst, arith}
+use Rattle.std.proofs.Common.{◌≡◌, ℕ, ◌+◌, ◌-◌, ◌*◌, ◌^◌, ◌≤◌, Bool, true, false, List, [], Result, Ok, length, sym, ap, ap₂, ◌∙◌, subst, subst₂, arith, le_refl}
 use Rattle.std.specs.Prelude.{IfOk}
-use Rattle.rationals.specs.Rational.{ℚ}
-use Rattle.rationals.specs.Sparse.{Entry, coefficient}
+use Rattle.rationals.specs.Rational.{ℚ, one_ℚ}
+use Rattle.rationals.specs.Sparse.{Entry, Ascending, coefficient}
 use Rattle.frac128.specs.declared.memory.Memory.{Memory}
 use Rattle.lp_defs.specs.Walks.{Walk}
 use Rattle.lp_defs.specs.Path.{Row, Tableau, Done, Open, path}
@@ -22,6 +22,11 @@ use Rattle.lp_defs.proofs.Certified.{solutions_are_certified}
 use Rattle.lp_defs.proofs.Feasible.{unit_columns_are_feasible}
 use Rattle.lp_defs.proofs.Bound.{pivots_are_bounded}
 use Rattle.lp_defs.proofs.Same.{optimal_same, unbounded_same}
+use Rattle.lp_defs.specs.Lines.{value_at}
+use Rattle.lp_defs.specs.Linear.{AllLines, AllRows}
+use Rattle.lp_defs.proofs.Starts.{rows_rise, length_with_units}
+use Rattle.rationals.specs.Forms.{EndsBelow}
+use Rattle.simplex_core.proofs.Sweep.{rows_below, basics_cost}
 use Rattle.simplex_core.specs.declared.tableau.End.{End}
 use Rattle.simplex_core.specs.declared.tableau.End.TheVariants as end
 use Rattle.simplex_core.specs.declared.drive.Driven.{Driven as DriveEnd}
@@ -123,8 +128,24 @@ pub rows_are : (p : Program) (columns : ℕ) (forms : List (List Entry)) (right 
 rows_are p columns forms right rows h k m e =
     e ∙ ap₂ (λ (n : ℕ) (f : List (List Entry)). unit_rows n (with_units n f) right) h k ∙ ap (λ (r : List ℚ). unit_rows p.columns (with_units p.columns p.rows) r) m
 
-pub cost_is : (p : Program) (columns : ℕ) (forms : List (List Entry)) (cost : List Entry) → columns ≡ p.columns → forms ≡ p.rows → cost ≡ unit_costs columns (length forms) → cost ≡ first_cost p
-cost_is p columns forms cost h k e = e ∙ ap₂ (λ (n : ℕ) (f : List (List Entry)). unit_costs n (length f)) h k
+-- the rows rise, are below the columns behind the artificial ones, and are basic in columns that cost 1
+pub begins_rise : (p : Program) (rows : List Row) → IsProgram p → rows ≡ first_rows p → AllLines (λ line. Ascending 0 line.entries) rows
+begins_rise p rows is e = subst (AllLines (λ line. Ascending 0 line.entries)) (sym e) (rows_rise p.columns p.columns p.rows p.right (le_refl p.columns) is.rows)
+
+pub begins_below : (p : Program) (columns count : ℕ) (forms : List (List Entry)) (rows : List Row) → IsProgram p → columns ≡ p.columns → forms ≡ p.rows → count ≡ length forms → rows ≡ first_rows p → AllLines (λ line. EndsBelow (columns + count) line.entries) rows
+begins_below p columns count forms rows is h k m e =
+    let n : columns + count ≡ p.columns + length p.rows = ap₂ (λ (a b : ℕ). a + b) h (m ∙ ap (λ (f : List (List Entry)). length f) k) in
+    subst₂ (λ (b : ℕ) (r : List Row). AllLines (λ line. EndsBelow b line.entries) r) (sym n) (sym e) (rows_below p.columns p.columns (p.columns + length p.rows) p.rows p.right (le_refl p.columns) (omega arith) is.rows)
+
+pub begins_basic : (p : Program) (columns count : ℕ) (forms : List (List Entry)) (rows : List Row) → columns ≡ p.columns → forms ≡ p.rows → count ≡ length forms → rows ≡ first_rows p → AllRows (λ r. value_at (unit_costs columns count) r.basic ≡ one_ℚ) rows
+begins_basic p columns count forms rows h k m e =
+    let n : count ≡ length p.rows = m ∙ ap (λ (f : List (List Entry)). length f) k in
+    let long : length (with_units p.columns p.rows) ≡ length p.rows = length_with_units p.columns p.rows in
+    subst₂ (λ (c : List Entry) (r : List Row). AllRows (λ s. value_at c s.basic ≡ one_ℚ) r) (sym (ap₂ (λ (a b : ℕ). unit_costs a b) h n)) (sym e)
+    (basics_cost p.columns (length p.rows) p.columns (with_units p.columns p.rows) p.right (le_refl p.columns) (omega arith))
+
+pub cost_is : (p : Program) (columns count : ℕ) (forms : List (List Entry)) → columns ≡ p.columns → forms ≡ p.rows → count ≡ length forms → unit_costs columns count ≡ first_cost p
+cost_is p columns count forms h k m = ap₂ (λ (a b : ℕ). unit_costs a b) h (m ∙ ap (λ (f : List (List Entry)). length f) k)
 
 pub first_ready : (p : Program) (t : Tableau) (rows : List Row) (o : List Entry) → IsProgram p → rows ≡ first_rows p → priced (first_cost p) (first_rows p) (first_cost p) ≡ Ok o → t ≡ record { rows = rows; objective = o } → First p t
 first_ready p t rows o is h e k = subst (First p) (sym (k ∙ ap (λ (r : List Row). record { rows = r; objective = o }) h)) (first_begins p o is e)

@@ -15,7 +15,8 @@ pub fn first_duals(
     count: u64,
 ) -> Result<Vec<Frac>, FormFault>
     requires { first + count < 2 ^ 64 }
-    ensures { MatchResult result (λ duals. first_duals first count objective.now [] ≡ Ok duals.items) (FaultOf (first_duals first count objective.now [])) }
+    ensures { MatchResult result (λ duals. first_duals first count objective.now [] ≡ Ok duals.items)
+        (FaultOf (first_duals first count objective.now [])) }
 {
     let mut duals = Vec::new(alloc);
     for column in first..first + count {

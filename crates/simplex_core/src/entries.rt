@@ -168,12 +168,7 @@ impl Entries {
         ensures { Gives (less_entries factor self.old other.now []) result self.new }
     {
         spare.clear();
-        subtract_terms(
-            factor,
-            self.terms.as_slice(),
-            other.terms.as_slice(),
-            spare,
-        )?;
+        subtract_terms(factor, self.terms.as_slice(), other.terms.as_slice(), spare)?;
         copy(&mut self.terms, spare)?;
         Ok(())
     }

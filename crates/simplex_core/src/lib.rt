@@ -2,6 +2,7 @@
 #![tactic(auto)]
 
 mod choice;
+mod costs;
 mod drive;
 mod duals;
 mod entries;

@@ -7,12 +7,13 @@ ghost use Rattle.lp_defs.specs.Solution.{first_end, between, second, second_end,
 ghost use Rattle.lp_defs.specs.Stages.{First, Driving, DrivenOut, Second};
 ghost use Rattle.simplex_core.specs.Told.{Tells, TellsFault, Shows, IsNotInfeasible, IsNotPivotsEnded};
 
+use crate::costs::first_objective;
 use crate::drive::{Driven, drive, has_artificial_above};
 use crate::duals::{first_duals, unit_duals};
 use crate::outcome::Outcome;
 use crate::point::{point, ray};
 use crate::standard::Standard;
-use crate::start::{artificial_cost, artificial_rows, price};
+use crate::start::{artificial_rows, price};
 use crate::tableau::{End, Tableau};
 use frac128::{FormFault, Memory, Term};
 use std::alloc::Global;
@@ -93,7 +94,8 @@ fn drive_out(
 ) -> Result<Outcome, Memory>
     requires within { made ≤ pivots }
     requires ready { Driving program.now tableau }
-    ensures { IfOk result (Tells (between program.now pivots (driven program.now.columns (length tableau.rows) 0 (pivots - made) made tableau))) }
+    ensures { IfOk result (Tells (between program.now pivots
+        (driven program.now.columns (length tableau.rows) 0 (pivots - made) made tableau))) }
 {
     match drive(&mut tableau, program.columns(), pivots, made, spare)? {
         Driven::Out(last) => second_phase(alloc, program, tableau, pivots, last, spare),
@@ -152,11 +154,10 @@ fn answer(alloc: Global, program: &Standard, pivots: u64) -> Result<Outcome, Mem
     let columns = program.columns();
     let count = program.rows().len() as u64;
     let rows = artificial_rows(alloc, program.rows(), program.right(), columns)?;
-    let cost = artificial_cost(alloc, columns, count)?;
-    let mut spare = Vec::new(alloc);
-    match price(alloc, &cost, &rows, &mut spare) {
+    match first_objective(alloc, rows.as_slice(), columns, count) {
         Ok(objective) => {
             let tableau = Tableau::new(rows, objective);
+            let mut spare = Vec::new(alloc);
             first_phase(alloc, program, tableau, pivots, &mut spare)
         }
         Err(fault) => stopped(fault, 0),
@@ -190,7 +191,8 @@ pub fn solve(alloc: Global, program: &Standard, pivots: u64) -> Result<Outcome, 
     ensures exact { IfOk result (Tells (solution program.now pivots)) }
     ensures certified { IfOk result (Shows program.now) }
     ensures feasible { EndsInUnits program.now → IfOk result IsNotInfeasible }
-    ensures bounded { 2 * 2 ^ (program.now.columns + length program.now.rows) + length program.now.rows ≤ pivots → IfOk result IsNotPivotsEnded }
+    ensures bounded { 2 * 2 ^ (program.now.columns + length program.now.rows) + length program.now.rows ≤ pivots
+        → IfOk result IsNotPivotsEnded }
 {
     let _columns = program.columns();
     let outcome = answer(alloc, program, pivots)?;

@@ -4,7 +4,7 @@ ghost use Rattle.rationals.specs.Rational.{one_ℚ};
 ghost use Rattle.rationals.specs.Sparse.{Ascending};
 ghost use Rattle.frac128.specs.Faults.{IfNotMemory};
 ghost use Rattle.lp_defs.specs.Program.{IsFormBelow, AllFormsBelow};
-ghost use Rattle.lp_defs.specs.Phases.{unit_rows, with_units, unit_costs, priced};
+ghost use Rattle.lp_defs.specs.Phases.{unit_rows, with_units, priced};
 
 use crate::entries::{Entries, find};
 use crate::line::Line;
@@ -23,7 +23,9 @@ fn artificial_row(
     requires below { IsFormBelow first form.now }
     requires column { first ≤ column }
     ensures { IfOk result (λ row. row ≡ record {
-        basic = column; line = record { entries = form.now ++ record { column = column; value = one_ℚ } ∷ []; right = right } }) }
+      basic = column;
+      line = record { entries = form.now ++ record { column = column; value = one_ℚ } ∷ []; right = right };
+    }) }
 {
     let _first = first;
     let entries = form.terms();
@@ -55,21 +57,6 @@ pub fn artificial_rows(
         rows.push(artificial_row(alloc, &forms[index], right[index], first, column)?)?;
     }
     Ok(rows)
-}
-
-/// A cost of 1 in each of `count` columns from `first` on.
-pub fn artificial_cost(alloc: Global, first: u64, count: u64) -> Result<Vec<Term>, Memory>
-    requires { first + count < 2 ^ 64 }
-    ensures { IfOk result (λ cost. cost.items ≡ unit_costs first count) }
-{
-    let mut cost = Vec::new(alloc);
-    for column in first..first + count {
-        cost.push(Term {
-            column,
-            value: Frac::one(),
-        })?;
-    }
-    Ok(cost)
 }
 
 /// The cost less, for each row in order, its basic column's cost times the row.
