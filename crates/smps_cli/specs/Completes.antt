@@ -1,9 +1,8 @@
 -- When a run must end with a report.
-use Rattle.std.specs.Prelude.{◌≡◌, ◌≤◌, ◌⊎◌, ℕ, List, length, Option, Some}
+use Rattle.std.specs.Prelude.{◌≡◌, ◌≤◌, ◌⊎◌, ℕ, List, length, Option, Some, None}
 use Rattle.smps_words.specs.Line.{reading_of}
 use Rattle.smps_io.specs.Files.{Files, bytes_of}
 use Rattle.core_defs.specs.Fault.{IsCoreFile}
-use Rattle.command_words.specs.Words.{FileNames}
 use Rattle.command_words.specs.Words.Asked.{SolveThese}
 use Rattle.input_files.specs.Fetched.{file_limit}
 use Rattle.core_defs.specs.declared.cause.Cause.TheVariants.{Passes}
@@ -15,16 +14,16 @@ use Rattle.smps_cli.specs.Built.{running}
 
 -- The words ask for a core file that can be solved, and the shelf tells its bytes.
 pub record AsksForReport (content : Option Files) (words : List (List ℕ)) : Type 0 where
-  -- the words are `solve` and name this core file
-  pub names : FileNames
+  -- the words are `solve` and name this core file alone
+  pub name : List ℕ
   pub pivots : ℕ
-  pub command : running words ≡ Some (SolveThese names pivots)
+  pub command : running words ≡ Some (SolveThese (record { core = name; time = None; stoch = None }) pivots)
   -- the shelf tells what it holds, and that the file isn't too long
   pub files : Files
   pub told : content ≡ Some files
-  pub within : length (bytes_of files names.core) ≤ file_limit
+  pub within : length (bytes_of files name) ≤ file_limit
   -- no line is at fault and no section is missing
-  pub read : IsCoreFile (reading_of 0 (bytes_of files names.core)).lines
+  pub read : IsCoreFile (reading_of 0 (bytes_of files name)).lines
 
 -- the command ended with a report; or an end of a row's interval doesn't fit into 128 bits; or memory was wanting
 abbrev pub EndsOrWantsMemory : Status → Type 0

@@ -1,5 +1,5 @@
 //! What a run comes to before anything is written.
-ghost use Rattle.std.specs.Prelude.{◌≡◌, ◌≢◌, ◌<◌, None, Some, IfOk, OnOk, map, string_bytes};
+ghost use Rattle.std.specs.Prelude.{◌≡◌, ◌≢◌, ◌<◌, ◌≤◌, true, None, IfOk, length, map, string_bytes};
 ghost use Rattle.std.specs.Option.{option_map};
 ghost use Rattle.smps_io.specs.Faults.{Rose, RoseBy};
 ghost use Rattle.command_words.specs.Views.{asked, sources_view};
@@ -58,7 +58,8 @@ fn sources_of<'a>(command: &Command<'a>) -> Sources<'a>
 
 /// What a command that runs comes to on its texts.
 fn come(alloc: Global, command: &Command<'_>, texts: &Texts) -> Result<Answer, Memory>
-    requires { is_built (asked command.now) ≡ true }
+    requires built { is_built (asked command.now) ≡ true }
+    requires within { length texts.now.core.items ≤ file_limit }
     ensures may { IfOk result (λ answer. MayCome (asked command.now) (texts_view texts.now) answer.status answer.output.items) }
     ensures not_words { IfOk result (λ answer. answer.status ≢ Status.Words) }
     ensures not_written { IfOk result (λ answer. answer.status ≢ Status.WriteFault) }
