@@ -1,5 +1,5 @@
 -- What a run answers and writes.
-use Rattle.std.specs.Prelude.{◌≡◌, ◌⊎◌, ℕ, List, Option, Some, None}
+use Rattle.std.specs.Prelude.{◌≡◌, ◌⊎◌, ⊤, ℕ, List, length, Option, Some, None}
 use Rattle.smps_io.specs.Faults.{RoseBy}
 use Rattle.smps_io.specs.Files.{Files}
 use Rattle.smps_io.specs.Puts.{Appends, AppendsPrefix}
@@ -54,15 +54,26 @@ MayAnswerFor (Some asked) content status output = SaysReadFault (files_of asked)
 abbrev pub MayAnswer : Option Files → List (List ℕ) → Status → List ℕ → Type 0
 MayAnswer content words status output = MayAnswerFor (running words) content status output
 
--- The run came to a status and an output. It answers this status and the sink has the whole output; or the sink
--- failed or memory was wanting, and the sink has a prefix of it.
-pub record Written (content : Option Files) (words : List (List ℕ)) (before after : Option (List ℕ)) (status : Status) : Type 0 where
+-- The run came to a status and an output. It answers this status, the sink has the whole output, and has taken as many bytes as
+-- that has; or the sink failed or memory was wanting, and the sink has a prefix of it.
+pub record Written (content : Option Files) (words : List (List ℕ)) (before after : Option (List ℕ)) (taken taken_after : ℕ) (status : Status) : Type 0 where
   pub meant : Status
   pub output : List ℕ
   pub may : MayAnswer content words meant output
   pub prefix : AppendsPrefix before output after
-  pub ends : ((status ≡ meant) × Appends before output after) ⊎ (status ≡ WriteFault) ⊎ (status ≡ Memory)
+  pub ends : ((status ≡ meant) × Appends before output after × RoseBy taken (length output) taken_after) ⊎ (status ≡ WriteFault) ⊎ (status ≡ Memory)
 
 -- memory was wanting before anything was written, or see above
-abbrev pub Answers : Option Files → List (List ℕ) → Option (List ℕ) → Option (List ℕ) → Status → Type 0
-Answers content words before after status = Written content words before after status ⊎ ((status ≡ Memory) × (after ≡ before))
+abbrev pub Answers : Option Files → List (List ℕ) → Option (List ℕ) → Option (List ℕ) → ℕ → ℕ → Status → Type 0
+Answers content words before after taken taken_after status = Written content words before after taken taken_after status ⊎ ((status ≡ Memory) × (after ≡ before))
+
+-- A status that comes after all files were given.
+abbrev pub HasTexts : Status → Type 0
+HasTexts Done = ⊤
+HasTexts SomeOpen = ⊤
+HasTexts Words = ⊥
+HasTexts (Refused file line cause) = ⊤
+HasTexts (TooLong file) = ⊥
+HasTexts (ReadFault file) = ⊥
+HasTexts WriteFault = ⊥
+HasTexts Memory = ⊥

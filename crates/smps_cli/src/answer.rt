@@ -1,12 +1,13 @@
 //! What a run comes to before anything is written.
-ghost use Rattle.std.specs.Prelude.{◌≡◌, ◌≢◌, ◌<◌, ◌≤◌, true, None, IfOk, length, map, string_bytes};
+ghost use Rattle.std.specs.Prelude.{◌≡◌, ◌≢◌, ◌<◌, ◌≤◌, true, None, Some, IfOk, length, map, string_bytes};
 ghost use Rattle.std.specs.Option.{option_map};
 ghost use Rattle.smps_io.specs.Faults.{Rose, RoseBy};
+ghost use Rattle.command_words.specs.Words.{Asked};
 ghost use Rattle.command_words.specs.Views.{asked, sources_view};
 ghost use Rattle.input_files.specs.Fetched.{AreGiven, file_limit, file_count};
 ghost use Rattle.input_files.specs.Unfetched.{texts_view};
 ghost use Rattle.input_files.specs.declared.kind.FileKind.{FileKind};
-ghost use Rattle.smps_cli.specs.Answers.{MayAnswer, MayAnswerFor, MayCome};
+ghost use Rattle.smps_cli.specs.Answers.{MayAnswer, MayAnswerFor, MayCome, HasTexts};
 ghost use Rattle.smps_cli.specs.Built.{running, is_built, files_of};
 ghost use Rattle.smps_cli.specs.Lines.{status_line};
 
@@ -84,6 +85,8 @@ pub(crate) fn answered<R: Runtime, H: Shelf>(
     ensures written { IfOk result (λ answer. answer.status ≢ Status.WriteFault) }
     ensures read { IfOk result (λ answer. (kind : FileKind) → answer.status ≡ Status.ReadFault kind → Rose (H.faults shelf.old) (H.faults shelf.new)) }
     ensures long { IfOk result (λ answer. (kind : FileKind) → answer.status ≡ Status.TooLong kind → file_limit < H.given shelf.new) }
+    ensures fetched { IfOk result (λ answer. HasTexts answer.status → (command : Asked) → running (map string_bytes words.now) ≡ Some command
+        → RoseBy (H.fetches shelf.old) (file_count (files_of command)) (H.fetches shelf.new)) }
     ensures none_fetched { running (map string_bytes words.now) ≡ None → H.fetches shelf.new ≡ H.fetches shelf.old }
 {
     let Some(command) = running(alloc, words)? else {

@@ -59,7 +59,12 @@ fn unbuilt(alloc: Global, core: &Core, fault: BuildFault) -> Result<Answer, Memo
 }
 
 /// The answer for the program of a core.
-fn solved_program(alloc: Global, core: &Core, program: &Program, pivots: u64) -> Result<Answer, Memory>
+fn solved_program(
+    alloc: Global,
+    core: &Core,
+    program: &Program,
+    pivots: u64,
+) -> Result<Answer, Memory>
     requires kept { IsCore core.now }
     requires states { single_walk core.now ≡ Ok (content program.now) }
     ensures { IfOk result (λ answer. PrintsReportOf pivots core.now answer.output.items answer.status) }
