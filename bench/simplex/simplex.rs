@@ -119,6 +119,7 @@ fn subtract(
     entries.clear();
     entries.reserve_exact(work.spare.len());
     entries.extend_from_slice(&work.spare);
+    entries.shrink_to_fit();
     Ok(())
 }
 

@@ -118,7 +118,7 @@ fn divide_all(terms: &mut [Term], by: Frac) -> Result<(), FormFault>
     Ok(())
 }
 
-/// Makes `kept` hold these terms. Where it has no room for them it gets as much as they take, and no more.
+/// Makes `kept` hold these terms, in as much memory as they take and no more.
 fn copy(kept: &mut Vec<Term>, terms: &[Term]) -> Result<(), Memory>
     ensures ok { OnOk result (kept.new.items ≡ terms.now) }
     ensures err { OnErr result (kept.new.items ≡ []) }
@@ -126,6 +126,7 @@ fn copy(kept: &mut Vec<Term>, terms: &[Term]) -> Result<(), Memory>
     kept.clear();
     kept.reserve_exact(terms.len())?;
     kept.extend_from_slice(terms)?;
+    kept.shrink_to_fit();
     Ok(())
 }
 
