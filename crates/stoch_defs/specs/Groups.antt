@@ -11,10 +11,19 @@ use Rattle.stoch_defs.specs.Section.{Place, first_place, section_of, is_end, mod
 
 -- ---- the data lines with their places
 
+-- the mode behind a header
+abbrev pub mode_behind : StochSection → List (List ℕ) → Mode
+mode_behind sections.Indep fields = unwrap_or (mode_of fields) modes.Replace
+mode_behind sections.Blocks fields = unwrap_or (mode_of fields) modes.Replace
+mode_behind sections.Scenarios fields = unwrap_or (mode_of fields) modes.Replace
+mode_behind sections.Start fields = modes.Replace
+mode_behind sections.Stoch fields = modes.Replace
+mode_behind sections.End fields = modes.Replace
+
 -- the place behind a header; nothing comes behind ENDATA
 abbrev pub entered_if : Place → List (List ℕ) → Option StochSection → Place
 entered_if at fields None = at
-entered_if at fields (Some section) = entered at (unwrap_or (mode_of fields) modes.Replace) section
+entered_if at fields (Some section) = entered at (mode_behind section fields) section
 
 abbrev pub behind : Place → List (List ℕ) → Place
 behind at [] = at
