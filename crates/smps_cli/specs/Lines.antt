@@ -1,9 +1,12 @@
 -- The one line that a status prints, and the exit status of the program.
-use Rattle.std.specs.Prelude.{ℕ, List, [], ◌∷◌, ◌++◌, codes}
+use Rattle.std.specs.Prelude.{ℕ, List, [], ◌∷◌, ◌++◌, Option, Some, None, get_or, codes}
 use Rattle.std.specs.Fmt.{decimal}
 use Rattle.core_defs.specs.declared.cause.Cause.{Cause}
 use Rattle.core_defs.specs.declared.cause.Cause.TheVariants as cause
 use Rattle.core_defs.specs.Cause.{number_of_cause}
+use Rattle.core_defs.specs.Core.{row_names, column_names}
+use Rattle.core_defs.specs.declared.program.Core.{Core as CoreOf}
+use Rattle.frac128.specs.Text.{text_of}
 use Rattle.report_text.specs.Text.{operation_text}
 use Rattle.input_files.specs.declared.kind.FileKind.{FileKind}
 use Rattle.input_files.specs.declared.kind.FileKind.TheVariants.{Core, Time, Stoch, Edits, Report, Trace}
@@ -18,21 +21,38 @@ file_word Edits = codes "edits"
 file_word Report = codes "report"
 file_word Trace = codes "trace"
 
--- what stands behind the number of a cause: the operation that passes
-abbrev pub values_text : Cause → List ℕ
-values_text (cause.Passes p) = 32 ∷ operation_text p
-values_text _ = []
+-- the names of a row and of a column, where the core is known
+abbrev pub row_name : Option CoreOf → ℕ → List ℕ
+row_name None row = []
+row_name (Some core) row = get_or (row_names core.rows.items) row []
+
+abbrev pub column_name : Option CoreOf → ℕ → List ℕ
+column_name None column = []
+column_name (Some core) column = get_or (column_names core.columns.items) column []
+
+-- what stands behind the number of a cause: names, a sum, or the operation that passes
+abbrev pub values_text : Option CoreOf → Cause → List ℕ
+values_text known (cause.NotTriangular row column) = 32 ∷ row_name known row ++ 32 ∷ column_name known column
+values_text known (cause.RowMissing row) = 32 ∷ row_name known row
+values_text known (cause.ColumnMissing column) = 32 ∷ column_name known column
+values_text known (cause.ProbabilitySum sum) = 32 ∷ text_of sum
+values_text known (cause.Passes p) = 32 ∷ operation_text p
+values_text known _ = []
 
 -- a file, by its word, is refused at this line for the cause of this number
 abbrev pub numbered_text : List ℕ → ℕ → ℕ → List ℕ
 numbered_text word line number = codes "refused " ++ word ++ codes " line " ++ decimal line ++ codes ": " ++ decimal number
+
+-- a file is refused at this line for this cause; its names are those of the core, where that is known
+abbrev pub refused_text : Option CoreOf → FileKind → ℕ → Cause → List ℕ
+refused_text known file line cause = numbered_text (file_word file) line (number_of_cause cause) ++ values_text known cause ++ codes "\n"
 
 -- nothing for a command that ended, for a fault of the output and for want of memory
 abbrev pub status_line : Status → List ℕ
 status_line Done = []
 status_line SomeOpen = []
 status_line Words = codes "words refused\n"
-status_line (Refused file line cause) = numbered_text (file_word file) line (number_of_cause cause) ++ values_text cause ++ codes "\n"
+status_line (Refused file line cause) = refused_text None file line cause
 status_line (TooLong file) = codes "refused " ++ file_word file ++ codes ": too long\n"
 status_line (ReadFault file) = codes "read failed: " ++ file_word file ++ codes "\n"
 status_line WriteFault = []

@@ -1,8 +1,9 @@
 //! How a run ends, and the line that says so.
-ghost use Rattle.std.specs.Prelude.{◌≡◌, ◌++◌, IfOk, OnOk};
-ghost use Rattle.smps_cli.specs.Lines.{file_word, numbered_text, values_text, status_line, status_number};
+ghost use Rattle.std.specs.Prelude.{◌≡◌, ◌++◌, ◌∷◌, IfOk, OnOk};
+ghost use Rattle.smps_cli.specs.Lines.{file_word, row_name, column_name, numbered_text, values_text, refused_text, status_line, status_number};
 
-use frac128::Memory;
+use core_defs::Core;
+use frac128::{Memory, print};
 use input_files::FileKind;
 use mps_core::Cause;
 use report_text::print_operation;
@@ -65,7 +66,9 @@ impl Status {
     {
         match self {
             Status::Words => line_of(alloc, "words refused\n"),
-            Status::Refused(file, line, cause) => refused_line(alloc, *file, *line, *cause),
+            Status::Refused(file, line, cause) => {
+                refused_line(alloc, &None, *file, *line, *cause)
+            }
             Status::TooLong(file) => too_long_line(alloc, *file),
             Status::ReadFault(file) => failed_line(alloc, *file),
             Status::Done | Status::SomeOpen | Status::WriteFault | Status::Memory => {
@@ -82,11 +85,18 @@ fn line_of(alloc: Global, text: &str) -> Result<Vec<u8>, Memory>
     Ok(line)
 }
 
-fn refused_line(alloc: Global, file: FileKind, line: u32, cause: Cause) -> Result<Vec<u8>, Memory>
-    ensures { IfOk result (λ text. text.items ≡ status_line (Status.Refused file line cause)) }
+/// The line of a refusal; the names that a cause tells by number are those of the core.
+pub(crate) fn refused_line(
+    alloc: Global,
+    core: &Option<Core>,
+    file: FileKind,
+    line: u32,
+    cause: Cause,
+) -> Result<Vec<u8>, Memory>
+    ensures { IfOk result (λ text. text.items ≡ refused_text core.now file line cause) }
 {
     let mut text = numbered(alloc, file_word(file), line, cause.number())?;
-    put_values(alloc, &mut text, cause)?;
+    put_values(alloc, &mut text, core, cause)?;
     text.extend_from_slice(b"\n")?;
     Ok(text)
 }
@@ -105,16 +115,57 @@ fn numbered(alloc: Global, word: &str, line: u32, number: u32) -> Result<Vec<u8>
 }
 
 /// Appends what stands behind the number of a cause.
-fn put_values(alloc: Global, text: &mut Vec<u8>, cause: Cause) -> Result<(), Memory>
-    ensures { OnOk result (text.new.items ≡ text.old.items ++ values_text cause) }
+fn put_values(
+    alloc: Global,
+    text: &mut Vec<u8>,
+    core: &Option<Core>,
+    cause: Cause,
+) -> Result<(), Memory>
+    ensures { OnOk result (text.new.items ≡ text.old.items ++ values_text core.now cause) }
 {
     match cause {
+        Cause::NotTriangular { row, column } => {
+            put_row(text, core, row)?;
+            put_column(text, core, column)
+        }
+        Cause::RowMissing(row) => put_row(text, core, row),
+        Cause::ColumnMissing(column) => put_column(text, core, column),
+        Cause::ProbabilitySum(sum) => {
+            text.extend_from_slice(b" ")?;
+            print(alloc, sum, text)
+        }
         Cause::Passes(passed) => {
             text.extend_from_slice(b" ")?;
             print_operation(alloc, passed, text)
         }
         _ => Ok(()),
     }
+}
+
+/// Appends the name of a row behind a blank.
+fn put_row(text: &mut Vec<u8>, core: &Option<Core>, row: u64) -> Result<(), Memory>
+    ensures { OnOk result (text.new.items ≡ text.old.items ++ 32 ∷ row_name core.now row) }
+{
+    text.extend_from_slice(b" ")?;
+    if let Some(core) = core {
+        if (row as usize) < core.rows.len() {
+            text.extend_from_slice(core.rows[row as usize].name.as_bytes())?;
+        }
+    }
+    Ok(())
+}
+
+/// Appends the name of a column behind a blank.
+fn put_column(text: &mut Vec<u8>, core: &Option<Core>, column: u64) -> Result<(), Memory>
+    ensures { OnOk result (text.new.items ≡ text.old.items ++ 32 ∷ column_name core.now column) }
+{
+    text.extend_from_slice(b" ")?;
+    if let Some(core) = core {
+        if (column as usize) < core.columns.len() {
+            text.extend_from_slice(core.columns[column as usize].name.as_bytes())?;
+        }
+    }
+    Ok(())
 }
 
 fn too_long_line(alloc: Global, file: FileKind) -> Result<Vec<u8>, Memory>

@@ -1,0 +1,3 @@
+pub mod Meant
+pub mod Refused
+pub mod Views

@@ -1,0 +1,45 @@
+-- What reading the three texts gives.
+use Rattle.std.specs.Prelude.{⊤, ℕ, List, Option, Some, None, Result, Ok, Err, Vec}
+use Rattle.std.specs.Option.{option_map}
+use Rattle.std.specs.declared.alloc.Global.{Global}
+use Rattle.core_defs.specs.declared.cause.ReadFail.{ReadFail}
+use Rattle.core_defs.specs.declared.cause.ReadFail.TheVariants as fail
+use Rattle.core_defs.specs.declared.program.Core.{Core}
+use Rattle.time_defs.specs.declared.periods.Periods.{Periods}
+use Rattle.time_defs.specs.Means.{Stages}
+use Rattle.time_defs.specs.Laws.{IsTimeReading}
+use Rattle.smps_time.specs.View.{stages_view}
+use Rattle.stoch_defs.specs.declared.stoch.Stoch.{Stoch}
+use Rattle.stoch_defs.specs.Random.{content as content_of}
+use Rattle.stoch_defs.specs.File.{IsStochReading}
+use Rattle.scen_defs.specs.declared.program.Program.{Program}
+use Rattle.scen_defs.specs.Program.{content}
+use Rattle.input_files.specs.Fetched.{Texts}
+use Rattle.program_files.specs.declared.reading.Unread.{Unread}
+use Rattle.program_files.specs.declared.reading.Unread.TheVariants.{Refused, Memory}
+use Rattle.program_files.specs.Meant.{MeansPeriods, MeansRandom, MeansProgram}
+use Rattle.program_files.specs.Refused.{RefusesProgram}
+
+-- the bytes of a text that need not be there
+abbrev pub text_of : Option (Vec ℕ Global) → Option (List ℕ)
+text_of = option_map (λ (bytes : Vec ℕ Global). bytes.items)
+
+-- the periods that the time file means, or its first fault, or memory was wanting
+abbrev pub GivesPeriods : Core → Option (List ℕ) → Result Periods ReadFail → Type 0
+GivesPeriods core text (Ok periods) = MeansPeriods core text (stages_view periods)
+GivesPeriods core text (Err fail.Memory) = ⊤
+GivesPeriods core None (Err (fail.Refused refusal)) = ⊥
+GivesPeriods core (Some text) (Err (fail.Refused refusal)) = IsTimeReading core text (Err refusal)
+
+-- the cases of the stoch file, or its first fault, or memory was wanting
+abbrev pub GivesRandom : Core → Stages → Option (List ℕ) → Result Stoch ReadFail → Type 0
+GivesRandom core p text (Ok stoch) = MeansRandom core p text (content_of stoch)
+GivesRandom core p text (Err fail.Memory) = ⊤
+GivesRandom core p None (Err (fail.Refused refusal)) = ⊥
+GivesRandom core p (Some text) (Err (fail.Refused refusal)) = IsStochReading core p text (Err refusal)
+
+-- the program that the texts mean, or their first fault, or memory was wanting
+abbrev pub MeansOrRefused : Texts → Result Program Unread → Type 0
+MeansOrRefused texts (Ok program) = MeansProgram texts (content program)
+MeansOrRefused texts (Err (Refused file refusal core)) = RefusesProgram texts file refusal core
+MeansOrRefused texts (Err Memory) = ⊤
