@@ -2,7 +2,11 @@
 use Rattle.std.specs.Prelude.{⊤, ℕ, List, Option, Some, None, Result, Ok, Err, Vec}
 use Rattle.std.specs.Option.{option_map}
 use Rattle.std.specs.declared.alloc.Global.{Global}
+use Rattle.input_files.specs.declared.kind.FileKind.{FileKind}
+use Rattle.core_defs.specs.declared.cause.Cause.TheVariants.{ScenarioLimit, Passes}
 use Rattle.core_defs.specs.declared.cause.ReadFail.{ReadFail}
+use Rattle.smps_build.specs.declared.fault.BuildFault.{BuildFault}
+use Rattle.smps_build.specs.declared.fault.BuildFault.TheVariants as build_fault
 use Rattle.core_defs.specs.declared.cause.ReadFail.TheVariants as fail
 use Rattle.core_defs.specs.declared.program.Core.{Core}
 use Rattle.time_defs.specs.declared.periods.Periods.{Periods}
@@ -37,6 +41,17 @@ GivesRandom core p text (Ok stoch) = MeansRandom core p text (content_of stoch)
 GivesRandom core p text (Err fail.Memory) = ⊤
 GivesRandom core p None (Err (fail.Refused refusal)) = ⊥
 GivesRandom core p (Some text) (Err (fail.Refused refusal)) = IsStochReading core p text (Err refusal)
+
+-- what stops the reading of a file
+abbrev pub unread_of : FileKind → ReadFail → Option Core → Unread
+unread_of file (fail.Refused refusal) known = Refused file refusal known
+unread_of file fail.Memory known = Memory
+
+-- what stops the building of a program: it is told at line 0
+abbrev pub unbuilt_of : FileKind → BuildFault → Core → Unread
+unbuilt_of file build_fault.Limit core = Refused file (record { line = 0; cause = ScenarioLimit }) (Some core)
+unbuilt_of file (build_fault.Passed p) core = Refused file (record { line = 0; cause = Passes p }) (Some core)
+unbuilt_of file build_fault.Memory core = Memory
 
 -- the program that the texts mean, or their first fault, or memory was wanting
 abbrev pub MeansOrRefused : Texts → Result Program Unread → Type 0

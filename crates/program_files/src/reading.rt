@@ -1,15 +1,17 @@
 //! Reads three texts.
-ghost use Rattle.std.specs.Prelude.{◌≡◌, ◌≤◌, ◌<◌, ◌^◌, IfOk, IfSome, length};
-ghost use Rattle.core_defs.specs.declared.program.Core.{Core};
-ghost use Rattle.time_defs.specs.Means.{Stages};
+ghost use Rattle.std.specs.Prelude.{◌≡◌, ◌≤◌, Some, IfOk, IfSome, length};
+ghost use Rattle.core_defs.specs.declared.cause.Cause.{Cause};
+ghost use Rattle.stoch_defs.specs.Random.{content as content_of};
+ghost use Rattle.build_defs.specs.Built.{built, exceeds};
 ghost use Rattle.smps_time.specs.View.{stages_view};
 ghost use Rattle.input_files.specs.Fetched.{file_limit};
 ghost use Rattle.input_files.specs.Unfetched.{texts_view};
-ghost use Rattle.tree_build.specs.Walks.{Fits};
+ghost use Rattle.program_files.specs.Stub.{Fits, IsBuilt};
 ghost use Rattle.program_files.specs.Meant.{AreWithin, MeansCore, MeansPeriods, MeansRandom};
-ghost use Rattle.program_files.specs.Views.{text_of, GivesPeriods, GivesRandom, MeansOrRefused};
+ghost use Rattle.program_files.specs.Refused.{build_file};
+ghost use Rattle.program_files.specs.Views.{text_of, GivesPeriods, GivesRandom, MeansOrRefused, unread_of, unbuilt_of};
 
-use core_defs::{Core, ReadFail, Refusal};
+use core_defs::{Cause, Core, ReadFail, Refusal};
 use frac128::Memory;
 use input_files::{FileKind, Texts};
 use mps_core::read_core;
@@ -19,7 +21,6 @@ use smps_stoch::read_stoch;
 use smps_time::{Periods, read_time};
 use std::alloc::Global;
 use stoch_defs::Stoch;
-use tree_build::build;
 
 /// Why the texts give no program.
 #[derive(Drop)]
@@ -58,5 +59,117 @@ fn read_cases(
     match text {
         Some(text) => read_stoch(alloc, text, core, periods),
         None => Ok(Stoch::Blocks(Vec::new(alloc))),
+    }
+}
+
+fn build(
+    _alloc: Global,
+    _core: &Core,
+    _periods: &Periods,
+    _stoch: &Stoch,
+) -> Result<Program, BuildFault>
+    requires { Fits _core.now (stages_view _periods.now) }
+    ensures { IsBuilt (exceeds _core.now (stages_view _periods.now) (content_of _stoch.now)) (built _core.now (stages_view _periods.now) (content_of _stoch.now)) result }
+{
+    Err(BuildFault::Memory)
+}
+
+/// What stops the reading of this file.
+fn stopped(file: FileKind, fail: ReadFail, core: Option<Core>) -> Unread
+    ensures { result ≡ unread_of file fail core }
+{
+    match fail {
+        ReadFail::Refused(refusal) => Unread::Refused(file, refusal, core),
+        ReadFail::Memory => Unread::Memory,
+    }
+}
+
+/// Which file refuses a program that isn't built: the stoch file where there is one, else the core file.
+fn build_file(stoch: &Option<Vec<u8>>) -> FileKind
+    ensures { result ≡ build_file (text_of stoch.now) }
+{
+    match stoch {
+        Some(_) => FileKind::Stoch,
+        None => FileKind::Core,
+    }
+}
+
+/// What stops the building of a program.
+fn unbuilt(file: FileKind, fault: BuildFault, core: Core) -> Unread
+    ensures { result ≡ unbuilt_of file fault core }
+{
+    match fault {
+        BuildFault::Limit => refused_at_0(file, Cause::ScenarioLimit, core),
+        BuildFault::Passed(passed) => refused_at_0(file, Cause::Passes(passed), core),
+        BuildFault::Memory => Unread::Memory,
+    }
+}
+
+fn refused_at_0(file: FileKind, cause: Cause, core: Core) -> Unread
+    ensures { result ≡ Unread.Refused file (record { line = 0; cause = cause }) (Some core) }
+{
+    Unread::Refused(file, Refusal { line: 0, cause }, Some(core))
+}
+
+/// The program of a core, its periods and its cases.
+fn with_cases(
+    alloc: Global,
+    texts: &Texts,
+    core: Core,
+    periods: &Periods,
+    stoch: &Stoch,
+) -> Result<Program, Unread>
+    requires core { MeansCore texts.now.core.items core }
+    requires fits { Fits core (stages_view periods.now) }
+    requires periods { MeansPeriods core (text_of texts.now.time) (stages_view periods.now) }
+    requires cases { MeansRandom core (stages_view periods.now) (text_of texts.now.stoch) (content_of stoch.now) }
+    ensures { MeansOrRefused (texts_view texts.now) result }
+{
+    match build(alloc, &core, periods, stoch) {
+        Ok(program) => Ok(program),
+        Err(fault) => Err(unbuilt(build_file(&texts.stoch), fault, core)),
+    }
+}
+
+/// The program of a core and its periods: reads the stoch file.
+fn with_periods(
+    alloc: Global,
+    texts: &Texts,
+    core: Core,
+    periods: &Periods,
+) -> Result<Program, Unread>
+    requires within { AreWithin (texts_view texts.now) }
+    requires core { MeansCore texts.now.core.items core }
+    requires fits { Fits core (stages_view periods.now) }
+    requires periods { MeansPeriods core (text_of texts.now.time) (stages_view periods.now) }
+    ensures { MeansOrRefused (texts_view texts.now) result }
+{
+    match read_cases(alloc, &texts.stoch, &core, periods) {
+        Ok(stoch) => with_cases(alloc, texts, core, periods, &stoch),
+        Err(fail) => Err(stopped(FileKind::Stoch, fail, Some(core))),
+    }
+}
+
+/// The program of a core: reads the time file.
+fn with_core(alloc: Global, texts: &Texts, core: Core) -> Result<Program, Unread>
+    requires within { AreWithin (texts_view texts.now) }
+    requires core { MeansCore texts.now.core.items core }
+    ensures { MeansOrRefused (texts_view texts.now) result }
+{
+    match read_periods(alloc, &texts.time, &core) {
+        Ok(periods) => with_periods(alloc, texts, core, &periods),
+        Err(fail) => Err(stopped(FileKind::Time, fail, Some(core))),
+    }
+}
+
+/// The program that the texts mean; else the first fault: that of the core, then of the time file, then of the stoch file, and
+/// at last that of building, which is told at line 0 of the stoch file, or of the core file where there is none.
+pub fn read_program(alloc: Global, texts: &Texts) -> Result<Program, Unread>
+    requires { AreWithin (texts_view texts.now) }
+    ensures { MeansOrRefused (texts_view texts.now) result }
+{
+    match read_core(alloc, &texts.core) {
+        Ok(core) => with_core(alloc, texts, core),
+        Err(fail) => Err(stopped(FileKind::Core, fail, None)),
     }
 }
