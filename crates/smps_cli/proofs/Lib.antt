@@ -2,3 +2,5 @@ pub mod NodeLemmas
 pub mod PrintLemmas
 pub mod AnswerLemmas
 pub mod CompleteLemmas
+pub mod GivenLemmas
+pub mod ShowLemmas

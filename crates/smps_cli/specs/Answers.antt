@@ -13,6 +13,7 @@ use Rattle.smps_cli.specs.declared.status.Status.TheVariants.{Done, SomeOpen, Wo
 use Rattle.smps_cli.specs.Built.{running, files_of}
 use Rattle.smps_cli.specs.Lines.{status_line}
 use Rattle.smps_cli.specs.Printed.{PrintsTrueReport, IsRefusedAt}
+use Rattle.smps_cli.specs.Shown.{MayBeShown}
 
 -- What the bytes of a core file may come to, where so many pivots are allowed.
 abbrev pub MayBeSolved : ℕ → List ℕ → Status → List ℕ → Type 0
@@ -28,7 +29,7 @@ MayBeSolved pivots bytes Memory output = ⊥
 -- What a command may come to on the texts of its files.
 abbrev pub MayCome : Asked → Texts → Status → List ℕ → Type 0
 MayCome (SolveThese names pivots) texts status output = MayBeSolved pivots texts.core status output
-MayCome (ShowThese names) texts status output = ⊥
+MayCome (ShowThese names) texts status output = MayBeShown texts status output
 
 -- A file is too long, and the line says so.
 abbrev pub SaysTooLong : Option Files → FileNames → Status → List ℕ → Type 0

@@ -3,10 +3,10 @@ use Rattle.std.specs.Prelude.{ℕ, Bool, true, false, List, Option, Some, None, 
 use Rattle.command_words.specs.Words.{FileNames, Asked, command_of, then_some}
 use Rattle.command_words.specs.Words.Asked.{SolveThese, ShowThese}
 
--- `solve` runs for a core file alone; other words of commands are refused as words that are none
+-- `show` runs, and `solve` for a core file alone; else `solve` is refused as words that are none
 abbrev pub is_built : Asked → Bool
 is_built (SolveThese names pivots) = is_none names.time
-is_built (ShowThese names) = false
+is_built (ShowThese names) = true
 
 -- the command that runs
 abbrev pub running : List (List ℕ) → Option Asked

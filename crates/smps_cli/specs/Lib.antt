@@ -2,5 +2,6 @@ pub mod Lines
 pub mod Built
 pub mod Findings
 pub mod Printed
+pub mod Shown
 pub mod Answers
 pub mod Completes

@@ -47,16 +47,19 @@ numbered_text word line number = codes "refused " ++ word ++ codes " line " ++ d
 abbrev pub refused_text : Option CoreOf → FileKind → ℕ → Cause → List ℕ
 refused_text known file line cause = numbered_text (file_word file) line (number_of_cause cause) ++ values_text known cause ++ codes "\n"
 
--- nothing for a command that ended, for a fault of the output and for want of memory
+-- nothing for a command that ended, for a fault of the output and for want of memory; a refusal has names of the core, where that is known
+abbrev pub line_with : Option CoreOf → Status → List ℕ
+line_with known Done = []
+line_with known SomeOpen = []
+line_with known Words = codes "words refused\n"
+line_with known (Refused file line cause) = refused_text known file line cause
+line_with known (TooLong file) = codes "refused " ++ file_word file ++ codes ": too long\n"
+line_with known (ReadFault file) = codes "read failed: " ++ file_word file ++ codes "\n"
+line_with known WriteFault = []
+line_with known Memory = []
+
 abbrev pub status_line : Status → List ℕ
-status_line Done = []
-status_line SomeOpen = []
-status_line Words = codes "words refused\n"
-status_line (Refused file line cause) = refused_text None file line cause
-status_line (TooLong file) = codes "refused " ++ file_word file ++ codes ": too long\n"
-status_line (ReadFault file) = codes "read failed: " ++ file_word file ++ codes "\n"
-status_line WriteFault = []
-status_line Memory = []
+status_line = line_with None
 
 abbrev pub status_number : Status → ℕ
 status_number Done = 0

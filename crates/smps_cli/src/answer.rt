@@ -1,5 +1,5 @@
 //! What a run comes to before anything is written.
-ghost use Rattle.std.specs.Prelude.{◌≡◌, ◌≢◌, ◌<◌, ◌≤◌, true, None, Some, IfOk, length, map, string_bytes};
+ghost use Rattle.std.specs.Prelude.{◌≡◌, ◌≢◌, ◌<◌, true, None, Some, IfOk, map, string_bytes};
 ghost use Rattle.std.specs.Option.{option_map};
 ghost use Rattle.smps_io.specs.Faults.{Rose, RoseBy};
 ghost use Rattle.command_words.specs.Words.{Asked};
@@ -7,13 +7,16 @@ ghost use Rattle.command_words.specs.Views.{asked, sources_view};
 ghost use Rattle.input_files.specs.Fetched.{AreGiven, file_limit, file_count};
 ghost use Rattle.input_files.specs.Unfetched.{texts_view};
 ghost use Rattle.input_files.specs.declared.kind.FileKind.{FileKind};
+ghost use Rattle.program_files.specs.Meant.{AreWithin};
 ghost use Rattle.smps_cli.specs.Answers.{MayAnswer, MayAnswerFor, MayCome, HasTexts};
 ghost use Rattle.smps_cli.specs.Built.{running, is_built, files_of};
-ghost use Rattle.smps_cli.specs.Lines.{status_line};
+ghost use Rattle.smps_cli.specs.Lines.{line_with, status_line};
 
+use crate::show::shown;
 use crate::solve::solved;
 use crate::status::Status;
 use command_words::{Command, Sources, read_words};
+use core_defs::Core;
 use frac128::Memory;
 use input_files::{Texts, Unfetched, fetched_texts};
 use smps_io::Shelf;
@@ -43,7 +46,7 @@ fn is_built(command: &Command<'_>) -> bool
 {
     match command {
         Command::Solve { sources, pivots: _ } => sources.time.is_none(),
-        Command::Show { sources: _ } => false,
+        Command::Show { sources: _ } => true,
     }
 }
 
@@ -60,7 +63,7 @@ fn sources_of<'a>(command: &Command<'a>) -> Sources<'a>
 /// What a command that runs comes to on its texts.
 fn come(alloc: Global, command: &Command<'_>, texts: &Texts) -> Result<Answer, Memory>
     requires built { is_built (asked command.now) ≡ true }
-    requires within { length texts.now.core.items ≤ file_limit }
+    requires within { AreWithin (texts_view texts.now) }
     ensures may { IfOk result (λ answer. MayCome (asked command.now) (texts_view texts.now) answer.status answer.output.items) }
     ensures not_words { IfOk result (λ answer. answer.status ≢ Status.Words) }
     ensures not_written { IfOk result (λ answer. answer.status ≢ Status.WriteFault) }
@@ -69,7 +72,7 @@ fn come(alloc: Global, command: &Command<'_>, texts: &Texts) -> Result<Answer, M
 {
     match command {
         Command::Solve { sources: _, pivots } => solved(alloc, &texts.core, *pivots),
-        Command::Show { sources: _ } => unreachable!(),
+        Command::Show { sources: _ } => shown(alloc, texts),
     }
 }
 
@@ -104,6 +107,17 @@ pub(crate) fn answered<R: Runtime, H: Shelf>(
 pub(crate) fn one_line(alloc: Global, status: Status) -> Result<Answer, Memory>
     ensures { IfOk result (λ answer. (answer.status ≡ status) × (answer.output.items ≡ status_line status)) }
 {
-    let output = status.line(alloc)?;
+    line_answer(alloc, status, &None)
+}
+
+/// The answer of a status that prints one line; the names that a cause tells by number are those of the core.
+pub(crate) fn line_answer(
+    alloc: Global,
+    status: Status,
+    core: &Option<Core>,
+) -> Result<Answer, Memory>
+    ensures { IfOk result (λ answer. (answer.status ≡ status) × (answer.output.items ≡ line_with core.now status)) }
+{
+    let output = status.line(alloc, core)?;
     Ok(Answer { status, output })
 }

@@ -2,6 +2,7 @@
 #![tactic(auto)]
 
 mod answer;
+mod show;
 mod solve;
 mod status;
 #[cfg(test)]

@@ -1,6 +1,6 @@
 //! How a run ends, and the line that says so.
 ghost use Rattle.std.specs.Prelude.{◌≡◌, ◌++◌, ◌∷◌, IfOk, OnOk};
-ghost use Rattle.smps_cli.specs.Lines.{file_word, row_name, column_name, numbered_text, values_text, refused_text, status_line, status_number};
+ghost use Rattle.smps_cli.specs.Lines.{file_word, row_name, column_name, numbered_text, values_text, refused_text, line_with, status_line, status_number};
 
 use core_defs::Core;
 use frac128::{Memory, print};
@@ -60,15 +60,13 @@ impl Status {
     }
 
     /// The one line that is printed for the status; none for a command that ended, for a fault of the
-    /// output and for want of memory.
-    pub(crate) fn line(&self, alloc: Global) -> Result<Vec<u8>, Memory>
-        ensures { IfOk result (λ line. line.items ≡ status_line self.now) }
+    /// output and for want of memory. The names that a cause tells by number are those of the core.
+    pub(crate) fn line(&self, alloc: Global, core: &Option<Core>) -> Result<Vec<u8>, Memory>
+        ensures { IfOk result (λ line. line.items ≡ line_with core.now self.now) }
     {
         match self {
             Status::Words => line_of(alloc, "words refused\n"),
-            Status::Refused(file, line, cause) => {
-                refused_line(alloc, &None, *file, *line, *cause)
-            }
+            Status::Refused(file, line, cause) => refused_line(alloc, core, *file, *line, *cause),
             Status::TooLong(file) => too_long_line(alloc, *file),
             Status::ReadFault(file) => failed_line(alloc, *file),
             Status::Done | Status::SomeOpen | Status::WriteFault | Status::Memory => {
@@ -86,7 +84,7 @@ fn line_of(alloc: Global, text: &str) -> Result<Vec<u8>, Memory>
 }
 
 /// The line of a refusal; the names that a cause tells by number are those of the core.
-pub(crate) fn refused_line(
+fn refused_line(
     alloc: Global,
     core: &Option<Core>,
     file: FileKind,
