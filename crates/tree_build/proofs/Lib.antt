@@ -1,0 +1,3 @@
+pub mod TermLemmas
+pub mod RowLemmas
+pub mod ValueLemmas
