@@ -5,14 +5,15 @@ ghost use Rattle.smps_build.specs.Single.{column_of, row_of, rows_from, single_w
 
 use crate::fault::BuildFault;
 use crate::forms::{costs_of, row_forms};
-use crate::interval::interval;
+use crate::ends::interval;
 use core_defs::{ColumnDef, Core, RowDef};
 use frac128::Frac;
 use scen_defs::{Column, Node, NodeRow, Program, Row, Scenario};
 use smps_words::Name;
 use std::alloc::{AllocError, Global};
 
-fn copied(alloc: Global, name: &Name) -> Result<Name, AllocError>
+/// An equal name in memory of its own.
+pub fn copied(alloc: Global, name: &Name) -> Result<Name, AllocError>
     ensures { IfOk result (λ copy. copy ≡ name.now) }
 {
     Name::new(alloc, name.as_bytes())

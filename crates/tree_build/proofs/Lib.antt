@@ -1,3 +1,4 @@
 pub mod TermLemmas
 pub mod RowLemmas
 pub mod ValueLemmas
+pub mod BaseLemmas

@@ -35,6 +35,10 @@ pub record Values : Type 0 where
 abbrev pub values_content : ValuesOf → Values
 values_content d = record { cost = d.cost; rows = d.rows.items }
 
+abbrev pub all_content : List ValuesOf → List Values
+all_content [] = []
+all_content (d ∷ all) = values_content d ∷ all_content all
+
 -- a row where these entries are set
 abbrev pub row_values : Core → Sets → ℕ → RowValues
 row_values core sets i = record { row = i; entries = entries_at core sets i; rhs = value_in core sets (Rhs i) }

@@ -1,5 +1,6 @@
 //! The program on a tree that a core, its periods and its scenarios mean.
 #![tactic(auto)]
 
+mod base;
 mod terms;
 mod values;

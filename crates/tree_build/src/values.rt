@@ -104,11 +104,11 @@ fn set_rhs(rows: &mut Vec<RowValues>, row: u64, value: Frac)
 }
 
 /// Whether a column is of a stage, by the stages of all columns.
-fn is_of_stage(columns: &[u32], column: u64, stage: u32) -> bool
+fn is_of_stage(columns: &[u32], column: u64, stage: usize) -> bool
     ensures { result ≡ (nat_lt column (length columns.now) && nat_eq (get_or columns.now column 0) stage) }
 {
     let place = column as usize;
-    place < columns.len() && columns[place] == stage
+    place < columns.len() && columns[place] as usize == stage
 }
 
 /// Sets the cost of a column.
@@ -126,7 +126,7 @@ fn set(
     alloc: Global,
     core: &Core,
     periods: &Periods,
-    stage: u32,
+    stage: usize,
     values: &mut Values,
     entry: Entry,
     value: Frac,
@@ -160,7 +160,7 @@ pub(crate) fn set_all(
     alloc: Global,
     core: &Core,
     periods: &Periods,
-    stage: u32,
+    stage: usize,
     values: &mut Values,
     sets: &[(Entry, Frac)],
 ) -> Result<(), Memory>
