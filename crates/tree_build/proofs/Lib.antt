@@ -2,3 +2,4 @@ pub mod TermLemmas
 pub mod RowLemmas
 pub mod ValueLemmas
 pub mod BaseLemmas
+pub mod NumberLemmas

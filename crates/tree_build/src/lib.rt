@@ -2,5 +2,7 @@
 #![tactic(auto)]
 
 mod base;
+mod numbering;
+mod seen;
 mod terms;
 mod values;
