@@ -15,8 +15,8 @@ use Rattle.smps_build.specs.Single.{entries_from}
 use Rattle.smps_build.specs.Gathered.{forms_from}
 use Rattle.build_defs.specs.Nodes.{value_in, form_at, costs_at, entries_at, rows_at}
 use Rattle.build_defs.specs.Scenarios.{stages_from}
-use Rattle.tree_build.specs.declared.values.RowValues.{RowValues}
-use Rattle.tree_build.specs.declared.values.Values.{Values as ValuesOf}
+use Rattle.tree_build.specs.declared.parts.RowValues.{RowValues}
+use Rattle.tree_build.specs.declared.parts.Values.{Values as ValuesOf}
 use Rattle.tree_build.specs.Values.{Values, row_values, values_of, values_content, all_content}
 use Rattle.tree_build.specs.Base.{base_costs, base_row, base_rows}
 
@@ -63,6 +63,11 @@ rows_are core stage i (at ∷ stages) room =
     go true true is rest = ap₂ (λ (x : RowValues) (xs : List RowValues). x ∷ xs) (row_is core i (omega arith)) rest
     go true false is rest = cc
     go false a is rest = rest
+
+pub rows_of_base : (core : Core) (p : Stages) (stage : ℕ) (forms : List (List Term)) (rows : List RowValues) → length p.rows ≡ length core.rows.items → forms ≡ forms_from core.columns.items 0 core.rows.items →
+    rows ≡ base_rows core.rows.items forms stage 0 p.rows → rows ≡ (values_of core p [] stage).rows
+rows_of_base core p stage forms rows long made given =
+    given ∙ ap (λ (all : List (List Term)). base_rows core.rows.items all stage 0 p.rows) made ∙ rows_are core stage 0 p.rows (omega (arith, long))
 
 pub base_is : (core : Core) (p : Stages) (stage : ℕ) (forms : List (List Term)) (cost : List Term) (rows : List RowValues) → length p.rows ≡ length core.rows.items →
     forms ≡ forms_from core.columns.items 0 core.rows.items → cost ≡ base_costs core.columns.items stage 0 p.columns → rows ≡ base_rows core.rows.items forms stage 0 p.rows →

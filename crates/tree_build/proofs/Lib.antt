@@ -3,3 +3,5 @@ pub mod RowLemmas
 pub mod ValueLemmas
 pub mod BaseLemmas
 pub mod NumberLemmas
+pub mod RangeLemmas
+pub mod WheelLemmas

@@ -1,7 +1,7 @@
 -- Rows of a node.
 use Rattle.std.proofs.Common.{◌≡◌, ◌∙◌, ap, ap₂, sym, refl, subst, ℕ, zero, suc, ◌+◌, ◌<◌, ◌≤◌, Bool, true, false, List, [], ◌∷◌, length, get_or, set, take, drop, map, nat_eq, arith, if◌then◌else◌}
 use Rattle.std.proofs.lemmas.Bool.Decides.{nat_tests}
-use Rattle.tree_build.specs.declared.values.RowValues.{RowValues}
+use Rattle.tree_build.specs.declared.parts.RowValues.{RowValues}
 use Rattle.tree_build.specs.Values.{RowsFrom, RowsBelow, IsRowAt, row_past, at_row}
 
 at_least : (n m : ℕ) (rows : List RowValues) (x : RowValues) (rest : List RowValues) → RowsFrom n rows → drop m rows ≡ x ∷ rest → n ≤ x.row
@@ -71,3 +71,9 @@ rows_rise i n change (r ∷ rows) keeps rises = go (nat_eq r.row i) (rows_rise i
     go : (b : Bool) → RowsFrom (suc r.row) (at_row i change rows) → RowsFrom n ((if b then change r else r) ∷ at_row i change rows)
     go true rest = (omega (arith, keeps r, rises.0), subst (λ (k : ℕ). RowsFrom (suc k) (at_row i change rows)) (sym (keeps r)) rest)
     go false rest = (rises.0, rest)
+
+-- a row of the same number in its place
+pub rows_set : (n at : ℕ) (rows : List RowValues) (r d : RowValues) → r.row ≡ (get_or rows at d).row → RowsFrom n rows → RowsFrom n (set rows at r)
+rows_set n at [] r d same rises = tt
+rows_set n zero (x ∷ rows) r d same rises = (omega (arith, same, rises.0), subst (λ (k : ℕ). RowsFrom (suc k) rows) (sym same) rises.1)
+rows_set n (suc at) (x ∷ rows) r d same rises = (rises.0, rows_set (suc x.row) at rows r d same rises.1)

@@ -13,7 +13,7 @@ use Rattle.time_defs.specs.Means.{Stages}
 use Rattle.stoch_defs.specs.Entries.{same_entry, core_value, no_column}
 use Rattle.stoch_defs.specs.Random.{Sets}
 use Rattle.build_defs.specs.Nodes.{last_value, value_in, form_at, costs_at, entries_at, rows_at}
-use Rattle.tree_build.specs.declared.values.RowValues.{RowValues}
+use Rattle.tree_build.specs.declared.parts.RowValues.{RowValues}
 use Rattle.tree_build.specs.Values.{put_at, Values, row_values, values_of, RowsFrom, at_row, with_entry, with_rhs, with_set, with_sets}
 use Rattle.tree_build.proofs.TermLemmas.{put_before, put_here, put_apart, put_behind}
 

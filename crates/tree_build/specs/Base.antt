@@ -6,7 +6,7 @@ use Rattle.core_defs.specs.declared.parts.ColumnDef.{ColumnDef}
 use Rattle.core_defs.specs.declared.parts.RowDef.{RowDef}
 use Rattle.scen_defs.specs.Lists.{pick}
 use Rattle.stoch_defs.specs.Entries.{no_column, no_row}
-use Rattle.tree_build.specs.declared.values.RowValues.{RowValues}
+use Rattle.tree_build.specs.declared.parts.RowValues.{RowValues}
 
 -- the costs of the columns of a stage, the first of which has the number j
 abbrev pub base_costs : List ColumnDef → ℕ → ℕ → List ℕ → List Term

@@ -10,8 +10,9 @@ use Rattle.time_defs.specs.declared.periods.Periods.{Periods}
 use Rattle.time_defs.specs.Means.{Stages}
 use Rattle.stoch_defs.specs.Random.{Sets}
 use Rattle.build_defs.specs.Nodes.{value_in, costs_at, entries_at, rows_at}
-use Rattle.tree_build.specs.declared.values.RowValues.{RowValues}
-use Rattle.tree_build.specs.declared.values.Values.{Values as ValuesOf}
+pub use Rattle.tree_build.specs.Rows.{RowsFrom, RowsBelow, row_past, IsRowAt}
+use Rattle.tree_build.specs.declared.parts.RowValues.{RowValues}
+use Rattle.tree_build.specs.declared.parts.Values.{Values as ValuesOf}
 
 -- the form with this value in column j, none where it is 0
 abbrev pub put_at : ℕ → ℚ → List Term → List Term
@@ -46,25 +47,6 @@ row_values core sets i = record { row = i; entries = entries_at core sets i; rhs
 -- a node of this stage where these entries are set
 abbrev pub values_of : Core → Stages → Sets → ℕ → Values
 values_of core p sets stage = record { cost = costs_at core sets stage p.columns; rows = map (row_values core sets) (rows_at stage p.rows) }
-
--- ---- the rows rise
-
--- by their numbers, from n on
-abbrev pub RowsFrom : ℕ → List RowValues → Type 0
-RowsFrom n [] = Unit {0}
-RowsFrom n (r ∷ rows) = (n ≤ r.row) × RowsFrom (suc r.row) rows
-
-abbrev pub RowsBelow : ℕ → List RowValues → Type 0
-RowsBelow n [] = Unit {0}
-RowsBelow n (r ∷ rows) = (r.row < n) × RowsBelow n rows
-
--- what stands for a row past the last one
-abbrev pub row_past : ℕ → RowValues
-row_past n = record { row = suc n; entries = []; rhs = zero_ℚ }
-
--- row n stands in place i
-abbrev pub IsRowAt : List RowValues → ℕ → ℕ → Type 0
-IsRowAt rows i n = (i < length rows) × ((get_or rows i (row_past n)).row ≡ n)
 
 -- ---- an entry is set
 

@@ -8,7 +8,7 @@ ghost use Rattle.smps_build.specs.Gathered.{forms_from};
 ghost use Rattle.tree_build.specs.Values.{stages, row_values, values_of, all_content};
 ghost use Rattle.tree_build.specs.Base.{base_costs, base_rows};
 
-use crate::values::{RowValues, Values};
+use crate::parts::{RowValues, Values};
 use core_defs::{ColumnDef, Core, RowDef};
 use frac128::{Form, Frac, Memory};
 use smps_build::{put, row_forms};

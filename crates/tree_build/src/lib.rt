@@ -2,7 +2,10 @@
 #![tactic(auto)]
 
 mod base;
+mod branches;
 mod numbering;
+mod parts;
 mod seen;
 mod terms;
 mod values;
+mod wheels;

@@ -1,7 +1,9 @@
 //! The values of a node: its costs, and the entries and right-hand sides of its rows.
 ghost use Rattle.std.specs.Prelude.{◌≡◌, ◌≤◌, ◌↔◌, ◌&&◌, IsTrue, nat_lt, nat_eq, get_or, length, take, drop, IfOk, OnOk};
-ghost use Rattle.tree_build.specs.Values.{stages, RowsFrom, RowsBelow, IsRowAt, put_at, at_row, with_entry, with_rhs, values_content, with_set, with_sets};
+ghost use Rattle.tree_build.specs.Rows.{RowsFrom, RowsBelow, IsRowAt};
+ghost use Rattle.tree_build.specs.Values.{stages, put_at, with_entry, with_rhs, at_row, values_content, with_set, with_sets};
 
+use crate::parts::{RowValues, Values};
 use crate::terms::with_value;
 use core_defs::Core;
 use frac128::{Form, Frac, Memory};
@@ -9,26 +11,6 @@ use smps_words::Entry;
 use std::alloc::Global;
 use std::mem;
 use time_defs::Periods;
-
-/// A row of a node, but for its interval.
-#[derive(Drop)]
-pub struct RowValues {
-    /// The number of the row.
-    pub row: u32,
-    /// The entries by column.
-    pub entries: Form,
-    /// The right-hand side.
-    pub rhs: Frac,
-}
-
-/// What a node has.
-#[derive(Drop)]
-pub struct Values {
-    /// The costs by column.
-    pub cost: Form,
-    /// The rows of its stage, rising.
-    pub rows: Vec<RowValues>,
-}
 
 /// How many rows stand before a row of that number, found by bisection.
 fn place(rows: &[RowValues], row: u64) -> usize
@@ -65,7 +47,8 @@ fn set_in_row(
     column: u64,
     value: Frac,
 ) -> Result<(), Memory>
-    ensures { OnOk result (row.new ≡ with_entry column value row.old) }
+    ensures set { OnOk result (row.new ≡ with_entry column value row.old) }
+    ensures row { row.new.row ≡ row.old.row }
 {
     let form = mem::replace(&mut row.entries, Form::empty(alloc));
     row.entries = with_value(alloc, form, column, value)?;
@@ -82,7 +65,7 @@ fn set_entry(
 ) -> Result<(), Memory>
     requires { RowsFrom 0 rows.old.items }
     ensures set { OnOk result (rows.new.items ≡ at_row row (with_entry column value) rows.old.items) }
-    ensures rises { OnOk result (RowsFrom 0 rows.new.items) }
+    ensures rises { RowsFrom 0 rows.new.items }
 {
     let at = place(rows, row);
     if is_row_at(rows, at, row) {
@@ -131,9 +114,7 @@ fn set(
     entry: Entry,
     value: Frac,
 ) -> Result<(), Memory>
-    requires { RowsFrom 0 values.old.rows.items }
-    ensures set { OnOk result (values_content values.new ≡ with_set core.now (stages periods.now) stage (values_content values.old) entry value) }
-    ensures rises { OnOk result (RowsFrom 0 values.new.rows.items) }
+    ensures { OnOk result (values_content values.new ≡ with_set core.now (stages periods.now) stage (values_content values.old) entry value) }
 {
     match entry {
         Entry::Cost { column } => {
@@ -164,9 +145,7 @@ pub(crate) fn set_all(
     values: &mut Values,
     sets: &[(Entry, Frac)],
 ) -> Result<(), Memory>
-    requires { RowsFrom 0 values.old.rows.items }
-    ensures set { OnOk result (values_content values.new ≡ with_sets core.now (stages periods.now) stage (values_content values.old) sets.now) }
-    ensures rises { OnOk result (RowsFrom 0 values.new.rows.items) }
+    ensures { OnOk result (values_content values.new ≡ with_sets core.now (stages periods.now) stage (values_content values.old) sets.now) }
 {
     for pair in sets {
         let (entry, value) = *pair;

@@ -1,6 +1,6 @@
 use Rattle.std.proofs.Common.{ap, ◌+◌, ◌-◌, ◌/◌, ◌<◌, List, length, drop, take, sym, subst, arith, add-one, suc, ℕ, rules}
 use Rattle.scen_defs.proofs.NodeReads.{drop_read}
-use Rattle.tree_build.specs.declared.values.RowValues.{RowValues}
+use Rattle.tree_build.specs.declared.parts.RowValues.{RowValues}
 use Rattle.tree_build.specs.Values.{RowsFrom, RowsBelow}
 use Rattle.tree_build.proofs.RowLemmas.{rows_take, rows_drop}
 use Rattle.tree_build.proofs.values.place.Goals as goal

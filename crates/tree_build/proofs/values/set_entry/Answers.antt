@@ -1,23 +1,23 @@
 use Rattle.std.proofs.Common.{◌≡◌, ◌∙◌, ap, sym, subst, take, drop, true, false, refl, List}
-use Rattle.tree_build.specs.declared.values.RowValues.{RowValues}
+use Rattle.tree_build.specs.declared.parts.RowValues.{RowValues}
 use Rattle.tree_build.specs.Values.{RowsFrom, RowsBelow, IsRowAt, at_row, with_entry, with_rhs}
-use Rattle.tree_build.proofs.RowLemmas.{row_there, row_missing, rows_rise}
+use Rattle.tree_build.proofs.RowLemmas.{row_there, row_missing, rows_set}
 use Rattle.std.proofs.Common.{set}
 use Rattle.tree_build.proofs.values.set_entry.Goals as goal
 
 pub returns-in_ok-set_in_row-clause-set : goal.returns-in_ok-set_in_row-clause-set
 returns-in_ok-set_in_row-clause-set c =
     let stands = subst (λ (l : List RowValues). IsRowAt l c.place-at.result c.args.row) c.deref-2.ensures.value (c.is_row_at.ensures.0 c.if-is_row_at.true) in
-    ap (λ r. set c.args.rows.now.items c.place-at.result r) c.in_ok-set_in_row.ensures
+    ap (λ r. set c.args.rows.now.items c.place-at.result r) c.in_ok-set_in_row.ensures.set
     ∙ row_there c.args.row 0 c.place-at.result (with_entry c.args.column c.args.value) c.args.rows.now.items c.index_mut.result.now c.requires stands c.index_mut.ensures.value
 
 pub returns-in_ok-set_in_row-clause-rises : goal.returns-in_ok-set_in_row-clause-rises
 returns-in_ok-set_in_row-clause-rises c =
-    let stands = subst (λ (l : List RowValues). IsRowAt l c.place-at.result c.args.row) c.deref-2.ensures.value (c.is_row_at.ensures.0 c.if-is_row_at.true) in
-    subst (RowsFrom 0)
-    (sym (ap (λ r. set c.args.rows.now.items c.place-at.result r) c.in_ok-set_in_row.ensures
-    ∙ row_there c.args.row 0 c.place-at.result (with_entry c.args.column c.args.value) c.args.rows.now.items c.index_mut.result.now c.requires stands c.index_mut.ensures.value))
-    (rows_rise c.args.row 0 (with_entry c.args.column c.args.value) c.args.rows.now.items (λ r. refl) c.requires)
+    rows_set 0 c.place-at.result c.args.rows.now.items _ c.index_mut.result.now (c.in_ok-set_in_row.ensures.row ∙ ap (λ (r : RowValues). r.row) c.index_mut.ensures.value) c.requires
+
+pub returns-in_err-set_in_row-clause-rises : goal.returns-in_err-set_in_row-clause-rises
+returns-in_err-set_in_row-clause-rises c =
+    rows_set 0 c.place-at.result c.args.rows.now.items _ c.index_mut.result.now (c.in_err-set_in_row.ensures.row ∙ ap (λ (r : RowValues). r.row) c.index_mut.ensures.value) c.requires
 
 pub returns-else-is_row_at-clause-set : goal.returns-else-is_row_at-clause-set
 returns-else-is_row_at-clause-set c =
