@@ -5,3 +5,5 @@ pub mod BaseLemmas
 pub mod NumberLemmas
 pub mod RangeLemmas
 pub mod WheelLemmas
+pub mod ChoiceLemmas
+pub mod NodeLemmas

@@ -3,8 +3,12 @@
 
 mod base;
 mod branches;
+mod choices;
+mod limits;
+mod nodes;
 mod numbering;
 mod parts;
+mod rows;
 mod seen;
 mod terms;
 mod values;
