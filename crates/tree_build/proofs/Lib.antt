@@ -7,3 +7,5 @@ pub mod RangeLemmas
 pub mod WheelLemmas
 pub mod ChoiceLemmas
 pub mod NodeLemmas
+pub mod DigitLemmas
+pub mod FinishLemmas

@@ -4,11 +4,14 @@
 mod base;
 mod branches;
 mod choices;
+mod finish;
 mod limits;
+mod names;
 mod nodes;
 mod numbering;
 mod parts;
 mod rows;
+mod scenarios;
 mod seen;
 mod terms;
 mod values;

@@ -114,13 +114,13 @@ pub(crate) fn block_values(
 }
 
 /// The node of a scenario at a stage, 0 where there is none.
-fn node_in(paths: &[Path], scenario: usize, stage: usize) -> usize
+pub(crate) fn node_in(paths: &[Path], scenario: usize, stage: usize) -> u32
     ensures { result ≡ node_in (paths_content paths.now) scenario stage }
 {
     if scenario < paths.len() {
         let nodes: &[u32] = &paths[scenario].nodes;
         if stage < nodes.len() {
-            nodes[stage] as usize
+            nodes[stage]
         } else {
             0
         }
@@ -142,7 +142,7 @@ fn source(
 {
     match parent {
         None => copied_at(alloc, base, stage),
-        Some(number) => copied_at(alloc, all, node_in(paths, number as usize, stage)),
+        Some(number) => copied_at(alloc, all, node_in(paths, number as usize, stage) as usize),
     }
 }
 
