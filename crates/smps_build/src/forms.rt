@@ -60,11 +60,7 @@ fn add_column(forms: &mut Vec<Form>, column: u64, entries: &[Term]) -> Result<()
 }
 
 /// The entries of each row by column. Each entry of a column is looked at once.
-pub fn row_forms(
-    alloc: Global,
-    columns: &[ColumnDef],
-    rows: &[RowDef],
-) -> Result<Vec<Form>, Memory>
+pub fn row_forms(alloc: Global, columns: &[ColumnDef], rows: &[RowDef]) -> Result<Vec<Form>, Memory>
     ensures { IfOk result (λ forms. forms.items ≡ forms_from columns.now 0 rows.now) }
 {
     let mut forms = empty_forms(alloc, rows)?;

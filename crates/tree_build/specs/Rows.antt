@@ -24,4 +24,3 @@ row_past n = record { row = suc n; entries = []; rhs = zero_ℚ }
 -- row n stands in place i
 abbrev pub IsRowAt : List RowValues → ℕ → ℕ → Type 0
 IsRowAt rows i n = (i < length rows) × ((get_or rows i (row_past n)).row ≡ n)
-

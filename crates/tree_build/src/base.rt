@@ -38,12 +38,7 @@ fn rhs_of(rows: &[RowDef], place: usize) -> Frac
 }
 
 /// The costs of the columns of a stage, by the stages of all columns.
-fn costs(
-    alloc: Global,
-    columns: &[ColumnDef],
-    stages: &[u32],
-    stage: usize,
-) -> Result<Form, Memory>
+fn costs(alloc: Global, columns: &[ColumnDef], stages: &[u32], stage: usize) -> Result<Form, Memory>
     ensures { IfOk result (λ form. form ≡ base_costs columns.now stage 0 stages.now) }
 {
     let mut form = Form::empty(alloc);

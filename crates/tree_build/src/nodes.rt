@@ -119,11 +119,7 @@ pub(crate) fn node_in(paths: &[Path], scenario: usize, stage: usize) -> u32
 {
     if scenario < paths.len() {
         let nodes: &[u32] = &paths[scenario].nodes;
-        if stage < nodes.len() {
-            nodes[stage]
-        } else {
-            0
-        }
+        if stage < nodes.len() { nodes[stage] } else { 0 }
     } else {
         0
     }
@@ -184,9 +180,7 @@ fn branch_node(
 {
     if debut.scenario < branches.len() {
         let branch = &branches[debut.scenario];
-        own_node(
-            alloc, core, periods, base, branch, paths, all, debut.stage,
-        )
+        own_node(alloc, core, periods, base, branch, paths, all, debut.stage)
     } else {
         copied_at(alloc, base, debut.stage)
     }

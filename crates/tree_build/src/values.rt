@@ -41,12 +41,7 @@ fn is_row_at(rows: &[RowValues], at: usize, row: u64) -> bool
 }
 
 /// Sets the value in a column of a row.
-fn set_in_row(
-    alloc: Global,
-    row: &mut RowValues,
-    column: u64,
-    value: Frac,
-) -> Result<(), Memory>
+fn set_in_row(alloc: Global, row: &mut RowValues, column: u64, value: Frac) -> Result<(), Memory>
     ensures set { OnOk result (row.new ≡ with_entry column value row.old) }
     ensures row { row.new.row ≡ row.old.row }
 {

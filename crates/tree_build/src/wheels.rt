@@ -99,7 +99,7 @@ fn key_to(wheels: &[Wheel], digits: &[usize], stage: usize) -> u64
 }
 
 /// The keys of a scenario at the stages, of which there are so many.
-fn key_row(
+pub(crate) fn key_row(
     alloc: Global,
     wheels: &[Wheel],
     digits: &[usize],

@@ -16,9 +16,9 @@ returns-in_err-total c =
     let positions = c.args.positions.now in
     let scenarios = scenarios_content c.args.scenarios.now in
     let sum : c.index.result.now ≡ total_from node zero_ℚ scenarios =
-        c.index.ensures ∙ ap (λ sums. get_or sums node c.index.result.now) c.in_ok-sums.ensures ∙ sums_at (length positions) node scenarios c.index.result.now c.loop-node-test.true in
+    c.index.ensures ∙ ap (λ sums. get_or sums node c.index.result.now) c.in_ok-sums.ensures ∙ sums_at (length positions) node scenarios c.index.result.now c.loop-node-test.true in
     let live : live_sum (get_or positions node Dropped) (total_from node zero_ℚ scenarios) ≡ Err c.in_err-total.field-0.0 =
-        ap (live_sum (get_or positions node Dropped)) (sym sum) ∙ sym c.live_sum.ensures ∙ c.in_err-total.was in
+    ap (live_sum (get_or positions node Dropped)) (sym sum) ∙ sym c.live_sum.ensures ∙ c.in_err-total.was in
     passed _ _ _ _ c.from_residual-in_err-total.ensures.1
     (sym c.loop-node.invariant
     ∙ at_drop_more (λ rest. gathered_from c.loop-node.totals.items (live_sums_from node rest scenarios)) positions node Dropped c.loop-node-test.true
@@ -32,9 +32,9 @@ loop-node-preserved c =
     elim c.if-node-len.branch [
       | then-node-len+in_ok-total+in_ok-push w ↦
           (let sum : w.index.result.now ≡ total_from node zero_ℚ scenarios =
-              w.index.ensures ∙ ap (λ sums. get_or sums node w.index.result.now) c.in_ok-sums.ensures ∙ sums_at (length positions) node scenarios w.index.result.now c.loop-node-test.true in
+          w.index.ensures ∙ ap (λ sums. get_or sums node w.index.result.now) c.in_ok-sums.ensures ∙ sums_at (length positions) node scenarios w.index.result.now c.loop-node-test.true in
           let live : live_sum (get_or positions node Dropped) (total_from node zero_ℚ scenarios) ≡ Ok w.in_ok-total.total =
-              ap (live_sum (get_or positions node Dropped)) (sym sum) ∙ sym w.live_sum.ensures ∙ w.in_ok-total.was in
+          ap (live_sum (get_or positions node Dropped)) (sym sum) ∙ sym w.live_sum.ensures ∙ w.in_ok-total.was in
           ap (λ v. gathered_from v.items (live_sums_from (node + 1) (drop (node + 1) positions) scenarios)) w.totals-is
           ∙ ap (λ totals. gathered_from totals (live_sums_from (node + 1) (drop (node + 1) positions) scenarios)) w.in_ok-push.ensures.items
           ∙ ap (λ n. gathered_from (c.loop-node.totals.items ++ w.in_ok-total.total ∷ []) (live_sums_from n (drop (node + 1) positions) scenarios)) (add-one node)

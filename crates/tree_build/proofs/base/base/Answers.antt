@@ -14,13 +14,13 @@ loop-stage-preserved c =
     let core = c.args.core.now in
     let p = stages c.args.periods.now in
     let made : c.deref-in-loop-stage-4.result.now ≡ forms_from core.columns.items 0 core.rows.items =
-        c.deref-in-loop-stage-4.ensures.value ∙ c.in_ok-forms.ensures ∙ ap₂ (λ columns rows. forms_from columns 0 rows) c.deref.ensures.value c.deref-2.ensures.value in
+    c.deref-in-loop-stage-4.ensures.value ∙ c.in_ok-forms.ensures ∙ ap₂ (λ columns rows. forms_from columns 0 rows) c.deref.ensures.value c.deref-2.ensures.value in
     let costs : c.in_ok-cost.cost ≡ base_costs core.columns.items stage 0 p.columns =
-        c.in_ok-cost.ensures ∙ ap₂ (λ columns all. base_costs columns stage 0 all) c.deref-in-loop-stage.ensures.value c.deref-in-loop-stage-2.ensures.value in
+    c.in_ok-cost.ensures ∙ ap₂ (λ columns all. base_costs columns stage 0 all) c.deref-in-loop-stage.ensures.value c.deref-in-loop-stage-2.ensures.value in
     let given : c.in_ok-rows.rows.items ≡ base_rows core.rows.items c.deref-in-loop-stage-4.result.now stage 0 p.rows =
-        c.in_ok-rows.ensures ∙ ap₂ (λ rows all. base_rows rows c.deref-in-loop-stage-4.result.now stage 0 all) c.deref-in-loop-stage-3.ensures.value c.deref-in-loop-stage-5.ensures.value in
+    c.in_ok-rows.ensures ∙ ap₂ (λ rows all. base_rows rows c.deref-in-loop-stage-4.result.now stage 0 all) c.deref-in-loop-stage-3.ensures.value c.deref-in-loop-stage-5.ensures.value in
     let one =
-        base_is core p stage c.deref-in-loop-stage-4.result.now c.in_ok-cost.cost c.in_ok-rows.rows.items c.requires made costs given in
+    base_is core p stage c.deref-in-loop-stage-4.result.now c.in_ok-cost.cost c.in_ok-rows.rows.items c.requires made costs given in
     ap all_content c.in_ok-push.ensures.items ∙ content_push c.loop-stage.all.items _
     ∙ ap₂ (λ (front : List Values) (last : Values). front ++ last ∷ []) c.loop-stage.invariant one
     ∙ sym (map_push (values_of core p []) (stages_from 0 stage) stage)
@@ -33,7 +33,7 @@ invariant_of-push c =
     let core = c.args.core.now in
     let p = stages c.args.periods.now in
     let made : c.deref-in-loop-stage-4.result.now ≡ forms_from core.columns.items 0 core.rows.items =
-        c.deref-in-loop-stage-4.ensures.value ∙ c.in_ok-forms.ensures ∙ ap₂ (λ columns rows. forms_from columns 0 rows) c.deref.ensures.value c.deref-2.ensures.value in
+    c.deref-in-loop-stage-4.ensures.value ∙ c.in_ok-forms.ensures ∙ ap₂ (λ columns rows. forms_from columns 0 rows) c.deref.ensures.value c.deref-2.ensures.value in
     let given : c.in_ok-rows.rows.items ≡ base_rows core.rows.items c.deref-in-loop-stage-4.result.now stage 0 p.rows =
-        c.in_ok-rows.ensures ∙ ap₂ (λ rows all. base_rows rows c.deref-in-loop-stage-4.result.now stage 0 all) c.deref-in-loop-stage-3.ensures.value c.deref-in-loop-stage-5.ensures.value in
+    c.in_ok-rows.ensures ∙ ap₂ (λ rows all. base_rows rows c.deref-in-loop-stage-4.result.now stage 0 all) c.deref-in-loop-stage-3.ensures.value c.deref-in-loop-stage-5.ensures.value in
     record { rising = subst (RowsFrom 0) (sym (rows_of_base core p stage c.deref-in-loop-stage-4.result.now c.in_ok-rows.rows.items c.requires made given)) (values_rise core p [] stage) }

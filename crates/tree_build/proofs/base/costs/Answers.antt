@@ -21,8 +21,8 @@ loop-place-preserved c =
     let rest = base_costs columns stage (place + 1) (drop (place + 1) stages) in
     let same : base_costs columns stage (suc place) (drop (place + 1) stages) ≡ rest = ap (λ n. base_costs columns stage n (drop (place + 1) stages)) (sym (add-one place)) in
     let read : form ++ pick (nat_eq (get_or stages place 0) stage) (put place (get_or columns place no_column).cost rest) rest ≡ base_costs columns stage 0 stages =
-        ap (λ (r : List Entry). form ++ pick (nat_eq (get_or stages place 0) stage) (put place (get_or columns place no_column).cost r) r) (sym same)
-        ∙ sym (at_drop_more (λ l. form ++ base_costs columns stage place l) stages place 0 c.loop-place-test.true) ∙ c.loop-place.invariant.kept in
+    ap (λ (r : List Entry). form ++ pick (nat_eq (get_or stages place 0) stage) (put place (get_or columns place no_column).cost r) r) (sym same)
+    ∙ sym (at_drop_more (λ l. form ++ base_costs columns stage place l) stages place 0 c.loop-place-test.true) ∙ c.loop-place.invariant.kept in
     elim c.if-at-stage.branch [
       | then-at-stage+in_ok-put w ↦
           (let is : nat_eq (get_or stages place 0) stage ≡ true = grind (arith, nat_tests, w.if-at-stage.true) in

@@ -22,8 +22,8 @@ returns-in-None-clause-err c =
     let one : values_content c.in_ok-next.next ≡ f (get_or debuts i no_debut) = c.in_ok-next.ensures in
     over_whole c.loop-debut.counts old (map f debuts) (values_content c.in_ok-next.next) c.loop-debut.invariant.entries c.loop-debut.invariant.rows c.loop-debut.invariant.costs c.in-None.ensures
     (λ g. subst (λ (l : List Values). sum_by g old + g (values_content c.in_ok-next.next) ≤ sum_by g l)
-        (ap (λ d. old ++ d ∷ map f (drop (i + 1) debuts)) one ∙ sym (ap (λ ds. old ++ map f ds) (drop_more debuts i no_debut c.loop-debut-test.true)) ∙ c.loop-debut.invariant.kept)
-        (block_more g old (map f (drop (i + 1) debuts)) (values_content c.in_ok-next.next)))
+    (ap (λ d. old ++ d ∷ map f (drop (i + 1) debuts)) one ∙ sym (ap (λ ds. old ++ map f ds) (drop_more debuts i no_debut c.loop-debut-test.true)) ∙ c.loop-debut.invariant.kept)
+    (block_more g old (map f (drop (i + 1) debuts)) (values_content c.in_ok-next.next)))
 
 pub loop-debut-preserved : goal.loop-debut-preserved
 loop-debut-preserved c =

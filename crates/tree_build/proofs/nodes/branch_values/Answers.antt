@@ -24,9 +24,9 @@ returns-in-None-clause-err c =
     let one : values_content c.in_ok-next.next ≡ branch_node core p base branches paths old (get_or debuts i no_debut) = c.in_ok-next.ensures ∙ ap (λ (l : List ValuesOf). branch_node core p base branches paths (all_content l) (get_or debuts i no_debut)) c.deref.ensures.value in
     over_whole c.loop-debut.counts old (branch_nodes core p base branches paths [] debuts) (values_content c.in_ok-next.next) c.loop-debut.invariant.entries c.loop-debut.invariant.rows c.loop-debut.invariant.costs c.in-None.ensures
     (λ g. subst (λ (l : List Values). sum_by g old + g (values_content c.in_ok-next.next) ≤ sum_by g l)
-        (sym (ap (branch_nodes core p base branches paths old) (drop_more debuts i no_debut c.loop-debut-test.true)) ∙ c.loop-debut.invariant.kept)
-        (subst (λ (d : Values). sum_by g old + g d ≤ sum_by g (branch_nodes core p base branches paths old (get_or debuts i no_debut ∷ drop (i + 1) debuts))) (sym one)
-        (branch_more g core p base branches paths old (get_or debuts i no_debut) (drop (i + 1) debuts))))
+    (sym (ap (branch_nodes core p base branches paths old) (drop_more debuts i no_debut c.loop-debut-test.true)) ∙ c.loop-debut.invariant.kept)
+    (subst (λ (d : Values). sum_by g old + g d ≤ sum_by g (branch_nodes core p base branches paths old (get_or debuts i no_debut ∷ drop (i + 1) debuts))) (sym one)
+    (branch_more g core p base branches paths old (get_or debuts i no_debut) (drop (i + 1) debuts))))
 
 pub loop-debut-preserved : goal.loop-debut-preserved
 loop-debut-preserved c =

@@ -12,10 +12,10 @@ returns-in_err-nodes-clause-err c =
     let own = row_debuts i 0 c.deref.result.now in
     let later = all_debuts (suc i) (rows_content (drop (i + 1) c.args.rows.now)) in
     let whole : debuts_from (debuts_from old own) later ≡ debuts_from [] (all_debuts 0 (rows_content c.args.rows.now)) =
-        ap (λ keys. debuts_from (debuts_from old (row_debuts i 0 keys)) later) c.deref.ensures.value
-        ∙ sym (debuts_append old (row_debuts i 0 row.by_stage.items) later)
-        ∙ sym (ap (λ rows. debuts_from old (all_debuts i rows)) (rows_read c.args.rows.now i row c.loop-scenario-test.true c.index-rows-scenario.is))
-        ∙ c.loop-scenario.invariant.debuts in
+    ap (λ keys. debuts_from (debuts_from old (row_debuts i 0 keys)) later) c.deref.ensures.value
+    ∙ sym (debuts_append old (row_debuts i 0 row.by_stage.items) later)
+    ∙ sym (ap (λ rows. debuts_from old (all_debuts i rows)) (rows_read c.args.rows.now i row c.loop-scenario-test.true c.index-rows-scenario.is))
+    ∙ c.loop-scenario.invariant.debuts in
     let long : length (debuts_from (debuts_from old own) later) ≡ length (debuts_from [] (all_debuts 0 (rows_content c.args.rows.now))) = ap length whole in
     handed c.from_residual.result (length (debuts_from old own)) _ c.in_err-nodes.field-0.0 c.from_residual.ensures.1 (omega (arith, grows (debuts_from old own) later, long)) c.in_err-nodes.ensures.err
 

@@ -11,7 +11,7 @@ returns-in_err-number-clause-err c =
     let old = c.loop-stage.debuts.items in
     let rest = row_debuts c.args.scenario (stage + 1) (drop (stage + 1) row) in
     let whole : debuts_from (with_debut old d) rest ≡ debuts_from c.args.debuts.now.items (row_debuts c.args.scenario 0 row) =
-        sym (ap (debuts_from old) (row_read c.args.scenario stage row c.loop-stage-test.true)) ∙ c.loop-stage.invariant.debuts in
+    sym (ap (debuts_from old) (row_read c.args.scenario stage row c.loop-stage-test.true)) ∙ c.loop-stage.invariant.debuts in
     let long : length (debuts_from (with_debut old d) rest) ≡ length (debuts_from c.args.debuts.now.items (row_debuts c.args.scenario 0 row)) = ap length whole in
     handed c.from_residual.result (length (with_debut old d)) _ c.in_err-number.field-0.0 c.from_residual.ensures.1 (omega (arith, grows (with_debut old d) rest, long)) c.in_err-number.ensures.err
 

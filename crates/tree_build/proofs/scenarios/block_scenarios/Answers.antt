@@ -22,13 +22,15 @@ loop-found-preserved c =
     let rest = paths_content (into_iter_items c.next.new.self) in
     let number : c.len-number.result ≡ length built = omega (arith, c.len-number.ensures, scenarios_length all, c.loop-found.all.ok.0) in
     let made : product_from one_ℚ (chances_of blocks wheels (digits_at (sizes_of wheels) (length built))) ≡ Ok c.in_ok-probability.probability =
-        sym (ap (λ n. product_from one_ℚ (chances_of blocks wheels (digits_at (sizes_of wheels) n))) number) ∙ c.in_ok-probability.ensures in
-    (tt, tt,
-    ap (λ l. block_paths blocks wheels (scenarios_content l) rest) c.in_ok-push.ensures.items
-    ∙ ap (λ l. block_paths blocks wheels l rest)
-    (scenarios_push all _ ∙ ap (λ (name : List ℕ). built ++ record { name = name; probability = c.in_ok-probability.probability; path = c.in-Some.found.nodes.items } ∷ []) (c.in_ok-name.ensures ∙ ap (λ n. 83 ∷ digits (n + 1)) number))
-    ∙ sym (block_step blocks wheels built c.in-Some.found.nodes.items rest c.in_ok-probability.probability made)
-    ∙ sym (ap (λ l. block_paths blocks wheels built (paths_content l)) c.in-Some.ensures.steps.0) ∙ c.loop-found.invariant.2)
+    sym (ap (λ n. product_from one_ℚ (chances_of blocks wheels (digits_at (sizes_of wheels) n))) number) ∙ c.in_ok-probability.ensures in (
+      tt,
+      tt,
+      ap (λ l. block_paths blocks wheels (scenarios_content l) rest) c.in_ok-push.ensures.items
+          ∙ ap (λ l. block_paths blocks wheels l rest)
+          (scenarios_push all _ ∙ ap (λ (name : List ℕ). built ++ record { name = name; probability = c.in_ok-probability.probability; path = c.in-Some.found.nodes.items } ∷ []) (c.in_ok-name.ensures ∙ ap (λ n. 83 ∷ digits (n + 1)) number))
+          ∙ sym (block_step blocks wheels built c.in-Some.found.nodes.items rest c.in_ok-probability.probability made)
+          ∙ sym (ap (λ l. block_paths blocks wheels built (paths_content l)) c.in-Some.ensures.steps.0) ∙ c.loop-found.invariant.2,
+    )
 
 pub returns-in_err-probability : goal.returns-in_err-probability
 returns-in_err-probability c =

@@ -21,6 +21,6 @@ pub returns : goal.returns
 returns c =
     let none = drop_of_length-le c.args.wheels.now c.loop-wheel-test.false in
     let last : min (c.loop-wheel.count * 1) (2 ^ 64 - 1) ≡ min (product (sizes_of c.args.wheels.now)) (2 ^ 64 - 1) =
-        sym (ap (λ ws. min (c.loop-wheel.count * product (sizes_of ws)) (2 ^ 64 - 1)) none) ∙ c.loop-wheel.invariant.kept in
+    sym (ap (λ ws. min (c.loop-wheel.count * product (sizes_of ws)) (2 ^ 64 - 1)) none) ∙ c.loop-wheel.invariant.kept in
     let same : c.loop-wheel.count ≡ min (c.loop-wheel.count * 1) (2 ^ 64 - 1) = omega (arith, c.loop-wheel.invariant.small) in
     same ∙ last

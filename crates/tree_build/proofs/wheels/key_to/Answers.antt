@@ -51,7 +51,7 @@ loop-place-preserved c =
     let read = within_read wheels digits i c.loop-place.invariant.within c.loop-place-test.true in
     let fits : (key + 1) * (wheel.size * rest) ≤ whole = subst (λ (p : ℕ). (key + 1) * p ≤ whole) (product_read wheels i c.loop-place-test.true) c.loop-place.invariant.fits in
     let kept : key_to stage (drop (i + 1) wheels) (drop (i + 1) digits) (if nat_le wheel.stage stage then key * wheel.size + digit else key) ≡ key_to stage wheels digits 0 =
-        sym (ap₂ (λ (ws : List Wheel) (ds : List ℕ). key_to stage ws ds key) (read_wheel wheels i c.loop-place-test.true) (read_digit digits i inside)) ∙ c.loop-place.invariant.kept in
+    sym (ap₂ (λ (ws : List Wheel) (ds : List ℕ). key_to stage ws ds key) (read_wheel wheels i c.loop-place-test.true) (read_digit digits i inside)) ∙ c.loop-place.invariant.kept in
     elim c.if-wheel-stage.branch [
       | then-wheel-stage+then-place-digits w ↦
           (let is : nat_le wheel.stage stage ≡ true = grind (arith, nat_tests, w.if-wheel-stage.true) in
