@@ -3,6 +3,7 @@
 
 mod base;
 mod branches;
+mod build;
 mod choices;
 mod finish;
 mod limits;
