@@ -1,6 +1,7 @@
 // The operations of `frac128` beside the same algorithms in Rust: nanoseconds of each, and ratios.
 mod fraction;
 mod gcd;
+mod wide;
 
 use fraction::{Frac, Passed, Term, add_scaled};
 use std::hint::black_box;
@@ -12,6 +13,8 @@ unsafe extern "C" {
     fn rattle_products(words: *const u64, len: usize, times: u64) -> u64;
     fn rattle_quotients(words: *const u64, len: usize, times: u64) -> u64;
     fn rattle_comparisons(words: *const u64, len: usize, times: u64) -> u64;
+    fn rattle_steps(words: *const u64, len: usize, times: u64) -> u64;
+    fn rattle_products_and_differences(words: *const u64, len: usize, times: u64) -> u64;
     fn rattle_rows(
         row: *const u64,
         row_len: usize,
@@ -122,6 +125,75 @@ fn comparisons(words: &[u64], times: u64) -> u64 {
     })
 }
 
+/// One number of all threes, `times` times.
+#[inline(always)]
+fn threes(words: &[u64], times: u64, step: impl Fn(u64, Frac, Frac, Frac) -> u64) -> u64 {
+    let all = fractions(words);
+    let mut sum = 0;
+    for _ in 0..times {
+        for three in all.chunks_exact(3) {
+            sum = step(sum, three[0], three[1], three[2]);
+        }
+    }
+    sum
+}
+
+fn steps(words: &[u64], times: u64) -> u64 {
+    threes(words, times, |sum, x, a, b| mix(sum, x.less_product(a, b)))
+}
+
+fn difference_with_product(x: Frac, a: Frac, b: Frac) -> Result<Frac, Passed> {
+    x.sub(a.mul(b)?)
+}
+
+fn products_and_differences(words: &[u64], times: u64) -> u64 {
+    threes(words, times, |sum, x, a, b| mix(sum, difference_with_product(x, a, b)))
+}
+
+/// The words of a fraction that is a text.
+fn words_of(text: &str) -> Option<[u64; WORDS]> {
+    let (num, den) = text.split_once('/')?;
+    let num: i128 = num.parse().ok()?;
+    let den: u128 = den.parse().ok()?;
+    let size = num.unsigned_abs();
+    let head = (num < 0) as u64;
+    Some([head, (size >> 64) as u64, size as u64, (den >> 64) as u64, den as u64])
+}
+
+/// The lines of a file that `operands.py` wrote, by their names.
+fn groups(lines: &str) -> Vec<(&str, Vec<u64>)> {
+    let mut all: Vec<(&str, Vec<u64>)> = Vec::new();
+    for (name, numbers) in lines.lines().filter_map(|line| line.split_once(": ")) {
+        if all.last().is_none_or(|(last, _)| *last != name) {
+            all.push((name, Vec::new()));
+        }
+        let words = numbers.split(' ').filter_map(words_of).flatten();
+        all.last_mut().expect("one was pushed").1.extend(words);
+    }
+    all
+}
+
+/// Sums and steps, and each step beside its product and its difference.
+fn compare_groups(lines: &str) {
+    for (name, words) in groups(lines) {
+        let measured = |f: Measured| {
+            let words = &words;
+            move |times| unsafe { f(words.as_ptr(), words.len(), times) }
+        };
+        if name.starts_with("sum") {
+            let count = words.len() / (2 * WORDS);
+            compare(name, count, measured(rattle_sums), |times| sums(&words, times));
+        } else {
+            let count = words.len() / (3 * WORDS);
+            compare(name, count, measured(rattle_steps), |times| steps(&words, times));
+            let both = measured(rattle_products_and_differences);
+            compare("  its product and difference", count, both, |times| {
+                products_and_differences(&words, times)
+            });
+        }
+    }
+}
+
 fn rows(row: &[u64], other: &[u64], times: u64) -> u64 {
     let row = terms(row);
     let other = terms(other);
@@ -208,5 +280,8 @@ fn main() {
             },
             |times| rows(&row, &other, times),
         );
+    }
+    if let Some(path) = std::env::args().nth(1) {
+        compare_groups(&std::fs::read_to_string(path).expect("a file of operands.py"));
     }
 }

@@ -5,6 +5,9 @@ mod fraction;
 #[path = "../fractions/gcd.rs"]
 mod gcd;
 mod simplex;
+#[path = "../fractions/wide.rs"]
+#[allow(dead_code)]
+mod wide;
 
 use fraction::{Frac, Term};
 use simplex::{Outcome, Program, solve, whole};

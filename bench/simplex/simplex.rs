@@ -1,8 +1,7 @@
 // The two-phase path with Bland's rule in Rust, by the steps of `simplex_core` and with its row
-// representation: sparse rows that merge into a spare buffer, which is swapped in.
+// representation: sparse rows that merge into a spare buffer and are copied back at their size.
 use crate::fraction::{Frac, Passed, Term};
 use std::cmp::Ordering;
-use std::mem;
 
 struct Line {
     entries: Vec<Term>,
@@ -24,7 +23,7 @@ struct Work {
 
 struct Tableau {
     rows: Vec<Row>,
-    objective: Line,
+    objective: Vec<Term>,
     work: Work,
 }
 
@@ -69,10 +68,6 @@ fn over(value: Frac, by: Frac) -> Result<Frac, Passed> {
     if by.is_one() { Ok(value) } else { value.div(by) }
 }
 
-fn less(factor: Frac, from: Frac, times: Frac) -> Result<Frac, Passed> {
-    from.sub(factor.mul(times)?)
-}
-
 fn push(done: &mut Vec<Term>, column: u64, value: Frac) {
     if !value.is_zero() {
         done.push(Term { column, value });
@@ -94,10 +89,10 @@ fn subtract_terms(
             done.push(x);
             i += 1;
         } else if y.column < x.column {
-            push(done, y.column, less(factor, zero, y.value)?);
+            push(done, y.column, zero.less_product(factor, y.value)?);
             j += 1;
         } else {
-            push(done, x.column, less(factor, x.value, y.value)?);
+            push(done, x.column, x.value.less_product(factor, y.value)?);
             i += 1;
             j += 1;
         }
@@ -105,9 +100,26 @@ fn subtract_terms(
     done.extend_from_slice(&row[i..]);
     while j < pivot.len() {
         let y = pivot[j];
-        push(done, y.column, less(factor, zero, y.value)?);
+        push(done, y.column, zero.less_product(factor, y.value)?);
         j += 1;
     }
+    Ok(())
+}
+
+/// Takes `factor` times the pivot's entries away.
+fn subtract(
+    entries: &mut Vec<Term>,
+    factor: Frac,
+    pivot: &[Term],
+    work: &mut Work,
+) -> Result<(), Passed> {
+    work.merged += (entries.len() + pivot.len()) as u64;
+    work.spare.clear();
+    subtract_terms(factor, entries, pivot, &mut work.spare, work.zero)?;
+    entries.clear();
+    entries.reserve_exact(work.spare.len());
+    entries.extend_from_slice(&work.spare);
+    entries.shrink_to_fit();
     Ok(())
 }
 
@@ -120,26 +132,10 @@ impl Line {
         Ok(())
     }
 
-    fn subtract(
-        &mut self,
-        factor: Frac,
-        other: &Line,
-        work: &mut Work,
-    ) -> Result<(), Passed> {
-        if factor.is_zero() {
-            return Ok(());
-        }
-        work.merged += (self.entries.len() + other.entries.len()) as u64;
-        work.spare.clear();
-        subtract_terms(factor, &self.entries, &other.entries, &mut work.spare, work.zero)?;
-        self.right = less(factor, self.right, other.right)?;
-        mem::swap(&mut self.entries, &mut work.spare);
+    fn clear(&mut self, factor: Frac, pivot: &Line, work: &mut Work) -> Result<(), Passed> {
+        subtract(&mut self.entries, factor, &pivot.entries, work)?;
+        self.right = self.right.less_product(factor, pivot.right)?;
         Ok(())
-    }
-
-    fn clear(&mut self, column: u64, pivot: &Line, work: &mut Work) -> Result<(), Passed> {
-        let factor = find(&self.entries, column, work.zero);
-        self.subtract(factor, pivot, work)
     }
 }
 
@@ -149,12 +145,30 @@ enum End {
 }
 
 impl Tableau {
+    /// The costs of phase one less each row in order, in one pass: the numbers stand by column.
+    fn price_first(&mut self, first: usize) -> Result<(), Passed> {
+        let one = whole(1);
+        let mut values = vec![self.work.zero; first];
+        values.resize(first + self.rows.len(), one);
+        for row in &self.rows {
+            for term in &row.line.entries {
+                let value = &mut values[term.column as usize];
+                *value = value.less_product(one, term.value)?;
+            }
+        }
+        let terms = values.iter().zip(0..).filter(|(value, _)| !value.is_zero());
+        self.objective = terms.map(|(&value, column)| Term { column, value }).collect();
+        Ok(())
+    }
+
     fn price(&mut self, cost: &[Term]) -> Result<(), Passed> {
         let zero = self.work.zero;
-        let mut objective = Line { entries: cost.to_vec(), right: zero };
+        let mut objective = cost.to_vec();
         for row in &self.rows {
             let factor = find(cost, row.basic, zero);
-            objective.subtract(factor, &row.line, &mut self.work)?;
+            if !factor.is_zero() {
+                subtract(&mut objective, factor, &row.line.entries, &mut self.work)?;
+            }
         }
         self.objective = objective;
         Ok(())
@@ -166,10 +180,13 @@ impl Tableau {
         for row in &mut self.rows {
             let factor = find(&row.line.entries, column, self.work.zero);
             if !factor.is_zero() {
-                row.line.subtract(factor, &pivot, &mut self.work)?;
+                row.line.clear(factor, &pivot, &mut self.work)?;
             }
         }
-        self.objective.clear(column, &pivot, &mut self.work)?;
+        let factor = find(&self.objective, column, self.work.zero);
+        if !factor.is_zero() {
+            subtract(&mut self.objective, factor, &pivot.entries, &mut self.work)?;
+        }
         self.rows.insert(index, Row { basic: column, line: pivot });
         self.work.pivots += 1;
         Ok(())
@@ -200,7 +217,7 @@ impl Tableau {
     fn follow(&mut self, columns: u64) -> Result<End, Passed> {
         loop {
             let enters = |term: &&Term| term.value.num() < 0 && term.column < columns;
-            let Some(term) = self.objective.entries.iter().find(enters) else {
+            let Some(term) = self.objective.iter().find(enters) else {
                 return Ok(End::Done);
             };
             let column = term.column;
@@ -254,7 +271,6 @@ fn place(terms: &mut Vec<Term>, column: u64, value: Frac) {
 
 pub fn solve(program: &Program) -> (Result<Outcome, Passed>, u64, u64) {
     let columns = program.columns;
-    let count = program.rows.len() as u64;
     let one = whole(1);
     let mut rows = Vec::new();
     for (index, form) in program.rows.iter().enumerate() {
@@ -263,24 +279,22 @@ pub fn solve(program: &Program) -> (Result<Outcome, Passed>, u64, u64) {
         entries.push(Term { column, value: one });
         rows.push(Row { basic: column, line: Line { entries, right: program.right[index] } });
     }
-    let cost: Vec<Term> =
-        (columns..columns + count).map(|column| Term { column, value: one }).collect();
-    let objective = Line { entries: Vec::new(), right: whole(0) };
     let work = Work { zero: whole(0), spare: Vec::new(), pivots: 0, merged: 0 };
-    let mut tableau = Tableau { rows, objective, work };
-    let outcome = answer(program, &mut tableau, &cost);
+    let mut tableau = Tableau { rows, objective: Vec::new(), work };
+    let outcome = answer(program, &mut tableau);
     (outcome, tableau.work.pivots, tableau.work.merged)
 }
 
-fn answer(program: &Program, tableau: &mut Tableau, cost: &[Term]) -> Result<Outcome, Passed> {
+fn answer(program: &Program, tableau: &mut Tableau) -> Result<Outcome, Passed> {
     let columns = program.columns;
     let artificial = columns..columns + program.rows.len() as u64;
-    tableau.price(cost)?;
+    tableau.price_first(columns as usize)?;
     tableau.follow(columns)?;
-    if tableau.objective.right.num() < 0 {
+    let is_above = |row: &Row| row.basic >= columns && row.line.right.num() > 0;
+    if tableau.rows.iter().any(is_above) {
         let mut duals = Vec::new();
         for column in artificial {
-            duals.push(whole(1).sub(find(&tableau.objective.entries, column, whole(0)))?);
+            duals.push(whole(1).sub(find(&tableau.objective, column, whole(0)))?);
         }
         return Ok(Outcome::Infeasible { duals });
     }
@@ -290,7 +304,7 @@ fn answer(program: &Program, tableau: &mut Tableau, cost: &[Term]) -> Result<Out
         End::Done => {
             let mut duals = Vec::new();
             for column in artificial {
-                duals.push(tableau.negative(&tableau.objective.entries, column)?);
+                duals.push(tableau.negative(&tableau.objective, column)?);
             }
             Ok(Outcome::Optimal { point: tableau.point(), duals })
         }

@@ -2,14 +2,14 @@
 use Rattle.std.proofs.Common.{◌≡◌, ℕ, zero, suc, add-one, ◌+◌, ◌-◌, ◌<◌, ◌≤◌, ◌&&◌, not, Bool, true, false, List, [], ◌∷◌, Ok, Err, eqb, length, refl, sym, ap, ap₂, ◌∙◌, subst, arith, eqb-true}
 use Rattle.std.proofs.lemmas.Bool.{false≢true, eqb-false}
 use Rattle.rationals.specs.declared.Op.TheVariants.{Add}
-use Rattle.rationals.specs.Rational.{ℚ, zero_ℚ, one_ℚ, ◌+ℚ◌, ◌*ℚ◌, neg_ℚ, ◌≤ℚ◌, ◌<ℚ◌, not_le_of_lt_ℚ, zero_add_ℚ, by_eqs, terms}
+use Rattle.rationals.specs.Rational.{ℚ, zero_ℚ, one_ℚ, ◌+ℚ◌, ◌*ℚ◌, ◌≤ℚ◌, ◌<ℚ◌, not_le_of_lt_ℚ, zero_add_ℚ, by_eqs, terms}
 use Rattle.rationals.specs.Ring.Eqs.{done, by_eq}
 use Rattle.rationals.specs.Sums.{dot}
-use Rattle.rationals.specs.Passes.{Operation, add_walk, mul_walk, then_walk}
+use Rattle.rationals.specs.Passes.{Operation, add_product_walk, then_walk}
 use Rattle.rationals.specs.Sparse.{Entry, coefficient}
-use Rattle.rationals.proofs.WalkLaws.{walk_value}
+use Rattle.rationals.proofs.WalkLaws.{step_value}
 use Rattle.lp_defs.specs.Tests.{is_above_zero, is_above_zero_true, is_above_zero_false}
-use Rattle.lp_defs.specs.Walks.{Walk, after_ok, mul_walk_is}
+use Rattle.lp_defs.specs.Walks.{Walk, after_ok}
 use Rattle.lp_defs.specs.Program.{Program}
 use Rattle.lp_defs.specs.Certificates.{column_of, IsInfeasible}
 use Rattle.farkas_ray.specs.Sums.{column_from, columns_from, value_from, ray_walk}
@@ -19,23 +19,19 @@ column_is s [] [] j v e = let h : v ≡ s = cc in by_eqs (s ∷ v ∷ []) (by_eq
 column_is s [] (w ∷ y) j v e = let h : v ≡ s = cc in by_eqs (s ∷ v ∷ []) (by_eq one_ℚ h done) (search terms depth 40) tt
 column_is s (f ∷ rows) [] j v e = let h : v ≡ s = cc in by_eqs (s ∷ v ∷ []) (by_eq one_ℚ h done) (search terms depth 40) tt
 column_is s (f ∷ rows) (w ∷ y) j v e =
-    let a = after_ok (mul_walk (coefficient f j) w) (λ p. then_walk (add_walk s p) (λ t. column_from t rows y j)) v e in
-    let b = after_ok (add_walk s a.0) (λ t. column_from t rows y j) v a.2 in
-    let p : a.0 ≡ coefficient f j *ℚ w = mul_walk_is (coefficient f j) w a.0 a.1 in
-    let t : b.0 ≡ s +ℚ a.0 = walk_value Add s a.0 b.0 b.1 in
-    let r : v ≡ b.0 +ℚ dot y (column_of rows j) = column_is b.0 rows y j v b.2 in
-    by_eqs (s ∷ v ∷ w ∷ coefficient f j ∷ a.0 ∷ b.0 ∷ dot y (column_of rows j) ∷ []) (by_eq one_ℚ r (by_eq one_ℚ t (by_eq one_ℚ p done))) (search terms depth 40) tt
+    let a = after_ok (add_product_walk s (coefficient f j) w) (λ t. column_from t rows y j) v e in
+    let t : a.0 ≡ s +ℚ coefficient f j *ℚ w = step_value Add s (coefficient f j) w a.0 a.1 in
+    let r : v ≡ a.0 +ℚ dot y (column_of rows j) = column_is a.0 rows y j v a.2 in
+    by_eqs (s ∷ v ∷ w ∷ coefficient f j ∷ a.0 ∷ dot y (column_of rows j) ∷ []) (by_eq one_ℚ r (by_eq one_ℚ t done)) (search terms depth 40) tt
 
 value_is : (s : ℚ) (y right : List ℚ) (v : ℚ) → value_from s y right ≡ Ok v → v ≡ s +ℚ dot y right
 value_is s [] right v e = let h : v ≡ s = cc in by_eqs (s ∷ v ∷ []) (by_eq one_ℚ h done) (search terms depth 40) tt
 value_is s (w ∷ y) [] v e = let h : v ≡ s = cc in by_eqs (s ∷ v ∷ []) (by_eq one_ℚ h done) (search terms depth 40) tt
 value_is s (w ∷ y) (q ∷ right) v e =
-    let a = after_ok (mul_walk w q) (λ p. then_walk (add_walk s p) (λ t. value_from t y right)) v e in
-    let b = after_ok (add_walk s a.0) (λ t. value_from t y right) v a.2 in
-    let p : a.0 ≡ w *ℚ q = mul_walk_is w q a.0 a.1 in
-    let t : b.0 ≡ s +ℚ a.0 = walk_value Add s a.0 b.0 b.1 in
-    let r : v ≡ b.0 +ℚ dot y right = value_is b.0 y right v b.2 in
-    by_eqs (s ∷ v ∷ w ∷ q ∷ a.0 ∷ b.0 ∷ dot y right ∷ []) (by_eq one_ℚ r (by_eq one_ℚ t (by_eq one_ℚ p done))) (search terms depth 40) tt
+    let a = after_ok (add_product_walk s w q) (λ t. value_from t y right) v e in
+    let t : a.0 ≡ s +ℚ w *ℚ q = step_value Add s w q a.0 a.1 in
+    let r : v ≡ a.0 +ℚ dot y right = value_is a.0 y right v a.2 in
+    by_eqs (s ∷ v ∷ w ∷ q ∷ a.0 ∷ dot y right ∷ []) (by_eq one_ℚ r (by_eq one_ℚ t done)) (search terms depth 40) tt
 
 -- ---- what the tests say
 both : (a b : Bool) → a && b ≡ true → (a ≡ true) × (b ≡ true)

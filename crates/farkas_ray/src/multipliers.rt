@@ -18,8 +18,7 @@ fn column_sum(rows: &[Form], duals: &[Frac], column: u64) -> Result<Frac, Passed
 {
     let mut sum = Frac::zero();
     for row in 0..rows.len() {
-        let product = rows[row].get(column).mul(duals[row])?;
-        sum = sum.add(product)?;
+        sum = sum.add_product(rows[row].get(column), duals[row])?;
     }
     Ok(sum)
 }
@@ -50,8 +49,7 @@ fn value(duals: &[Frac], right: &[Frac]) -> Result<Frac, Passed>
 {
     let mut sum = Frac::zero();
     for row in 0..duals.len() {
-        let product = duals[row].mul(right[row])?;
-        sum = sum.add(product)?;
+        sum = sum.add_product(duals[row], right[row])?;
     }
     Ok(sum)
 }
@@ -69,13 +67,18 @@ fn is_ray(program: &Standard, duals: &[Frac]) -> Result<bool, Passed>
 /// The multipliers, where no column sum of theirs is above 0 and their value is: no point meets all rows
 /// then (Farkas' lemma).
 ///
-/// The operations are those of the column sums, by column and then by row, each an entry times a multiplier
-/// and its addition to the sum so far, and then those of the value, by row, each a multiplier times a right
-/// side and its addition. The first of them that passes 128 bits ends the call.
+/// The steps are those of the column sums, by column and then by row, each the sum so far and an entry times a
+/// multiplier, and then those of the value, by row, each the value so far and a multiplier times a right side.
+/// The first of them that passes 128 bits ends the call.
 pub fn ray(alloc: Global, program: &Standard, duals: &[Frac]) -> Result<Option<Vec<Frac>>, Halted>
     requires { length duals.now ≡ length program.now.rows }
-    ensures exact { MatchResult result (λ found. MatchOption found (ray_walk program.now duals.now ≡ Ok false) (λ multipliers. (ray_walk program.now duals.now ≡ Ok true) × (multipliers.items ≡ duals.now))) (HaltedBy (ray_walk program.now duals.now)) }
-    ensures certified { IfOk result (λ found. MatchOption found (IsInfeasible program.now duals.now → ⊥) (λ multipliers. IsInfeasible program.now multipliers.items)) }
+    ensures exact { MatchResult result (λ found. MatchOption found
+        (ray_walk program.now duals.now ≡ Ok false)
+        (λ multipliers. (ray_walk program.now duals.now ≡ Ok true) × (multipliers.items ≡ duals.now)))
+        (HaltedBy (ray_walk program.now duals.now)) }
+    ensures certified { IfOk result (λ found. MatchOption found
+        (IsInfeasible program.now duals.now → ⊥)
+        (λ multipliers. IsInfeasible program.now multipliers.items)) }
 {
     let is_shown = is_ray(program, duals)?;
     if is_shown {

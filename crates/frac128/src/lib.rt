@@ -2,7 +2,10 @@
 #![tactic(auto)]
 
 mod digits;
+#[cfg(test)]
+mod edge_tests;
 mod form;
+mod frac_step;
 mod fraction;
 mod gcd;
 mod literal;
@@ -11,10 +14,13 @@ mod order;
 mod parts;
 mod passed;
 mod significand;
+mod step;
 mod term;
 #[cfg(test)]
 mod tests;
 mod text;
+mod wide;
+mod wide_parts;
 
 pub use form::{Form, FormFault, value_in};
 pub use fraction::Frac;

@@ -8,17 +8,18 @@ use Rattle.rationals.specs.Rational.{ℚ, zero_ℚ, one_ℚ, ◌+ℚ◌, ◌-ℚ
 use Rattle.rationals.specs.Ring.Eqs.{done, by_eq}
 use Rattle.rationals.specs.Ring.Facts.{end, by_le}
 use Rattle.rationals.specs.Ring.Given.{fact, equal, nothing}
+use Rattle.rationals.specs.Sums.{dot}
 use Rattle.lp_defs.specs.Tests.{is_below_zero}
 use Rattle.lp_defs.specs.Walks.{after_ok}
 use Rattle.rationals.specs.Sparse.{Entry, value_if, product, Ascending}
-use Rattle.lp_defs.specs.Lines.{Line, value_at, cleared, divided}
+use Rattle.lp_defs.specs.Lines.{Line, value_at, cleared, cleared_form, divided}
 use Rattle.lp_defs.specs.Path.{Row, Tableau, entering, pivoted, row_at, cleared_row, cleared_rows}
-use Rattle.lp_defs.specs.Linear.{AllLines, AllRows, Solves, Less, Times, IsTied}
+use Rattle.lp_defs.specs.Linear.{AllLines, AllRows, Solves, rights, FormLess, Times, IsTied}
 use Rattle.lp_defs.specs.Stages.{Three, HasRisen}
 use Rattle.lp_defs.specs.Ends.{unit, IsPoint}
 use Rattle.lp_defs.specs.Basis.{IsUnits, IsBasic, IsBelow, point}
 use Rattle.lp_defs.proofs.Rows.{Each, Pivots, pivots, all_insert, all_uninsert, put_back}
-use Rattle.lp_defs.proofs.Rising.{cleared_rises, divided_rises}
+use Rattle.lp_defs.proofs.Rising.{form_rises, cleared_rises, divided_rises}
 use Rattle.lp_defs.proofs.Choice.{all_weaker, Keeps}
 use Rattle.lp_defs.proofs.Best.{tied_keeps, cost_is}
 
@@ -84,13 +85,13 @@ units_uninsert (x ∷ rows) (suc i) r h =
     (c.0, (b.1, c.1), (a.1, c.2), (h.0, a.0, b.0, c.3))
 
 -- ---- what clearing does to unit columns
-unchanged : (f : ℚ) (line pivot new : Line) (x : ℕ → ℚ) (v : ℚ) → Less f line pivot new → product pivot.entries x ≡ zero_ℚ → product line.entries x ≡ v → product new.entries x ≡ v
-unchanged f line pivot new x v l h k = by_eqs (product new.entries x ∷ product line.entries x ∷ product pivot.entries x ∷ f ∷ v ∷ [])
-    (by_eq one_ℚ (l.entries x) (by_eq (neg_ℚ f) h (by_eq one_ℚ k done))) (search terms depth 40) tt
+pub unchanged : (f : ℚ) (form pivot new : List Entry) (x : ℕ → ℚ) (v : ℚ) → FormLess f form pivot new → product pivot x ≡ zero_ℚ → product form x ≡ v → product new x ≡ v
+unchanged f form pivot new x v l h k = by_eqs (product new x ∷ product form x ∷ product pivot x ∷ f ∷ v ∷ [])
+    (by_eq one_ℚ (l x) (by_eq (neg_ℚ f) h (by_eq one_ℚ k done))) (search terms depth 40) tt
 
-gone : (line pivot new : Line) (x : ℕ → ℚ) (v : ℚ) → Less v line pivot new → product pivot.entries x ≡ one_ℚ → product line.entries x ≡ v → product new.entries x ≡ zero_ℚ
-gone line pivot new x v l h k = by_eqs (product new.entries x ∷ product line.entries x ∷ product pivot.entries x ∷ v ∷ [])
-    (by_eq one_ℚ (l.entries x) (by_eq (neg_ℚ v) h (by_eq one_ℚ k done))) (search terms depth 40) tt
+pub gone : (form pivot new : List Entry) (x : ℕ → ℚ) (v : ℚ) → FormLess v form pivot new → product pivot x ≡ one_ℚ → product form x ≡ v → product new x ≡ zero_ℚ
+gone form pivot new x v l h k = by_eqs (product new x ∷ product form x ∷ product pivot x ∷ v ∷ [])
+    (by_eq one_ℚ (l x) (by_eq (neg_ℚ v) h (by_eq one_ℚ k done))) (search terms depth 40) tt
 
 -- for the rows s among the others: the pivot's row is 0 there
 each_zero : (j : ℕ) (pivot : Line) (rows new : List Row) (line : Line) (c : ℚ) → Each j pivot rows new → Times c line pivot → AllRows (λ s. product line.entries (unit s.basic) ≡ zero_ℚ) rows → AllRows (λ s. product pivot.entries (unit s.basic) ≡ zero_ℚ) new
@@ -101,35 +102,35 @@ each_zero j pivot (r ∷ rs) (n ∷ ns) line c e t h =
     (subst (λ (b : ℕ). product pivot.entries (unit b) ≡ zero_ℚ) (sym e.0) (t.entries (unit r.basic) ∙ by_eqs (c ∷ product line.entries (unit r.basic) ∷ []) (by_eq c h.0 done) (search terms depth 40) tt), each_zero j pivot rs ns line c e.2 t h.1)
 
 -- a form that is 0 at each old basic column, and the form less the pivot's
-form_zero : (j : ℕ) (pivot : Line) (rows new : List Row) (f : ℚ) (line other : Line) → Each j pivot rows new → Less f line pivot other → AllRows (λ s. product pivot.entries (unit s.basic) ≡ zero_ℚ) new
-    → AllRows (λ s. product line.entries (unit s.basic) ≡ zero_ℚ) rows → AllRows (λ s. product other.entries (unit s.basic) ≡ zero_ℚ) new
-form_zero j pivot [] [] f line other e l p h = tt
-form_zero j pivot [] (n ∷ ns) f line other e l p h = absurd e
-form_zero j pivot (r ∷ rs) [] f line other e l p h = absurd e
-form_zero j pivot (r ∷ rs) (n ∷ ns) f line other e l p h =
-    (unchanged f line pivot other (unit n.basic) zero_ℚ l p.0 (subst (λ (b : ℕ). product line.entries (unit b) ≡ zero_ℚ) (sym e.0) h.0), form_zero j pivot rs ns f line other e.2 l p.1 h.1)
+form_zero : (j : ℕ) (pivot : Line) (rows new : List Row) (f : ℚ) (form other : List Entry) → Each j pivot rows new → FormLess f form pivot.entries other → AllRows (λ s. product pivot.entries (unit s.basic) ≡ zero_ℚ) new
+    → AllRows (λ s. product form (unit s.basic) ≡ zero_ℚ) rows → AllRows (λ s. product other (unit s.basic) ≡ zero_ℚ) new
+form_zero j pivot [] [] f form other e l p h = tt
+form_zero j pivot [] (n ∷ ns) f form other e l p h = absurd e
+form_zero j pivot (r ∷ rs) [] f form other e l p h = absurd e
+form_zero j pivot (r ∷ rs) (n ∷ ns) f form other e l p h =
+    (unchanged f form pivot.entries other (unit n.basic) zero_ℚ l p.0 (subst (λ (b : ℕ). product form (unit b) ≡ zero_ℚ) (sym e.0) h.0), form_zero j pivot rs ns f form other e.2 l p.1 h.1)
 
 -- the other rows at one column where the pivot's row is 0
 rows_zero : (j b : ℕ) (pivot : Line) (rows new : List Row) → Each j pivot rows new → product pivot.entries (unit b) ≡ zero_ℚ → AllRows (λ s. product s.line.entries (unit b) ≡ zero_ℚ) rows → AllRows (λ s. product s.line.entries (unit b) ≡ zero_ℚ) new
 rows_zero j b pivot [] [] e p h = tt
 rows_zero j b pivot [] (n ∷ ns) e p h = absurd e
 rows_zero j b pivot (r ∷ rs) [] e p h = absurd e
-rows_zero j b pivot (r ∷ rs) (n ∷ ns) e p h = (unchanged (value_at r.line.entries j) r.line pivot n.line (unit b) zero_ℚ e.1 p h.0, rows_zero j b pivot rs ns e.2 p h.1)
+rows_zero j b pivot (r ∷ rs) (n ∷ ns) e p h = (unchanged (value_at r.line.entries j) r.line.entries pivot.entries n.line.entries (unit b) zero_ℚ e.1.entries p h.0, rows_zero j b pivot rs ns e.2 p h.1)
 
 -- and at the new basic column
 rows_gone : (j : ℕ) (pivot : Line) (rows new : List Row) → Each j pivot rows new → product pivot.entries (unit j) ≡ one_ℚ → AllLines (λ line. Ascending 0 line.entries) rows → AllRows (λ s. product s.line.entries (unit j) ≡ zero_ℚ) new
 rows_gone j pivot [] [] e p h = tt
 rows_gone j pivot [] (n ∷ ns) e p h = absurd e
 rows_gone j pivot (r ∷ rs) [] e p h = absurd e
-rows_gone j pivot (r ∷ rs) (n ∷ ns) e p h = (gone r.line pivot n.line (unit j) (value_at r.line.entries j) e.1 p (value_is 0 j r.line.entries h.0), rows_gone j pivot rs ns e.2 p h.1)
+rows_gone j pivot (r ∷ rs) (n ∷ ns) e p h = (gone r.line.entries pivot.entries n.line.entries (unit j) (value_at r.line.entries j) e.1.entries p (value_is 0 j r.line.entries h.0), rows_gone j pivot rs ns e.2 p h.1)
 
 each_units : (j : ℕ) (pivot : Line) (rows new : List Row) → Each j pivot rows new → AllRows (λ s. product pivot.entries (unit s.basic) ≡ zero_ℚ) new → IsUnits rows → IsUnits new
 each_units j pivot [] [] e p h = tt
 each_units j pivot [] (n ∷ ns) e p h = absurd e
 each_units j pivot (r ∷ rs) [] e p h = absurd e
 each_units j pivot (r ∷ rs) (n ∷ ns) e p h = (
-  unchanged (value_at r.line.entries j) r.line pivot n.line (unit n.basic) one_ℚ e.1 p.0 (subst (λ (b : ℕ). product r.line.entries (unit b) ≡ one_ℚ) (sym e.0) h.0),
-  form_zero j pivot rs ns (value_at r.line.entries j) r.line n.line e.2 e.1 p.1 h.1,
+  unchanged (value_at r.line.entries j) r.line.entries pivot.entries n.line.entries (unit n.basic) one_ℚ e.1.entries p.0 (subst (λ (b : ℕ). product r.line.entries (unit b) ≡ one_ℚ) (sym e.0) h.0),
+  form_zero j pivot rs ns (value_at r.line.entries j) r.line.entries n.line.entries e.2 e.1.entries p.1 h.1,
   subst (λ (b : ℕ). AllRows (λ s. product s.line.entries (unit b) ≡ zero_ℚ) ns) (sym e.0) (rows_zero j r.basic pivot rs ns e.2 (subst (λ (b : ℕ). product pivot.entries (unit b) ≡ zero_ℚ) e.0 p.0) h.2),
   each_units j pivot rs ns e.2 p.1 h.3,
 )
@@ -171,18 +172,18 @@ rows_rise j pivot (r ∷ rows) d all p h g e =
     lines_join P [] b h k = k
     lines_join P (r ∷ a) b h k = (h.0, lines_join P a b h.1 k)
 
-pub pivot_rises : (j i : ℕ) (t u : Tableau) → i < length t.rows → AllLines (λ line. Ascending 0 line.entries) t.rows → Ascending 0 t.objective.entries → pivoted j i t ≡ Ok u → HasRisen u
+pub pivot_rises : (j i : ℕ) (t u : Tableau) → i < length t.rows → AllLines (λ line. Ascending 0 line.entries) t.rows → Ascending 0 t.objective → pivoted j i t ≡ Ok u → HasRisen u
 pivot_rises j i t u w h o e =
     let line : Line = (row_at t.rows i).line in
-    let a = after_ok (divided (value_at line.entries j) line) (λ pivot. then_walk (cleared_rows j pivot (remove t.rows i) []) (λ rows. then_walk (cleared j pivot t.objective) (λ objective. Ok (record { rows = insert rows i (record { basic = j; line = pivot }); objective = objective })))) u e in
-    let b = after_ok (cleared_rows j a.0 (remove t.rows i) []) (λ rows. then_walk (cleared j a.0 t.objective) (λ objective. Ok (record { rows = insert rows i (record { basic = j; line = a.0 }); objective = objective }))) u a.2 in
-    let c = after_ok (cleared j a.0 t.objective) (λ objective. Ok (record { rows = insert b.0 i (record { basic = j; line = a.0 }); objective = objective })) u b.2 in
+    let a = after_ok (divided (value_at line.entries j) line) (λ pivot. then_walk (cleared_rows j pivot (remove t.rows i) []) (λ rows. then_walk (cleared_form (value_at t.objective j) pivot.entries t.objective) (λ objective. Ok (record { rows = insert rows i (record { basic = j; line = pivot }); objective = objective })))) u e in
+    let b = after_ok (cleared_rows j a.0 (remove t.rows i) []) (λ rows. then_walk (cleared_form (value_at t.objective j) a.0.entries t.objective) (λ objective. Ok (record { rows = insert rows i (record { basic = j; line = a.0 }); objective = objective }))) u a.2 in
+    let c = after_ok (cleared_form (value_at t.objective j) a.0.entries t.objective) (λ objective. Ok (record { rows = insert b.0 i (record { basic = j; line = a.0 }); objective = objective })) u b.2 in
     let k : record { rows = insert b.0 i (record { basic = j; line = a.0 }); objective = c.0 } ≡ u = cc in
     let g = all_uninsert (λ line. Ascending 0 line.entries) (remove t.rows i) i (row_at t.rows i) (subst (AllLines (λ line. Ascending 0 line.entries)) (sym (put_back t.rows i w)) h) in
     let p : Ascending 0 a.0.entries = divided_rises (value_at line.entries j) line a.0 g.1 a.1 in
     record {
       rows = subst (λ (x : Tableau). AllLines (λ line. Ascending 0 line.entries) x.rows) k (all_insert (λ line. Ascending 0 line.entries) b.0 i (record { basic = j; line = a.0 }) (rows_rise j a.0 (remove t.rows i) [] b.0 p g.0 tt b.1) p);
-      objective = subst (λ (x : Tableau). Ascending 0 x.objective.entries) k (cleared_rises (value_at t.objective.entries j) a.0 t.objective c.0 p o c.1);
+      objective = subst (λ (x : Tableau). Ascending 0 x.objective) k (form_rises (value_at t.objective j) a.0.entries t.objective c.0 p o c.1);
     }
 
 -- ---- the entering column
@@ -210,7 +211,7 @@ basic_pivot j i v t u h within ne ratio q_nonneg all_least q =
     let one : product p.pivot.entries (unit j) ≡ one_ℚ =
     p.scaled.entries (unit j) ∙ ap (λ (w : ℚ). inv_ℚ a *ℚ w) (value_is 0 j r.line.entries rise.1) ∙ by_eqs (a ∷ inv_ℚ a ∷ []) (by_eq one_ℚ (mul_inv_ℚ a ne) done) (search terms depth 40) tt in
     let zeros : AllRows (λ s. product p.pivot.entries (unit s.basic) ≡ zero_ℚ) p.others = each_zero j p.pivot others p.others r.line (inv_ℚ a) p.each p.scaled units.1 in
-    let priced = rows_uninsert (λ s. product t.objective.entries (unit s.basic) ≡ zero_ℚ) others i r (subst (AllRows (λ s. product t.objective.entries (unit s.basic) ≡ zero_ℚ)) (sym back) h.priced) in
+    let priced = rows_uninsert (λ s. product t.objective (unit s.basic) ≡ zero_ℚ) others i r (subst (AllRows (λ s. product t.objective (unit s.basic) ≡ zero_ℚ)) (sym back) h.priced) in
     let feasible = all_uninsert (λ line. zero_ℚ ≤ℚ line.right) others i r (subst (AllLines (λ line. zero_ℚ ≤ℚ line.right)) (sym back) h.feasible) in
     let least = all_uninsert (λ line. zero_ℚ <ℚ value_at line.entries j → v ≤ℚ line.right /ℚ value_at line.entries j) others i r
     (subst (AllLines (λ line. zero_ℚ <ℚ value_at line.entries j → v ≤ℚ line.right /ℚ value_at line.entries j)) (sym back) all_least) in
@@ -220,10 +221,10 @@ basic_pivot j i v t u h within ne ratio q_nonneg all_least q =
       rows_rise = risen.rows;
       objective_rises = risen.objective;
       units = subst IsUnits (sym p.rows) (units_insert p.others i new (one, zeros, rows_gone j p.pivot others p.others p.each one rise.0, each_units j p.pivot others p.others p.each zeros units.3));
-      priced = subst (AllRows (λ s. product u.objective.entries (unit s.basic) ≡ zero_ℚ)) (sym p.rows)
-          (rows_insert (λ s. product u.objective.entries (unit s.basic) ≡ zero_ℚ) p.others i new
-          (form_zero j p.pivot others p.others (value_at t.objective.entries j) t.objective u.objective p.each p.objective zeros priced.0)
-          (gone t.objective p.pivot u.objective (unit j) (value_at t.objective.entries j) p.objective one (value_is 0 j t.objective.entries h.objective_rises)));
+      priced = subst (AllRows (λ s. product u.objective (unit s.basic) ≡ zero_ℚ)) (sym p.rows)
+          (rows_insert (λ s. product u.objective (unit s.basic) ≡ zero_ℚ) p.others i new
+          (form_zero j p.pivot others p.others (value_at t.objective j) t.objective u.objective p.each p.objective zeros priced.0)
+          (gone t.objective p.pivot.entries u.objective (unit j) (value_at t.objective j) p.objective one (value_is 0 j t.objective h.objective_rises)));
       feasible = subst (AllLines (λ line. zero_ℚ ≤ℚ line.right)) (sym p.rows)
           (all_insert (λ line. zero_ℚ ≤ℚ line.right) p.others i new (each_feasible j v p.pivot others p.others p.each q_is q_nonneg feasible.0 least.0) (subst (λ (w : ℚ). zero_ℚ ≤ℚ w) (sym q_is) q_nonneg));
     }
@@ -252,7 +253,7 @@ below_pivot all j i t u l w h q =
     subst (AllRows (λ s. s.basic < all)) (sym p.rows) (rows_insert (λ s. s.basic < all) p.others i (record { basic = j; line = p.pivot }) (each_below all j p.pivot others p.others p.each below.0) l)
 
 pub below_keeps : (n all : ℕ) → n ≤ all → Keeps (IsBelow all) n
-below_keeps n all le t u j c h e m q = below_pivot all j c.index t u (let l : j < n = entering_below n t.objective.entries j e in omega arith) m.within h q
+below_keeps n all le t u j c h e m q = below_pivot all j c.index t u (let l : j < n = entering_below n t.objective j e in omega arith) m.within h q
 
 -- ---- the point
 product_point : (f : List Entry) (a : ℚ) (u v : ℕ → ℚ) → product f (λ c. a *ℚ u c +ℚ v c) ≡ a *ℚ product f u +ℚ product f v
@@ -314,16 +315,16 @@ both_keep n cost rows t u j c h e m q = (tied_keeps n cost rows t u j c h.0 e m 
 pub three_keep : (n all : ℕ) (cost : List Entry) (rows : List Row) → n ≤ all → Keeps (Three all cost rows) n
 three_keep n all cost rows le t u j c h e m q = (tied_keeps n cost rows t u j c h.0 e m q, basic_keeps n t u j c h.1 e m q, below_keeps n all le t u j c h.2 e m q)
 
--- the point of a tableau is a solution, and its cost is what the objective row says
-pub record PointOf (all : ℕ) (cost : List Entry) (rows : List Row) (t : Tableau) : Type 0 where
+-- the cost of the point
+pub point_cost : (cost : List Entry) (rows : List Row) (t : Tableau) (h : IsTied cost rows t) → IsBasic t → product cost (point t.rows) ≡ dot h.prices.0 (rights rows)
+point_cost cost rows t h b =
+    cost_is cost rows t (point t.rows) h (h.back (point t.rows) (point_solves t.rows b.units))
+    ∙ by_eqs (product t.objective (point t.rows) ∷ dot h.prices.0 (rights rows) ∷ []) (by_eq one_ℚ (zero_at_point t.objective t.rows b.priced) done) (search terms depth 40) tt
+
+-- the point of a tableau is a solution with no entry below 0
+pub record PointOf (all : ℕ) (rows : List Row) (t : Tableau) : Type 0 where
   pub range : IsPoint all (point t.rows)
   pub solves : Solves rows (point t.rows)
-  pub costs : product cost (point t.rows) ≡ neg_ℚ t.objective.right
 
-pub point_of : (all : ℕ) (cost : List Entry) (rows : List Row) (t : Tableau) → Three all cost rows t → PointOf all cost rows t
-point_of all cost rows t h =
-    let s : Solves rows (point t.rows) = h.0.back (point t.rows) (point_solves t.rows h.1.units) in record {
-      range = point_is all t.rows h.2 h.1.feasible;
-      solves = s;
-      costs = cost_is cost rows t (point t.rows) h.0 s ∙ by_eqs (product t.objective.entries (point t.rows) ∷ t.objective.right ∷ []) (by_eq one_ℚ (zero_at_point t.objective.entries t.rows h.1.priced) done) (search terms depth 40) tt;
-    }
+pub point_of : (all : ℕ) (cost : List Entry) (rows : List Row) (t : Tableau) → Three all cost rows t → PointOf all rows t
+point_of all cost rows t h = record { range = point_is all t.rows h.2 h.1.feasible; solves = h.0.back (point t.rows) (point_solves t.rows h.1.units) }

@@ -58,11 +58,10 @@ pub values_are : (rows : List Row) (x : ℕ → ℚ) → Solves rows x → value
 values_are [] x h = refl
 values_are (r ∷ rows) x h = ap₂ (λ (v : ℚ) (l : List ℚ). v ∷ l) h.0 (values_are rows x h.1)
 
--- the cost of a solution, by the objective row
-pub cost_is : (cost : List Entry) (rows : List Row) (t : Tableau) (x : ℕ → ℚ) → IsTied cost rows t → Solves rows x → product cost x ≡ product t.objective.entries x -ℚ t.objective.right
+-- the cost of a solution is what the objective row says of it, and a number that is the same for all solutions
+pub cost_is : (cost : List Entry) (rows : List Row) (t : Tableau) (x : ℕ → ℚ) (h : IsTied cost rows t) → Solves rows x → product cost x ≡ product t.objective x +ℚ dot h.prices.0 (rights rows)
 cost_is cost rows t x h s =
     let y : List ℚ = h.prices.0 in
-    let l : product t.objective.entries x ≡ product cost x -ℚ dot y (values rows x) = h.prices.1.entries x in
+    let l : product t.objective x ≡ product cost x -ℚ dot y (values rows x) = h.prices.1 x in
     let m : dot y (values rows x) ≡ dot y (rights rows) = ap (dot y) (values_are rows x s) in
-    by_eqs (product t.objective.entries x ∷ product cost x ∷ dot y (values rows x) ∷ dot y (rights rows) ∷ t.objective.right ∷ [])
-    (by_eq (neg_ℚ one_ℚ) l (by_eq one_ℚ m (by_eq one_ℚ h.prices.1.right done))) (search terms depth 40) tt
+    by_eqs (product t.objective x ∷ product cost x ∷ dot y (values rows x) ∷ dot y (rights rows) ∷ []) (by_eq (neg_ℚ one_ℚ) l (by_eq one_ℚ m done)) (search terms depth 40) tt

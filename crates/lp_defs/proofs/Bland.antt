@@ -2,15 +2,16 @@
 -- that m leaves in one and enters in the other.
 use Rattle.std.proofs.Common.{◌≡◌, ℕ, suc, ◌<◌, ◌≤◌, ◌&&◌, ◌⊎◌, inl, inr, Bool, true, false, cond, List, [], ◌∷◌, Option, Some, eqb, ltb, refl, sym, ap, ◌∙◌, subst, arith, eqb-true}
 use Rattle.std.proofs.lemmas.Bool.{ltb-false, ne_eqb, eqb-false}
-use Rattle.rationals.specs.Rational.{ℚ, zero_ℚ, one_ℚ, ◌+ℚ◌, ◌-ℚ◌, ◌*ℚ◌, ◌/ℚ◌, neg_ℚ, inv_ℚ, ◌≤ℚ◌, ◌<ℚ◌, by_eqs, by_linear, terms, le_of_same_ℚ, lt_le_ℚ, le_total_ℚ, mul_mono_ℚ, not_le_of_lt_ℚ}
+use Rattle.rationals.specs.Rational.{ℚ, zero_ℚ, one_ℚ, ◌+ℚ◌, ◌*ℚ◌, ◌/ℚ◌, neg_ℚ, inv_ℚ, ◌≤ℚ◌, ◌<ℚ◌, by_eqs, by_linear, terms, le_of_same_ℚ, lt_le_ℚ, le_total_ℚ, mul_mono_ℚ, not_le_of_lt_ℚ}
 use Rattle.rationals.specs.Ring.Eqs.{done, by_eq}
 use Rattle.rationals.specs.Ring.Given.{fact, equal, nothing}
+use Rattle.rationals.specs.Sums.{dot}
 use Rattle.lp_defs.specs.Tests.{is_below_zero, is_below_zero_false}
 use Rattle.rationals.specs.Sparse.{Entry, product, Ascending}
 use Rattle.lp_defs.specs.Path.{Candidate}
 use Rattle.lp_defs.specs.Lines.{value_at}
 use Rattle.lp_defs.specs.Path.{Row, Tableau, entering}
-use Rattle.lp_defs.specs.Linear.{AllRows, Solves, IsTied}
+use Rattle.lp_defs.specs.Linear.{AllRows, Solves, rights, IsTied}
 use Rattle.lp_defs.specs.Ends.{IsChosen, unit}
 use Rattle.lp_defs.specs.Basis.{IsBasic, point, ray}
 use Rattle.lp_defs.proofs.Best.{cost_is}
@@ -18,24 +19,24 @@ use Rattle.lp_defs.proofs.Basic.{value_is, point_solves}
 use Rattle.lp_defs.proofs.Rays.{product_two, zero_on_ray, ray_flat, further, entering_falls}
 
 -- along the ray of column s in t, the objective row of any other tableau of the same program changes as that of t does
-pub exchange : (cost : List Entry) (rows : List Row) (n s : ℕ) (t u : Tableau) → IsTied cost rows t → IsTied cost rows u → IsBasic t → product u.objective.entries (ray s t.rows) ≡ value_at t.objective.entries s
+pub exchange : (cost : List Entry) (rows : List Row) (n s : ℕ) (t u : Tableau) → IsTied cost rows t → IsTied cost rows u → IsBasic t → product u.objective (ray s t.rows) ≡ value_at t.objective s
 exchange cost rows n s t u kt ku b =
     let x : ℕ → ℚ = point t.rows in
     let d : ℕ → ℚ = ray s t.rows in
     let sx : Solves t.rows x = point_solves t.rows b.units in
     let s1 : Solves rows x = kt.back x sx in
     let s2 : Solves rows (λ c. one_ℚ *ℚ d c +ℚ x c) = kt.back (λ c. one_ℚ *ℚ d c +ℚ x c) (further t.rows x d sx (ray_flat s t.rows b.rows_rise b.units)) in
-    let t1 : product cost x ≡ product t.objective.entries x -ℚ t.objective.right = cost_is cost rows t x kt s1 in
-    let t2 : product cost (λ c. one_ℚ *ℚ d c +ℚ x c) ≡ product t.objective.entries (λ c. one_ℚ *ℚ d c +ℚ x c) -ℚ t.objective.right = cost_is cost rows t (λ c. one_ℚ *ℚ d c +ℚ x c) kt s2 in
-    let u1 : product cost x ≡ product u.objective.entries x -ℚ u.objective.right = cost_is cost rows u x ku s1 in
-    let u2 : product cost (λ c. one_ℚ *ℚ d c +ℚ x c) ≡ product u.objective.entries (λ c. one_ℚ *ℚ d c +ℚ x c) -ℚ u.objective.right = cost_is cost rows u (λ c. one_ℚ *ℚ d c +ℚ x c) ku s2 in
-    let t3 : product t.objective.entries (λ c. one_ℚ *ℚ d c +ℚ x c) ≡ one_ℚ *ℚ product t.objective.entries d +ℚ product t.objective.entries x = product_two t.objective.entries one_ℚ d x in
-    let u3 : product u.objective.entries (λ c. one_ℚ *ℚ d c +ℚ x c) ≡ one_ℚ *ℚ product u.objective.entries d +ℚ product u.objective.entries x = product_two u.objective.entries one_ℚ d x in
-    let same : product u.objective.entries d ≡ product t.objective.entries d = together (product cost x) (product cost (λ c. one_ℚ *ℚ d c +ℚ x c)) (product t.objective.entries x) (product t.objective.entries (λ c. one_ℚ *ℚ d c +ℚ x c)) (product t.objective.entries d) t.objective.right
-    (product u.objective.entries x) (product u.objective.entries (λ c. one_ℚ *ℚ d c +ℚ x c)) (product u.objective.entries d) u.objective.right t1 t2 u1 u2 t3 u3 in
-    same ∙ zero_on_ray t.objective.entries s t.rows b.priced ∙ value_is 0 s t.objective.entries b.objective_rises
+    let t1 : product cost x ≡ product t.objective x +ℚ dot kt.prices.0 (rights rows) = cost_is cost rows t x kt s1 in
+    let t2 : product cost (λ c. one_ℚ *ℚ d c +ℚ x c) ≡ product t.objective (λ c. one_ℚ *ℚ d c +ℚ x c) +ℚ dot kt.prices.0 (rights rows) = cost_is cost rows t (λ c. one_ℚ *ℚ d c +ℚ x c) kt s2 in
+    let u1 : product cost x ≡ product u.objective x +ℚ dot ku.prices.0 (rights rows) = cost_is cost rows u x ku s1 in
+    let u2 : product cost (λ c. one_ℚ *ℚ d c +ℚ x c) ≡ product u.objective (λ c. one_ℚ *ℚ d c +ℚ x c) +ℚ dot ku.prices.0 (rights rows) = cost_is cost rows u (λ c. one_ℚ *ℚ d c +ℚ x c) ku s2 in
+    let t3 : product t.objective (λ c. one_ℚ *ℚ d c +ℚ x c) ≡ one_ℚ *ℚ product t.objective d +ℚ product t.objective x = product_two t.objective one_ℚ d x in
+    let u3 : product u.objective (λ c. one_ℚ *ℚ d c +ℚ x c) ≡ one_ℚ *ℚ product u.objective d +ℚ product u.objective x = product_two u.objective one_ℚ d x in
+    let same : product u.objective d ≡ product t.objective d = together (product cost x) (product cost (λ c. one_ℚ *ℚ d c +ℚ x c)) (product t.objective x) (product t.objective (λ c. one_ℚ *ℚ d c +ℚ x c)) (product t.objective d) (dot kt.prices.0 (rights rows))
+    (product u.objective x) (product u.objective (λ c. one_ℚ *ℚ d c +ℚ x c)) (product u.objective d) (dot ku.prices.0 (rights rows)) t1 t2 u1 u2 t3 u3 in
+    same ∙ zero_on_ray t.objective s t.rows b.priced ∙ value_is 0 s t.objective b.objective_rises
   where
-    together : (cx cy tx ty td tr ux uy ud ur : ℚ) → cx ≡ tx -ℚ tr → cy ≡ ty -ℚ tr → cx ≡ ux -ℚ ur → cy ≡ uy -ℚ ur → ty ≡ one_ℚ *ℚ td +ℚ tx → uy ≡ one_ℚ *ℚ ud +ℚ ux → ud ≡ td
+    together : (cx cy tx ty td tr ux uy ud ur : ℚ) → cx ≡ tx +ℚ tr → cy ≡ ty +ℚ tr → cx ≡ ux +ℚ ur → cy ≡ uy +ℚ ur → ty ≡ one_ℚ *ℚ td +ℚ tx → uy ≡ one_ℚ *ℚ ud +ℚ ux → ud ≡ td
     together cx cy tx ty td tr ux uy ud ur a b c d e f = by_eqs (cx ∷ cy ∷ tx ∷ ty ∷ td ∷ tr ∷ ux ∷ uy ∷ ud ∷ ur ∷ [])
         (by_eq (neg_ℚ one_ℚ) a (by_eq one_ℚ b (by_eq one_ℚ c (by_eq (neg_ℚ one_ℚ) d (by_eq one_ℚ e (by_eq (neg_ℚ one_ℚ) f done)))))) (search terms depth 40) tt
 
@@ -110,13 +111,13 @@ all_against s m f (r ∷ rows) q z e first own ok down = (against s m f r q z.0 
 
 -- the two tableaus can't both be there
 pub no_such_pair : (cost : List Entry) (rows : List Row) (n s m : ℕ) (t u : Tableau) (c : Candidate) → IsTied cost rows t → IsTied cost rows u → IsBasic t → IsBasic u
-    → entering n t.objective.entries ≡ Some s → IsChosen s t.rows c → c.basic ≡ m → c.ratio ≡ zero_ℚ → entering n u.objective.entries ≡ Some m → s < m → m < n
-    → AllRows (Fickle m u.objective.entries) t.rows → AllRows (λ r. r.basic ≡ m → zero_ℚ <ℚ value_at r.line.entries s) t.rows → ⊥
+    → entering n t.objective ≡ Some s → IsChosen s t.rows c → c.basic ≡ m → c.ratio ≡ zero_ℚ → entering n u.objective ≡ Some m → s < m → m < n
+    → AllRows (Fickle m u.objective) t.rows → AllRows (λ r. r.basic ≡ m → zero_ℚ <ℚ value_at r.line.entries s) t.rows → ⊥
 no_such_pair cost rows n s m t u c kt ku bt bu es ch cm q em sm mn fickle own =
-    let f : List Entry = u.objective.entries in
+    let f : List Entry = u.objective in
     let ok : (k : ℕ) → k < m → zero_ℚ ≤ℚ product f (unit k) = λ k h. subst (λ (v : ℚ). zero_ℚ ≤ℚ v) (sym (value_is 0 k f bu.objective_rises)) (entering_first n m k 0 f bu.objective_rises em h mn) in
     let down : product f (unit m) ≤ℚ zero_ℚ = lt_le_ℚ (subst (λ (v : ℚ). v <ℚ zero_ℚ) (sym (value_is 0 m f bu.objective_rises)) (entering_falls n 0 m f bu.objective_rises em)) in
     let first : AllRows (λ r. zero_ℚ <ℚ value_at r.line.entries s → r.line.right /ℚ value_at r.line.entries s ≤ℚ c.ratio → m ≤ r.basic) t.rows =
     subst (λ (b : ℕ). AllRows (λ r. zero_ℚ <ℚ value_at r.line.entries s → r.line.right /ℚ value_at r.line.entries s ≤ℚ c.ratio → b ≤ r.basic) t.rows) cm ch.first in
     let above : zero_ℚ ≤ℚ product f (ray s t.rows) = ray_above s f t.rows (ok s sm) (all_against s m f t.rows c.ratio fickle q first own ok down) in
-    not_le_of_lt_ℚ (entering_falls n 0 s t.objective.entries bt.objective_rises es) (subst (λ (v : ℚ). zero_ℚ ≤ℚ v) (exchange cost rows n s t u kt ku bt) above)
+    not_le_of_lt_ℚ (entering_falls n 0 s t.objective bt.objective_rises es) (subst (λ (v : ℚ). zero_ℚ ≤ℚ v) (exchange cost rows n s t u kt ku bt) above)

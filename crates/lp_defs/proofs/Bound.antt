@@ -2,13 +2,11 @@
 use Rattle.std.proofs.Common.{◌≡◌, ℕ, zero, suc, ◌+◌, ◌-◌, ◌*◌, ◌^◌, ◌<◌, ◌≤◌, Bool, true, false, Option, Some, None, List, [], ◌∷◌, ◌++◌, Ok, Err, length, refl, sym, ◌∙◌, subst, arith}
 use Rattle.rationals.specs.Rational.{ℚ}
 use Rattle.rationals.specs.Sparse.{Entry}
-use Rattle.lp_defs.specs.Tests.{is_below_zero, is_below_zero_false}
 use Rattle.lp_defs.specs.Walks.{Walk}
-use Rattle.lp_defs.specs.Lines.{Line}
 use Rattle.lp_defs.specs.Path.{Row, Tableau, Candidate, Ending, Done, Open, TooLong, Stopped, entering, leaving, has_above_zero, pivoted, row_at, with_choice, with_value, at_limit, path}
 use Rattle.lp_defs.specs.Ends.{IsChosen, IsChoice, EndsWell}
 use Rattle.lp_defs.specs.Trace.{Stage, IsStep, Leads}
-use Rattle.lp_defs.specs.Phases.{unit_rows, with_units, cost_line, priced, replacing, Driven, Driven_out, Driven_long, Driven_stop, driven_by, driven_at, driven, first_duals}
+use Rattle.lp_defs.specs.Phases.{unit_rows, with_units, priced, has_artificial_above, replacing, Driven, Driven_out, Driven_long, Driven_stop, driven_by, driven_at, driven, first_duals}
 use Rattle.lp_defs.specs.Program.{Program, IsProgram}
 use Rattle.lp_defs.specs.Stages.{Three, all_columns, First, Second}
 use Rattle.lp_defs.specs.Solution.{Solution, Nowhere, Cut_off, counted, first_rows, first_cost, first_end, second_end, between}
@@ -37,21 +35,21 @@ Chained n left k t (Stopped last p) = Unit {0}
 no_pivot : (n : ℕ) (t : Tableau) → Chain n t t 0
 no_pivot n t = record { stages = []; leads = refl; long = refl }
 
-one_more : (n : ℕ) (t u v : Tableau) (j : ℕ) (c : Candidate) (count : ℕ) → entering n t.objective.entries ≡ Some j → IsChosen j t.rows c → pivoted j c.index t ≡ Ok u → Chain n u v count → Chain n t v (suc count)
+one_more : (n : ℕ) (t u v : Tableau) (j : ℕ) (c : Candidate) (count : ℕ) → entering n t.objective ≡ Some j → IsChosen j t.rows c → pivoted j c.index t ≡ Ok u → Chain n u v count → Chain n t v (suc count)
 one_more n t u v j c count e m q h = record {
   stages = record { from = t; enters = j; leaves = c; to = u } ∷ h.stages;
   leads = (refl, record { enter = e; leave = m; pivot = q }, h.leads);
   long = let l : length h.stages ≡ count = h.long in omega arith;
 }
 
-chained_more : (n left k : ℕ) (t u : Tableau) (j : ℕ) (c : Candidate) (e : Ending) → entering n t.objective.entries ≡ Some j → IsChosen j t.rows c → pivoted j c.index t ≡ Ok u → Chained n left (k + 1) u e → Chained n (suc left) k t e
+chained_more : (n left k : ℕ) (t u : Tableau) (j : ℕ) (c : Candidate) (e : Ending) → entering n t.objective ≡ Some j → IsChosen j t.rows c → pivoted j c.index t ≡ Ok u → Chained n left (k + 1) u e → Chained n (suc left) k t e
 chained_more n left k t u j c (Done last v) x m q h = (suc h.0, one_more n t u v j c h.0 x m q h.1, (let l : last ≡ (k + 1) + h.0 = h.2 in omega arith), (let l : h.0 ≤ left = h.3 in omega arith))
 chained_more n left k t u j c (Open i v) x m q h = tt
 chained_more n left k t u j c TooLong x m q h = (h.0, one_more n t u h.0 j c left x m q h.1)
 chained_more n left k t u j c (Stopped last p) x m q h = tt
 
 chained : (n left k : ℕ) (t : Tableau) → Chained n left k t (path n left k t)
-chained n zero k t = go (entering n t.objective.entries)
+chained n zero k t = go (entering n t.objective)
   where
     last : (j : ℕ) (b : Bool) → Chained n 0 k t (at_limit j t b)
     last j true = (t, no_pivot n t)
@@ -60,24 +58,24 @@ chained n zero k t = go (entering n t.objective.entries)
     go : (o : Option ℕ) → Chained n 0 k t (with_choice o (Done k t) (λ j. at_limit j t (has_above_zero j t.rows)))
     go None = (0, no_pivot n t, omega arith, omega arith)
     go (Some j) = last j (has_above_zero j t.rows)
-chained n (suc left) k t = go (entering n t.objective.entries) refl (chained n left (k + 1))
+chained n (suc left) k t = go (entering n t.objective) refl (chained n left (k + 1))
   where
-    next : (j : ℕ) (c : Candidate) (w : Walk Tableau) → entering n t.objective.entries ≡ Some j → IsChosen j t.rows c → pivoted j c.index t ≡ w → ((u : Tableau) → Chained n left (k + 1) u (path n left (k + 1) u))
+    next : (j : ℕ) (c : Candidate) (w : Walk Tableau) → entering n t.objective ≡ Some j → IsChosen j t.rows c → pivoted j c.index t ≡ w → ((u : Tableau) → Chained n left (k + 1) u (path n left (k + 1) u))
         → Chained n (suc left) k t (with_value w (Stopped (k + 1)) (λ u. path n left (k + 1) u))
     next j c (Ok u) e m q ih = chained_more n left k t u j c (path n left (k + 1) u) e m q (ih u)
     next j c (Err p) e m q ih = tt
 
-    found : (j : ℕ) (o : Option Candidate) → entering n t.objective.entries ≡ Some j → IsChoice j t.rows o → ((u : Tableau) → Chained n left (k + 1) u (path n left (k + 1) u))
+    found : (j : ℕ) (o : Option Candidate) → entering n t.objective ≡ Some j → IsChoice j t.rows o → ((u : Tableau) → Chained n left (k + 1) u (path n left (k + 1) u))
         → Chained n (suc left) k t (with_choice o (Open j t) (λ c. with_value (pivoted j c.index t) (Stopped (k + 1)) (λ u. path n left (k + 1) u)))
     found j None e m ih = tt
     found j (Some c) e m ih = next j c (pivoted j c.index t) e m refl ih
 
-    leave : (j : ℕ) (w : Walk (Option Candidate)) → entering n t.objective.entries ≡ Some j → leaving j t.rows 0 None ≡ w → ((u : Tableau) → Chained n left (k + 1) u (path n left (k + 1) u))
+    leave : (j : ℕ) (w : Walk (Option Candidate)) → entering n t.objective ≡ Some j → leaving j t.rows 0 None ≡ w → ((u : Tableau) → Chained n left (k + 1) u (path n left (k + 1) u))
         → Chained n (suc left) k t (with_value w (Stopped (k + 1)) (λ o. with_choice o (Open j t) (λ c. with_value (pivoted j c.index t) (Stopped (k + 1)) (λ u. path n left (k + 1) u))))
     leave j (Ok o) e m ih = found j o e (leaving_is j t.rows o m) ih
     leave j (Err p) e m ih = tt
 
-    go : (o : Option ℕ) → entering n t.objective.entries ≡ o → ((u : Tableau) → Chained n left (k + 1) u (path n left (k + 1) u))
+    go : (o : Option ℕ) → entering n t.objective ≡ o → ((u : Tableau) → Chained n left (k + 1) u (path n left (k + 1) u))
         → Chained n (suc left) k t (with_choice o (Done k t) (λ j. with_value (leaving j t.rows 0 None) (Stopped (k + 1)) (λ o. with_choice o (Open j t) (λ c. with_value (pivoted j c.index t) (Stopped (k + 1)) (λ u. path n left (k + 1) u)))))
     go None e ih = (0, no_pivot n t, omega arith, omega arith)
     go (Some j) e ih = leave j (leaving j t.rows 0 None) e refl ih
@@ -185,9 +183,9 @@ module _ (p : Program) (is : IsProgram p) where
   second_goes pivots k t s h (Stopped last o) ch e = cc
 
   between_goes : (pivots : ℕ) (d : Driven) → EndsDriven p d → (k : ℕ) → FewDriven k (length p.rows) d → sets p ≤ pivots - (k + length p.rows) → between p pivots d ≡ Cut_off → ⊥
-  between_goes pivots (Driven_out last u) w k f h e = go (priced p.cost u.rows (cost_line p.cost)) refl e
+  between_goes pivots (Driven_out last u) w k f h e = go (priced p.cost u.rows p.cost) refl e
     where
-      go : (v : Walk Line) → priced p.cost u.rows (cost_line p.cost) ≡ v → counted last v (λ o. second_end p (path p.columns (pivots - last) last (record { rows = u.rows; objective = o }))) ≡ Cut_off → ⊥
+      go : (v : Walk (List Entry)) → priced p.cost u.rows p.cost ≡ v → counted last v (λ o. second_end p (path p.columns (pivots - last) last (record { rows = u.rows; objective = o }))) ≡ Cut_off → ⊥
       go (Ok o) q e = second_goes pivots last (record { rows = u.rows; objective = o }) (second_begins p u o is w q) (omega arith) (path p.columns (pivots - last) last (record { rows = u.rows; objective = o })) (chained p.columns (pivots - last) last (record { rows = u.rows; objective = o })) e
       go (Err o) q e = cc
   between_goes pivots Driven_long w k f h e = f
@@ -195,13 +193,13 @@ module _ (p : Program) (is : IsProgram p) where
 
   first_goes : (pivots : ℕ) (t : Tableau) → First p t → length t.rows ≡ length p.rows → 2 * sets p + length p.rows ≤ pivots → (e : Ending) → EndsWell (First p) p.columns e → EndsWell (λ u. length u.rows ≡ length p.rows) p.columns e → Chained p.columns pivots 0 t e
       → first_end p pivots e ≡ Cut_off → ⊥
-  first_goes pivots t s long h (Done last u) w v ch e = go (is_below_zero u.objective.right) refl e
+  first_goes pivots t s long h (Done last u) w v ch e = go (has_artificial_above p.columns u.rows) refl e
     where
       duals : (x : Walk (List ℚ)) → counted last x Nowhere ≡ Cut_off → ⊥
       duals (Ok y) e = cc
       duals (Err o) e = cc
 
-      go : (b : Bool) → is_below_zero u.objective.right ≡ b
+      go : (b : Bool) → has_artificial_above p.columns u.rows ≡ b
           → ◌≡◌ {A = Solution} (elim b [ true ↦ counted last (first_duals p.columns (length p.rows) u.objective []) Nowhere | false ↦ between p pivots (driven p.columns (length u.rows) 0 (pivots - last) last u) ]) Cut_off → ⊥
       go true q e = duals (first_duals p.columns (length p.rows) u.objective []) e
       go false q e =
@@ -209,7 +207,7 @@ module _ (p : Program) (is : IsProgram p) where
           let l : last ≡ 0 + ch.0 = ch.2 in
           let m : length u.rows ≡ length p.rows = v.0 in
           let few : FewDriven last (length p.rows) (driven p.columns (length u.rows) 0 (pivots - last) last u) = subst (λ (x : ℕ). FewDriven last x (driven p.columns (length u.rows) 0 (pivots - last) last u)) m (few_driven p.columns (length u.rows) 0 (pivots - last) last u (omega arith)) in
-          between_goes pivots (driven p.columns (length u.rows) 0 (pivots - last) last u) (driven_well p (pivots - last) last u (driving_begins p u w.0 (is_below_zero_false u.objective.right q))) last few (omega arith) e
+          between_goes pivots (driven p.columns (length u.rows) 0 (pivots - last) last u) (driven_well p (pivots - last) last u (driving_begins p u w.0 q)) last few (omega arith) e
   first_goes pivots t s long h (Open j u) w v ch e = never_open p j u w.0 w.1 w.2
   first_goes pivots t s long h TooLong w v ch e =
       let f : pivots < 2 ^ all_columns p = few_pivots p.columns (all_columns p) (first_cost p) (first_rows p) t ch.0 pivots (omega arith) s ch.1 in
@@ -217,9 +215,9 @@ module _ (p : Program) (is : IsProgram p) where
   first_goes pivots t s long h (Stopped last o) w v ch e = cc
 
 pub pivots_are_bounded : PivotsAreBounded
-pivots_are_bounded p pivots is h e = go (priced (first_cost p) (first_rows p) (cost_line (first_cost p))) refl e
+pivots_are_bounded p pivots is h e = go (priced (first_cost p) (first_rows p) (first_cost p)) refl e
   where
-    go : (w : Walk Line) → priced (first_cost p) (first_rows p) (cost_line (first_cost p)) ≡ w → counted 0 w (λ o. first_end p pivots (path p.columns pivots 0 (record { rows = first_rows p; objective = o }))) ≡ Cut_off → ⊥
+    go : (w : Walk (List Entry)) → priced (first_cost p) (first_rows p) (first_cost p) ≡ w → counted 0 w (λ o. first_end p pivots (path p.columns pivots 0 (record { rows = first_rows p; objective = o }))) ≡ Cut_off → ⊥
     go (Ok o) q e =
         let s : First p (record { rows = first_rows p; objective = o }) = first_begins p o is q in
         let l : length (first_rows p) ≡ length p.rows = first_rows_long p.columns (with_units p.columns p.rows) p.right (is.one_each ∙ sym (length_with_units p.columns p.rows)) ∙ length_with_units p.columns p.rows in

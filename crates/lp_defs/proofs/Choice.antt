@@ -164,36 +164,36 @@ none_above j (r ∷ rows) e = go (is_above_zero (value_at r.line.entries j)) ref
 
 -- ---- what each pivot keeps holds at the end
 abbrev pub Keeps : (Tableau → Type 0) → ℕ → Type 0
-Keeps P n = (t u : Tableau) (j : ℕ) (c : Candidate) → P t → entering n t.objective.entries ≡ Some j → IsChosen j t.rows c → pivoted j c.index t ≡ Ok u → P u
+Keeps P n = (t u : Tableau) (j : ℕ) (c : Candidate) → P t → entering n t.objective ≡ Some j → IsChosen j t.rows c → pivoted j c.index t ≡ Ok u → P u
 
 pub path_keeps : (P : Tableau → Type 0) (n : ℕ) → Keeps P n → (left k : ℕ) (t : Tableau) → P t → EndsWell P n (path n left k t)
-path_keeps P n f zero k t h = go (entering n t.objective.entries) refl
+path_keeps P n f zero k t h = go (entering n t.objective) refl
   where
-    last : (j : ℕ) (b : Bool) → entering n t.objective.entries ≡ Some j → has_above_zero j t.rows ≡ b → EndsWell P n (at_limit j t b)
+    last : (j : ℕ) (b : Bool) → entering n t.objective ≡ Some j → has_above_zero j t.rows ≡ b → EndsWell P n (at_limit j t b)
     last j true e m = tt
     last j false e m = (h, e, none_above j t.rows m)
 
-    go : (o : Option ℕ) → entering n t.objective.entries ≡ o → EndsWell P n (with_choice o (Done k t) (λ j. at_limit j t (has_above_zero j t.rows)))
+    go : (o : Option ℕ) → entering n t.objective ≡ o → EndsWell P n (with_choice o (Done k t) (λ j. at_limit j t (has_above_zero j t.rows)))
     go None e = (h, e)
     go (Some j) e = last j (has_above_zero j t.rows) e refl
-path_keeps P n f (suc left) k t h = go (entering n t.objective.entries) refl (path_keeps P n f left (k + 1))
+path_keeps P n f (suc left) k t h = go (entering n t.objective) refl (path_keeps P n f left (k + 1))
   where
-    next : (j : ℕ) (c : Candidate) (w : Walk Tableau) → entering n t.objective.entries ≡ Some j → IsChosen j t.rows c → pivoted j c.index t ≡ w → ((u : Tableau) → P u → EndsWell P n (path n left (k + 1) u))
+    next : (j : ℕ) (c : Candidate) (w : Walk Tableau) → entering n t.objective ≡ Some j → IsChosen j t.rows c → pivoted j c.index t ≡ w → ((u : Tableau) → P u → EndsWell P n (path n left (k + 1) u))
         → EndsWell P n (with_value w (Stopped (k + 1)) (λ u. path n left (k + 1) u))
     next j c (Ok u) e m q ih = ih u (f t u j c h e m q)
     next j c (Err p) e m q ih = tt
 
-    found : (j : ℕ) (o : Option Candidate) → entering n t.objective.entries ≡ Some j → IsChoice j t.rows o → ((u : Tableau) → P u → EndsWell P n (path n left (k + 1) u))
+    found : (j : ℕ) (o : Option Candidate) → entering n t.objective ≡ Some j → IsChoice j t.rows o → ((u : Tableau) → P u → EndsWell P n (path n left (k + 1) u))
         → EndsWell P n (with_choice o (Open j t) (λ c. with_value (pivoted j c.index t) (Stopped (k + 1)) (λ u. path n left (k + 1) u)))
     found j None e m ih = (h, e, m)
     found j (Some c) e m ih = next j c (pivoted j c.index t) e m refl ih
 
-    leave : (j : ℕ) (w : Walk (Option Candidate)) → entering n t.objective.entries ≡ Some j → leaving j t.rows 0 None ≡ w → ((u : Tableau) → P u → EndsWell P n (path n left (k + 1) u))
+    leave : (j : ℕ) (w : Walk (Option Candidate)) → entering n t.objective ≡ Some j → leaving j t.rows 0 None ≡ w → ((u : Tableau) → P u → EndsWell P n (path n left (k + 1) u))
         → EndsWell P n (with_value w (Stopped (k + 1)) (λ o. with_choice o (Open j t) (λ c. with_value (pivoted j c.index t) (Stopped (k + 1)) (λ u. path n left (k + 1) u))))
     leave j (Ok o) e m ih = found j o e (leaving_is j t.rows o m) ih
     leave j (Err p) e m ih = tt
 
-    go : (o : Option ℕ) → entering n t.objective.entries ≡ o → ((u : Tableau) → P u → EndsWell P n (path n left (k + 1) u))
+    go : (o : Option ℕ) → entering n t.objective ≡ o → ((u : Tableau) → P u → EndsWell P n (path n left (k + 1) u))
         → EndsWell P n (with_choice o (Done k t) (λ j. with_value (leaving j t.rows 0 None) (Stopped (k + 1)) (λ o. with_choice o (Open j t) (λ c. with_value (pivoted j c.index t) (Stopped (k + 1)) (λ u. path n left (k + 1) u)))))
     go None e ih = (h, e)
     go (Some j) e ih = leave j (leaving j t.rows 0 None) e refl ih

@@ -1,7 +1,7 @@
 -- The ray where no row bounds the entering column, and the duals that are read off the objective row.
 use Rattle.std.proofs.Common.{◌≡◌, ℕ, suc, ◌<◌, ◌≤◌, ◌&&◌, Bool, true, false, List, [], ◌∷◌, Option, Some, eqb, ltb, refl, sym, ◌∙◌, subst, arith, eqb-true, eq-eqb}
 use Rattle.std.proofs.lemmas.Bool.{ne_eqb}
-use Rattle.rationals.specs.Rational.{ℚ, zero_ℚ, one_ℚ, ◌+ℚ◌, ◌-ℚ◌, ◌*ℚ◌, neg_ℚ, ◌≤ℚ◌, ◌<ℚ◌, by_ring, by_eqs, by_linear, by_facts, terms, le_refl_ℚ, one_nonneg_ℚ, mul_nonneg_ℚ}
+use Rattle.rationals.specs.Rational.{ℚ, zero_ℚ, one_ℚ, ◌+ℚ◌, ◌*ℚ◌, neg_ℚ, ◌≤ℚ◌, ◌<ℚ◌, by_ring, by_eqs, by_linear, by_facts, terms, le_refl_ℚ, one_nonneg_ℚ, mul_nonneg_ℚ}
 use Rattle.rationals.specs.Ring.Eqs.{done, by_eq}
 use Rattle.rationals.specs.Ring.Facts.{end, by_le}
 use Rattle.rationals.specs.Ring.Given.{fact, nothing}
@@ -106,7 +106,7 @@ ray_range n j (r ∷ rows) l b h c =
     )
 
 -- where no row bounds the entering column, the ray is one of the program
-pub ray_of : (n all : ℕ) (cost : List Entry) (rows : List Row) (j : ℕ) (t : Tableau) → n ≤ all → Three all cost rows t → entering n t.objective.entries ≡ Some j → NoneAbove j t.rows → IsRayOf all cost rows (ray j t.rows)
+pub ray_of : (n all : ℕ) (cost : List Entry) (rows : List Row) (j : ℕ) (t : Tableau) → n ≤ all → Three all cost rows t → entering n t.objective ≡ Some j → NoneAbove j t.rows → IsRayOf all cost rows (ray j t.rows)
 ray_of n all cost rows j t le h e flat_at =
     let x : ℕ → ℚ = point t.rows in
     let d : ℕ → ℚ = ray j t.rows in
@@ -114,18 +114,18 @@ ray_of n all cost rows j t le h e flat_at =
     let sy : Solves t.rows (λ c. one_ℚ *ℚ d c +ℚ x c) = further t.rows x d sx (ray_flat j t.rows h.1.rows_rise h.1.units) in
     let s : Solves rows x = h.0.back x sx in
     let s2 : Solves rows (λ c. one_ℚ *ℚ d c +ℚ x c) = h.0.back (λ c. one_ℚ *ℚ d c +ℚ x c) sy in
-    let k1 : product cost x ≡ product t.objective.entries x -ℚ t.objective.right = cost_is cost rows t x h.0 s in
-    let k2 : product cost (λ c. one_ℚ *ℚ d c +ℚ x c) ≡ product t.objective.entries (λ c. one_ℚ *ℚ d c +ℚ x c) -ℚ t.objective.right = cost_is cost rows t (λ c. one_ℚ *ℚ d c +ℚ x c) h.0 s2 in
+    let k1 : product cost x ≡ product t.objective x +ℚ dot h.0.prices.0 (rights rows) = cost_is cost rows t x h.0 s in
+    let k2 : product cost (λ c. one_ℚ *ℚ d c +ℚ x c) ≡ product t.objective (λ c. one_ℚ *ℚ d c +ℚ x c) +ℚ dot h.0.prices.0 (rights rows) = cost_is cost rows t (λ c. one_ℚ *ℚ d c +ℚ x c) h.0 s2 in
     let k3 : product cost (λ c. one_ℚ *ℚ d c +ℚ x c) ≡ one_ℚ *ℚ product cost d +ℚ product cost x = product_two cost one_ℚ d x in
-    let k4 : product t.objective.entries (λ c. one_ℚ *ℚ d c +ℚ x c) ≡ one_ℚ *ℚ product t.objective.entries d +ℚ product t.objective.entries x = product_two t.objective.entries one_ℚ d x in
-    let same : product cost d ≡ product t.objective.entries d =
-    by_eqs (product cost x ∷ product cost d ∷ product t.objective.entries x ∷ product t.objective.entries d ∷ t.objective.right ∷ product cost (λ c. one_ℚ *ℚ d c +ℚ x c) ∷ product t.objective.entries (λ c. one_ℚ *ℚ d c +ℚ x c) ∷ [])
+    let k4 : product t.objective (λ c. one_ℚ *ℚ d c +ℚ x c) ≡ one_ℚ *ℚ product t.objective d +ℚ product t.objective x = product_two t.objective one_ℚ d x in
+    let same : product cost d ≡ product t.objective d =
+    by_eqs (product cost x ∷ product cost d ∷ product t.objective x ∷ product t.objective d ∷ dot h.0.prices.0 (rights rows) ∷ product cost (λ c. one_ℚ *ℚ d c +ℚ x c) ∷ product t.objective (λ c. one_ℚ *ℚ d c +ℚ x c) ∷ [])
     (by_eq (neg_ℚ one_ℚ) k3 (by_eq one_ℚ k2 (by_eq (neg_ℚ one_ℚ) k1 (by_eq one_ℚ k4 done)))) (search terms depth 40) tt in
-    let at_j : product t.objective.entries d ≡ value_at t.objective.entries j = zero_on_ray t.objective.entries j t.rows h.1.priced ∙ value_is 0 j t.objective.entries h.1.objective_rises in
+    let at_j : product t.objective d ≡ value_at t.objective j = zero_on_ray t.objective j t.rows h.1.priced ∙ value_is 0 j t.objective h.1.objective_rises in
     record {
-      direction = ray_range all j t.rows (let l : j < n = entering_below n t.objective.entries j e in omega arith) h.2 flat_at;
+      direction = ray_range all j t.rows (let l : j < n = entering_below n t.objective j e in omega arith) h.2 flat_at;
       flat = flat_again rows x d s s2;
-      falls = subst (λ (v : ℚ). v <ℚ zero_ℚ) (sym (same ∙ at_j)) (entering_falls n 0 j t.objective.entries h.1.objective_rises e);
+      falls = subst (λ (v : ℚ). v <ℚ zero_ℚ) (sym (same ∙ at_j)) (entering_falls n 0 j t.objective h.1.objective_rises e);
     }
 
 -- ---- multipliers are read at the unit columns

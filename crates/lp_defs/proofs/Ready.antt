@@ -1,9 +1,9 @@
 -- What holds at each stage of a solve.
 use Rattle.std.proofs.Common.{◌≡◌, ℕ, zero, suc, ◌<◌, ◌≤◌, ◌+◌, inl, inr, Bool, true, false, ltb, Option, Some, None, List, [], ◌∷◌, Ok, Err, length, refl, sym, ap, ◌∙◌, subst, arith, le_refl}
+use Rattle.std.specs.List.{remove}
 use Rattle.std.proofs.lemmas.Bool.{ltb-true, ltb-false}
-use Rattle.rationals.specs.Rational.{ℚ, zero_ℚ, one_ℚ, ◌*ℚ◌, neg_ℚ, inv_ℚ, ◌≤ℚ◌, ◌<ℚ◌, not_le_of_lt_ℚ, le_of_same_ℚ, by_eqs, by_linear, by_linear_eq, terms}
+use Rattle.rationals.specs.Rational.{zero_ℚ, one_ℚ, inv_ℚ, ◌<ℚ◌, not_le_of_lt_ℚ, lt_of_not_le_ℚ, le_of_same_ℚ, by_eqs, terms}
 use Rattle.rationals.specs.Ring.Eqs.{done, by_eq}
-use Rattle.rationals.specs.Ring.Given.{fact, equal, nothing}
 use Rattle.rationals.specs.Sparse.{Entry, product, Ascending}
 use Rattle.lp_defs.specs.Walks.{Walk}
 use Rattle.lp_defs.specs.Lines.{Line, value_at}
@@ -13,17 +13,18 @@ use Rattle.lp_defs.specs.Ends.{unit, EndsWell, NoneAbove}
 use Rattle.lp_defs.specs.Basis.{IsUnits, point, ray}
 use Rattle.lp_defs.specs.Trace.{NotIn}
 use Rattle.lp_defs.specs.Program.{Program, IsProgram}
-use Rattle.lp_defs.specs.Phases.{with_units, cost_line, priced, nonzero_below, replacing, Driven, Driven_out, Driven_long, Driven_stop, driven_by, driven_at, driven}
+use Rattle.lp_defs.specs.Phases.{with_units, priced, has_artificial_above, nonzero_below, replacing, Driven, Driven_out, Driven_long, Driven_stop, driven_by, driven_at, driven}
 use Rattle.lp_defs.specs.Solution.{first_rows, first_cost}
 use Rattle.lp_defs.specs.Stages.{all_columns, First, Driving, Settled, DrivenOut, Second}
-use Rattle.lp_defs.proofs.Rows.{Pivots, pivots}
+use Rattle.lp_defs.proofs.Rows.{Pivots, pivots, put_back}
 use Rattle.lp_defs.proofs.Choice.{path_keeps, Keeps}
 use Rattle.lp_defs.proofs.Best.{start_spans}
-use Rattle.lp_defs.proofs.Basic.{value_is, Both, three_keep, point_of, below_pivot, entering_below}
+use Rattle.lp_defs.proofs.Basic.{value_is, Both, three_keep, point_of, below_pivot, entering_below, rows_insert, rows_uninsert}
 use Rattle.lp_defs.proofs.Rays.{ray_of}
-use Rattle.lp_defs.proofs.Phases.{priced_start, driven_keeps, rows_zip}
+use Rattle.lp_defs.proofs.Phases.{priced_start, driven_keeps}
 use Rattle.lp_defs.proofs.Twice.{point_at}
 use Rattle.lp_defs.proofs.Starts.{units_of, units_at_end, length_with_units, basics_below, rows_rise, rights_above, costs_rise, costs_above, costs_zero}
+use Rattle.lp_defs.proofs.Artificial.{IsNone, Above, none_above, some_above, each_none}
 use Rattle.lp_defs.proofs.Settled.{FirstSettled, settled_pivot, all_first, first_more, first_pivot, pivot_long, nonzero_is, none_is_empty}
 
 pub all_at : (P : Row → Type 0) (rows : List Row) (i : ℕ) → i < length rows → AllRows P rows → P (row_at rows i)
@@ -48,7 +49,7 @@ apart_entering f j (r ∷ rows) a h z = (
 pub first_units : (p : Program) → IsProgram p → IsUnits (first_rows p)
 first_units p is = units_of p.columns p.columns (with_units p.columns p.rows) p.right (le_refl p.columns) (units_at_end p.columns p.columns p.rows is.rows)
 
-pub first_begins : (p : Program) (o : Line) → IsProgram p → priced (first_cost p) (first_rows p) (cost_line (first_cost p)) ≡ Ok o → First p (record { rows = first_rows p; objective = o })
+pub first_begins : (p : Program) (o : List Entry) → IsProgram p → priced (first_cost p) (first_rows p) (first_cost p) ≡ Ok o → First p (record { rows = first_rows p; objective = o })
 first_begins p o is e =
     let b : Both (first_cost p) (first_rows p) (record { rows = first_rows p; objective = o }) =
     priced_start (first_cost p) (first_rows p) (first_rows p) o (costs_rise 0 p.columns (length p.rows) (omega arith)) (rows_rise p.columns p.columns p.rows p.right (le_refl p.columns) is.rows) (first_units p is)
@@ -59,38 +60,35 @@ pub first_path : (p : Program) (left k : ℕ) (t : Tableau) → First p t → En
 first_path p left k t h = path_keeps (First p) p.columns (three_keep p.columns (all_columns p) (first_cost p) (first_rows p) (omega arith)) left k t h
 
 -- the sum of the artificial columns has a least value
-pub never_open : (p : Program) (j : ℕ) (t : Tableau) → First p t → entering p.columns t.objective.entries ≡ Some j → NoneAbove j t.rows → ⊥
+pub never_open : (p : Program) (j : ℕ) (t : Tableau) → First p t → entering p.columns t.objective ≡ Some j → NoneAbove j t.rows → ⊥
 never_open p j t h e open_at =
     let r = ray_of p.columns (all_columns p) (first_cost p) (first_rows p) j t (omega arith) h e open_at in
     not_le_of_lt_ℚ r.falls (costs_above p.columns (length p.rows) (ray j t.rows) (λ c. (r.direction c).0))
 
 -- ---- the pivots on artificial columns that are left
 
-pub driving_begins : (p : Program) (t : Tableau) → First p t → zero_ℚ ≤ℚ t.objective.right → Driving p t
-driving_begins p t h le =
+-- where an artificial column is basic above 0, their sum is above 0
+pub costs_above_zero : (p : Program) (t : Tableau) → First p t → has_artificial_above p.columns t.rows ≡ true → zero_ℚ <ℚ product (first_cost p) (point t.rows)
+costs_above_zero p t h e =
     let x = point_of (all_columns p) (first_cost p) (first_rows p) t h in
-    let above : zero_ℚ ≤ℚ product (first_cost p) (point t.rows) = costs_above p.columns (length p.rows) (point t.rows) (λ c. (x.range c).0) in
-    record { first = h; none = by_linear_eq (t.objective.right ∷ product (first_cost p) (point t.rows) ∷ []) (fact le (fact above (equal x.costs nothing))) (search terms depth 40) tt }
+    let a : Above p.columns (all_columns p) (point t.rows) = some_above p.columns (all_columns p) (point t.rows) t.rows (point_at t.rows h.1.units) h.2 e in
+    lt_of_not_le_ℚ (λ le. not_le_of_lt_ℚ a.above (le_of_same_ℚ (costs_zero p.columns (length p.rows) (point t.rows) (λ c. (x.range c).0) le a.column a.artificial a.within)))
 
-artificial_right : (p : Program) (t : Tableau) → Driving p t → AllRows (λ r. (r.basic < p.columns → ⊥) → r.line.right ≡ zero_ℚ) t.rows
-artificial_right p t d =
-    let x = point_of (all_columns p) (first_cost p) (first_rows p) t d.first in
-    let none : product (first_cost p) (point t.rows) ≤ℚ zero_ℚ = by_linear (t.objective.right ∷ product (first_cost p) (point t.rows) ∷ []) (equal x.costs (equal d.none nothing)) (search terms depth 40) tt in
-    rows_zip (λ r. point t.rows r.basic ≡ r.line.right) (λ r. r.basic < all_columns p) (λ r. (r.basic < p.columns → ⊥) → r.line.right ≡ zero_ℚ) t.rows
-    (λ r e b n. sym e ∙ costs_zero p.columns (length p.rows) (point t.rows) (λ c. (x.range c).0) none r.basic (omega arith) b)
-    (point_at t.rows d.first.1.units) d.first.2
+pub driving_begins : (p : Program) (t : Tableau) → First p t → has_artificial_above p.columns t.rows ≡ false → Driving p t
+driving_begins p t h e = record { first = h; none = none_above p.columns t.rows h.1.feasible e }
 
 driving_pivot : (p : Program) (j i : ℕ) (t u : Tableau) → Driving p t → i < length t.rows → j < p.columns → ((row_at t.rows i).basic < p.columns → ⊥) → (value_at (row_at t.rows i).line.entries j ≡ zero_ℚ → ⊥) → pivoted j i t ≡ Ok u → Driving p u
 driving_pivot p j i t u d h l n ne q =
-    let z : (row_at t.rows i).line.right ≡ zero_ℚ = all_at (λ r. (r.basic < p.columns → ⊥) → r.line.right ≡ zero_ℚ) t.rows i h (artificial_right p t d) n in
+    let r : Row = row_at t.rows i in
+    let none = rows_uninsert (IsNone p.columns) (remove t.rows i) i r (subst (AllRows (IsNone p.columns)) (sym (put_back t.rows i h)) d.none) in
+    let z : r.line.right ≡ zero_ℚ = none.1 n in
     let b : Both (first_cost p) (first_rows p) u = driven_keeps (first_cost p) (first_rows p) j i t u (d.first.0, d.first.1) h ne z q in
     let v : Pivots j i t u = pivots j i t u q in
-    let a : ℚ = inv_ℚ (value_at (row_at t.rows i).line.entries j) in
-    let f : ℚ = value_at t.objective.entries j in
+    let still : v.pivot.right ≡ zero_ℚ = by_eqs (v.pivot.right ∷ r.line.right ∷ inv_ℚ (value_at r.line.entries j) ∷ []) (by_eq one_ℚ v.scaled.right (by_eq (inv_ℚ (value_at r.line.entries j)) z done)) (search terms depth 40) tt in
     record {
       first = (b.0, b.1, below_pivot (all_columns p) j i t u (omega arith) h d.first.2 q);
-      none = by_eqs (u.objective.right ∷ t.objective.right ∷ v.pivot.right ∷ (row_at t.rows i).line.right ∷ inv_ℚ (value_at (row_at t.rows i).line.entries j) ∷ value_at t.objective.entries j ∷ [])
-          (by_eq one_ℚ v.objective.right (by_eq one_ℚ d.none (by_eq (neg_ℚ (value_at t.objective.entries j)) v.scaled.right (by_eq (neg_ℚ (value_at t.objective.entries j *ℚ inv_ℚ (value_at (row_at t.rows i).line.entries j))) z done)))) (search terms depth 40) tt;
+      none = subst (AllRows (IsNone p.columns)) (sym v.rows)
+          (rows_insert (IsNone p.columns) v.others i (record { basic = j; line = v.pivot }) (each_none p.columns j v.pivot (remove t.rows i) v.others v.each still none.0) (λ k. absurd (k l)));
     }
 
 -- what holds when all are driven out
@@ -106,7 +104,7 @@ kept_settled p t i d h e = go (ltb (row_at t.rows i).basic p.columns) refl e
     go true q e = inl (ltb-true (row_at t.rows i).basic p.columns q)
     go false q e = inr (record {
       entries = λ c l. none_is_empty p.columns c (row_at t.rows i).line.entries e l;
-      right = all_at (λ r. (r.basic < p.columns → ⊥) → r.line.right ≡ zero_ℚ) t.rows i h (artificial_right p t d) (λ l. let k : p.columns ≤ (row_at t.rows i).basic = ltb-false (row_at t.rows i).basic p.columns q in omega arith);
+      right = all_at (λ r. (r.basic < p.columns → ⊥) → r.line.right ≡ zero_ℚ) t.rows i h d.none (λ l. let k : p.columns ≤ (row_at t.rows i).basic = ltb-false (row_at t.rows i).basic p.columns q in omega arith);
     })
 
 -- the pivot of a row whose basic column is replaced
@@ -154,7 +152,7 @@ driven_well p left k t d = driven_ends p (length t.rows) 0 left k t (omega arith
 
 -- ---- phase two
 
-pub second_begins : (p : Program) (t : Tableau) (o : Line) → IsProgram p → DrivenOut p t → priced p.cost t.rows (cost_line p.cost) ≡ Ok o → Second p (record { rows = t.rows; objective = o })
+pub second_begins : (p : Program) (t : Tableau) (o : List Entry) → IsProgram p → DrivenOut p t → priced p.cost t.rows p.cost ≡ Ok o → Second p (record { rows = t.rows; objective = o })
 second_begins p t o is out e =
     let b : Both p.cost (first_rows p) (record { rows = t.rows; objective = o }) =
     priced_start p.cost (first_rows p) t.rows o is.cost.form.rises out.driving.first.1.rows_rise out.driving.first.1.units out.driving.first.1.feasible out.driving.first.0.spans out.driving.first.0.back e in
@@ -163,7 +161,7 @@ second_begins p t o is out e =
 second_keeps : (p : Program) → Keeps (Second p) p.columns
 second_keeps p t u j c h e m q = record {
   three = three_keep p.columns (all_columns p) p.cost (first_rows p) (omega arith) t u j c h.three e m q;
-  settled = settled_pivot p.columns j c.index t u (entering_below p.columns t.objective.entries j e) m.within h.three.1.rows_rise h.settled q;
+  settled = settled_pivot p.columns j c.index t u (entering_below p.columns t.objective j e) m.within h.three.1.rows_rise h.settled q;
 }
 
 pub second_path : (p : Program) (left k : ℕ) (t : Tableau) → Second p t → EndsWell (Second p) p.columns (path p.columns left k t)

@@ -8,10 +8,10 @@ use Rattle.rationals.specs.Ring.Eqs.{done, by_eq}
 use Rattle.rationals.specs.Sums.{dot, add_rows, scale_row, dot-add_rows, dot-scale_row}
 use Rattle.lp_defs.specs.Walks.{after_ok}
 use Rattle.rationals.specs.Sparse.{Entry, product}
-use Rattle.lp_defs.specs.Lines.{Line, cleared, value_at, divided}
+use Rattle.lp_defs.specs.Lines.{Line, cleared, cleared_form, value_at, divided}
 use Rattle.lp_defs.specs.Path.{Row, Tableau, row_at, cleared_row, cleared_rows, pivoted}
-use Rattle.lp_defs.specs.Linear.{Holds, AllLines, Solves, values, rights, Less, Times, Combines, Prices, IsTied}
-use Rattle.lp_defs.proofs.Linear.{cleared_is, divided_is}
+use Rattle.lp_defs.specs.Linear.{Holds, AllLines, Solves, values, rights, FormLess, Less, Times, Combines, Prices, IsTied}
+use Rattle.lp_defs.proofs.Linear.{cleared_is, cleared_form_is, divided_is}
 
 -- ---- one property of all lines
 pub all_join : (P : Line → Type 0) (a b : List Row) → AllLines P a → AllLines P b → AllLines P (a ++ b)
@@ -74,14 +74,14 @@ pub record Pivots (j i : ℕ) (t u : Tableau) : Type 0 where
   pub scaled : Times (inv_ℚ (value_at (row_at t.rows i).line.entries j)) (row_at t.rows i).line pivot
   pub each : Each j pivot (remove t.rows i) others
   pub rows : u.rows ≡ insert others i (record { basic = j; line = pivot })
-  pub objective : Less (value_at t.objective.entries j) t.objective pivot u.objective
+  pub objective : FormLess (value_at t.objective j) t.objective pivot.entries u.objective
 
 pub pivots : (j i : ℕ) (t u : Tableau) → pivoted j i t ≡ Ok u → Pivots j i t u
 pivots j i t u e =
     let line : Line = (row_at t.rows i).line in
-    let a = after_ok (divided (value_at line.entries j) line) (λ pivot. then_walk (cleared_rows j pivot (remove t.rows i) []) (λ rows. then_walk (cleared j pivot t.objective) (λ objective. Ok (record { rows = insert rows i (record { basic = j; line = pivot }); objective = objective })))) u e in
-    let b = after_ok (cleared_rows j a.0 (remove t.rows i) []) (λ rows. then_walk (cleared j a.0 t.objective) (λ objective. Ok (record { rows = insert rows i (record { basic = j; line = a.0 }); objective = objective }))) u a.2 in
-    let c = after_ok (cleared j a.0 t.objective) (λ objective. Ok (record { rows = insert b.0 i (record { basic = j; line = a.0 }); objective = objective })) u b.2 in
+    let a = after_ok (divided (value_at line.entries j) line) (λ pivot. then_walk (cleared_rows j pivot (remove t.rows i) []) (λ rows. then_walk (cleared_form (value_at t.objective j) pivot.entries t.objective) (λ objective. Ok (record { rows = insert rows i (record { basic = j; line = pivot }); objective = objective })))) u e in
+    let b = after_ok (cleared_rows j a.0 (remove t.rows i) []) (λ rows. then_walk (cleared_form (value_at t.objective j) a.0.entries t.objective) (λ objective. Ok (record { rows = insert rows i (record { basic = j; line = a.0 }); objective = objective }))) u a.2 in
+    let c = after_ok (cleared_form (value_at t.objective j) a.0.entries t.objective) (λ objective. Ok (record { rows = insert b.0 i (record { basic = j; line = a.0 }); objective = objective })) u b.2 in
     let h : record { rows = insert b.0 i (record { basic = j; line = a.0 }); objective = c.0 } ≡ u = cc in
     let n = rows_are j a.0 (remove t.rows i) [] b.0 b.1 in
     record {
@@ -90,7 +90,7 @@ pivots j i t u e =
       scaled = divided_is (value_at line.entries j) line a.0 a.1;
       each = subst (Each j a.0 (remove t.rows i)) (sym n.1) n.2;
       rows = ap (λ (x : Tableau). x.rows) (sym h);
-      objective = subst (λ (x : Tableau). Less (value_at t.objective.entries j) t.objective a.0 x.objective) h (cleared_is (value_at t.objective.entries j) a.0 t.objective c.0 c.1);
+      objective = subst (λ (x : Tableau). FormLess (value_at t.objective j) t.objective a.0.entries x.objective) h (cleared_form_is (value_at t.objective j) a.0.entries t.objective c.0 c.1);
     }
 
 -- ---- solutions
@@ -157,11 +157,9 @@ less_combines rows y z f line pivot new l k m = record {
 priced : (a b c d e f n : ℚ) → n ≡ a -ℚ f *ℚ b → a ≡ c -ℚ d → b ≡ e → n ≡ c -ℚ (d +ℚ f *ℚ e)
 priced a b c d e f n h k l = by_eqs (a ∷ b ∷ c ∷ d ∷ e ∷ f ∷ n ∷ []) (by_eq one_ℚ h (by_eq one_ℚ k (by_eq (neg_ℚ f) l done))) (search terms depth 40) tt
 
-pub less_prices : (cost : List Entry) (rows : List Row) (y z : List ℚ) (f : ℚ) (line pivot new : Line) → Less f line pivot new → Prices cost rows y line → Combines rows z pivot → Prices cost rows (add_rows y (scale_row f z)) new
-less_prices cost rows y z f line pivot new l k m = record {
-  entries = λ x. priced (product line.entries x) (product pivot.entries x) (product cost x) (dot y (values rows x)) (dot z (values rows x)) f (product new.entries x) (l.entries x) (k.entries x) (m.entries x) ∙ ap (λ (v : ℚ). product cost x -ℚ v) (sum_scaled y z f (values rows x));
-  right = priced line.right pivot.right zero_ℚ (dot y (rights rows)) (dot z (rights rows)) f new.right l.right k.right m.right ∙ ap (λ (v : ℚ). zero_ℚ -ℚ v) (sum_scaled y z f (rights rows));
-}
+pub less_prices : (cost : List Entry) (rows : List Row) (y z : List ℚ) (f : ℚ) (form new : List Entry) (pivot : Line) → FormLess f form pivot.entries new → Prices cost rows y form → Combines rows z pivot → Prices cost rows (add_rows y (scale_row f z)) new
+less_prices cost rows y z f form new pivot l k m x =
+    priced (product form x) (product pivot.entries x) (product cost x) (dot y (values rows x)) (dot z (values rows x)) f (product new x) (l x) (k x) (m.entries x) ∙ ap (λ (v : ℚ). product cost x -ℚ v) (sum_scaled y z f (values rows x))
 
 abbrev Spans : List Row → Line → Type 0
 Spans rows line = (y : List ℚ) × Combines rows y line
@@ -181,6 +179,6 @@ tied_pivot cost start j i t u p h ne k =
     let m : Spans start p.pivot = (scale_row (inv_ℚ (value_at r.line.entries j)) g.1.0, times_combines start g.1.0 (inv_ℚ (value_at r.line.entries j)) r.line p.pivot p.scaled g.1.1) in
     record {
       spans = subst (AllLines (Spans start)) (sym p.rows) (all_insert (Spans start) p.others i (record { basic = j; line = p.pivot }) (each_spans start j p.pivot (remove t.rows i) p.others p.each m g.0) m);
-      prices = (add_rows k.prices.0 (scale_row (value_at t.objective.entries j) m.0), less_prices cost start k.prices.0 m.0 (value_at t.objective.entries j) t.objective p.pivot u.objective p.objective k.prices.1 m.1);
+      prices = (add_rows k.prices.0 (scale_row (value_at t.objective j) m.0), less_prices cost start k.prices.0 m.0 (value_at t.objective j) t.objective u.objective p.pivot p.objective k.prices.1 m.1);
       back = λ x s. k.back x (pivot_kept j i t u x p h ne s);
     }

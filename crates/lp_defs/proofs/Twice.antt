@@ -20,7 +20,7 @@ use Rattle.lp_defs.proofs.Best.{tied_keeps}
 use Rattle.lp_defs.proofs.Basic.{value_is, entering_below, basic_keeps, rows_insert, rows_uninsert, units_uninsert}
 use Rattle.lp_defs.proofs.Rays.{entering_falls}
 use Rattle.lp_defs.proofs.Bland.{Fickle, no_such_pair}
-use Rattle.lp_defs.proofs.Cycle.{apart_from, point_zero, same_basis, Grows, pivot_grows}
+use Rattle.lp_defs.proofs.Cycle.{apart_from, point_zero, same_basis, Falls, pivot_falls}
 
 -- ---- which columns are basic before and after a pivot
 each_out : (j c : ℕ) (pivot : Line) (rows new : List Row) → Each j pivot rows new → NotIn c rows → NotIn c new
@@ -58,8 +58,8 @@ moves n g b s =
     let new : Row = record { basic = j; line = p.pivot } in
     let back : insert others i r ≡ g.from.rows = put_back g.from.rows i s.leave.within in
     let units : IsUnits (r ∷ others) = units_uninsert others i r (subst IsUnits (sym back) b.units) in
-    let down : product g.from.objective.entries (unit j) <ℚ zero_ℚ = subst (λ (v : ℚ). v <ℚ zero_ℚ) (sym (value_is 0 j g.from.objective.entries b.objective_rises)) (entering_falls n 0 j g.from.objective.entries b.objective_rises s.enter) in
-    let out : NotIn j g.from.rows = cost_apart g.from.objective.entries j g.from.rows down b.priced in
+    let down : product g.from.objective (unit j) <ℚ zero_ℚ = subst (λ (v : ℚ). v <ℚ zero_ℚ) (sym (value_is 0 j g.from.objective b.objective_rises)) (entering_falls n 0 j g.from.objective b.objective_rises s.enter) in
+    let out : NotIn j g.from.rows = cost_apart g.from.objective j g.from.rows down b.priced in
     let split : (c : ℕ) → NotIn c g.from.rows → NotIn c others × (r.basic ≡ c → ⊥) = λ c h. rows_uninsert (λ x. x.basic ≡ c → ⊥) others i r (subst (NotIn c) (sym back) h) in
     let others_out : NotIn g.leaves.basic others = subst (λ (k : ℕ). NotIn k others) (sym s.leave.basic) (apart_from r others units.0 units.1) in
     record {
@@ -237,20 +237,24 @@ quotient_nonneg n cost rows g k =
     let f = all_uninsert (λ line. zero_ℚ ≤ℚ line.right) (remove g.from.rows g.leaves.index) g.leaves.index r (subst (AllLines (λ line. zero_ℚ ≤ℚ line.right)) (sym (put_back g.from.rows g.leaves.index k.step.leave.within)) k.basic.feasible) in
     subst (λ (v : ℚ). zero_ℚ ≤ℚ v) (sym k.step.leave.ratio) (mul_nonneg_ℚ r.line.right (inv_ℚ (value_at r.line.entries g.enters)) f.1 (inv_nonneg_ℚ k.step.leave.above))
 
-grows : (n : ℕ) (cost : List Entry) (rows : List Row) (g : Stage) → Good n cost rows g → Grows g.from g.to g.leaves
-grows n cost rows g k = pivot_grows n g.enters g.from g.to g.leaves k.basic k.step.enter k.step.leave (quotient_nonneg n cost rows g k) k.step.pivot
+falls : (n : ℕ) (cost : List Entry) (rows : List Row) (g : Stage) → Good n cost rows g → Falls cost g.from g.to g.leaves
+falls n cost rows g k = pivot_falls n g.enters cost rows g.from g.to g.leaves k.tied (tied_keeps n cost rows g.from g.to g.enters g.leaves k.tied k.step.enter k.step.leave k.step.pivot)
+    k.basic (basic_keeps n g.from g.to g.enters g.leaves k.basic k.step.enter k.step.leave k.step.pivot) k.step.enter k.step.leave (quotient_nonneg n cost rows g k) k.step.pivot
 
-all_grow : (n : ℕ) (cost : List Entry) (rows : List Row) (t u : Tableau) (gs : List Stage) → AllOf (Good n cost rows) gs → Leads n t gs u → t.objective.right ≤ℚ u.objective.right
-all_grow n cost rows t u [] k l = le_of_same_ℚ (ap (λ (v : Tableau). v.objective.right) l)
-all_grow n cost rows t u (g ∷ gs) k l = le_trans_ℚ (le_of_same_ℚ (ap (λ (v : Tableau). v.objective.right) (sym l.0))) (le_trans_ℚ (grows n cost rows g k.0).by_step (all_grow n cost rows g.to u gs k.1 l.2))
+abbrev cost_of : List Entry → Tableau → ℚ
+cost_of cost t = product cost (point t.rows)
 
-all_zero : (n : ℕ) (cost : List Entry) (rows : List Row) (t u : Tableau) (gs : List Stage) → AllOf (Good n cost rows) gs → Leads n t gs u → u.objective.right ≤ℚ t.objective.right → AllOf (λ g. g.leaves.ratio ≡ zero_ℚ) gs
+all_fall : (n : ℕ) (cost : List Entry) (rows : List Row) (t u : Tableau) (gs : List Stage) → AllOf (Good n cost rows) gs → Leads n t gs u → cost_of cost u ≤ℚ cost_of cost t
+all_fall n cost rows t u [] k l = le_of_same_ℚ (ap (cost_of cost) (sym l))
+all_fall n cost rows t u (g ∷ gs) k l = le_trans_ℚ (all_fall n cost rows g.to u gs k.1 l.2) (le_trans_ℚ (falls n cost rows g k.0).by_step (le_of_same_ℚ (ap (cost_of cost) l.0)))
+
+all_zero : (n : ℕ) (cost : List Entry) (rows : List Row) (t u : Tableau) (gs : List Stage) → AllOf (Good n cost rows) gs → Leads n t gs u → cost_of cost t ≤ℚ cost_of cost u → AllOf (λ g. g.leaves.ratio ≡ zero_ℚ) gs
 all_zero n cost rows t u [] k l h = tt
 all_zero n cost rows t u (g ∷ gs) k l h =
-    let from : t.objective.right ≤ℚ g.from.objective.right = le_of_same_ℚ (ap (λ (v : Tableau). v.objective.right) (sym l.0)) in
-    let rest : g.to.objective.right ≤ℚ u.objective.right = all_grow n cost rows g.to u gs k.1 l.2 in
-    let s : Grows g.from g.to g.leaves = grows n cost rows g k.0 in
-    (s.only (le_trans_ℚ rest (le_trans_ℚ h from)), all_zero n cost rows g.to u gs k.1 l.2 (le_trans_ℚ h (le_trans_ℚ from s.by_step)))
+    let from : cost_of cost g.from ≤ℚ cost_of cost t = le_of_same_ℚ (ap (cost_of cost) l.0) in
+    let rest : cost_of cost u ≤ℚ cost_of cost g.to = all_fall n cost rows g.to u gs k.1 l.2 in
+    let s : Falls cost g.from g.to g.leaves = falls n cost rows g k.0 in
+    (s.only (le_trans_ℚ from (le_trans_ℚ h rest)), all_zero n cost rows g.to u gs k.1 l.2 (le_trans_ℚ s.by_step (le_trans_ℚ from h)))
 
 same_point : (n : ℕ) (cost : List Entry) (rows : List Row) (t u : Tableau) (gs : List Stage) (c : ℕ) → AllOf (Good n cost rows) gs → Leads n t gs u → AllOf (λ g. g.leaves.ratio ≡ zero_ℚ) gs → AllOf (λ g. point g.from.rows c ≡ point t.rows c) gs
 same_point n cost rows t u [] c k l z = tt
@@ -308,13 +312,13 @@ no_basis_twice cost rows n t u g gs kt bt l same back =
     let never_leaves : (c : ℕ) → m < c → AllOf (λ x. c ≡ x.leaves.basic → ⊥) all = λ c h. ⊎_elim
     (λ o. let out : AllOf (λ x. NotIn c x.from.rows) all = (out_stays n cost rows c t u all w.good l (never_enters c h) (back c o)).0 in no_leave c all w.good out)
     (λ i. out_after n cost rows c t u all w.good l (never_enters c h) i) (is_out c u.rows) in
-    let zeros : AllOf (λ x. x.leaves.ratio ≡ zero_ℚ) all = all_zero n cost rows t u all w.good l (le_of_same_ℚ (sym (same_basis cost rows n t u kt w.tied bt w.basic same))) in
+    let zeros : AllOf (λ x. x.leaves.ratio ≡ zero_ℚ) all = all_zero n cost rows t u all w.good l (le_of_same_ℚ (same_basis cost rows n t u kt w.tied bt w.basic same)) in
     ⊎_elim
     (λ (v : Found (λ x. x.leaves.basic ≡ m) all).
     let d : Good n cost rows v.stage = v.other (Good n cost rows) w.good in
     let less : v.stage.enters ≤ m = v.other (λ x. x.enters ≤ m) top.all in
     let differ : v.stage.enters ≡ m → ⊥ = λ e. d.move.left_in (subst (λ (k : ℕ). NotIn k v.stage.from.rows) (e ∙ sym v.is) d.move.enters_out) in
-    let f : List Entry = top.stage.from.objective.entries in
+    let f : List Entry = top.stage.from.objective in
     let fickle : AllRows (Fickle m f) v.stage.from.rows =
     all_rows (λ r. NotIn r.basic v.stage.from.rows → ⊥) (λ r. point v.stage.from.rows r.basic ≡ r.line.right) (Fickle m f) v.stage.from.rows
     (λ r i p. ⊎_elim
@@ -352,18 +356,18 @@ record Leading (n : ℕ) (t : Tableau) (gs : List Stage) : Type 0 where
 
 stages_lead : (n left : ℕ) (t : Tableau) → Leading n t (stages n left t)
 stages_lead n zero t = record { end = t; leads = refl }
-stages_lead n (suc left) t = go (entering n t.objective.entries) refl (stages_lead n left)
+stages_lead n (suc left) t = go (entering n t.objective) refl (stages_lead n left)
   where
-    next : (j : ℕ) (c : Candidate) → entering n t.objective.entries ≡ Some j → IsChosen j t.rows c → (w : Walk Tableau) → pivoted j c.index t ≡ w → ((u : Tableau) → Leading n u (stages n left u)) → Leading n t (add_stage t j c w (λ next. stages n left next))
+    next : (j : ℕ) (c : Candidate) → entering n t.objective ≡ Some j → IsChosen j t.rows c → (w : Walk Tableau) → pivoted j c.index t ≡ w → ((u : Tableau) → Leading n u (stages n left u)) → Leading n t (add_stage t j c w (λ next. stages n left next))
     next j c e m (Ok u) q ih = let r : Leading n u (stages n left u) = ih u in record { end = r.end; leads = (refl, record { enter = e; leave = m; pivot = q }, r.leads) }
     next j c e m (Err p) q ih = record { end = t; leads = refl }
 
-    found : (j : ℕ) → entering n t.objective.entries ≡ Some j → (w : Walk (Option Candidate)) → leaving j t.rows 0 None ≡ w → ((u : Tableau) → Leading n u (stages n left u)) → Leading n t (stage_found w (λ c. add_stage t j c (pivoted j c.index t) (λ next. stages n left next)))
+    found : (j : ℕ) → entering n t.objective ≡ Some j → (w : Walk (Option Candidate)) → leaving j t.rows 0 None ≡ w → ((u : Tableau) → Leading n u (stages n left u)) → Leading n t (stage_found w (λ c. add_stage t j c (pivoted j c.index t) (λ next. stages n left next)))
     found j e (Ok (Some c)) q ih = next j c e (leaving_is j t.rows (Some c) q) (pivoted j c.index t) refl ih
     found j e (Ok None) q ih = record { end = t; leads = refl }
     found j e (Err p) q ih = record { end = t; leads = refl }
 
-    go : (o : Option ℕ) → entering n t.objective.entries ≡ o → ((u : Tableau) → Leading n u (stages n left u)) → Leading n t (stage_enters o (λ j. stage_found (leaving j t.rows 0 None) (λ c. add_stage t j c (pivoted j c.index t) (λ next. stages n left next))))
+    go : (o : Option ℕ) → entering n t.objective ≡ o → ((u : Tableau) → Leading n u (stages n left u)) → Leading n t (stage_enters o (λ j. stage_found (leaving j t.rows 0 None) (λ c. add_stage t j c (pivoted j c.index t) (λ next. stages n left next))))
     go None e ih = record { end = t; leads = refl }
     go (Some j) e ih = found j e (leaving j t.rows 0 None) refl ih
 

@@ -11,13 +11,16 @@ use Rattle.lp_defs.specs.Ends.{unit, IsPoint}
 -- each basic column is 1 in its row and 0 in the others
 abbrev pub IsUnits : List Row → Type 0
 IsUnits [] = Unit {0}
-IsUnits (r ∷ rows) = (product r.line.entries (unit r.basic) ≡ one_ℚ) × AllRows (λ s. product r.line.entries (unit s.basic) ≡ zero_ℚ) rows × AllRows (λ s. product s.line.entries (unit r.basic) ≡ zero_ℚ) rows × IsUnits rows
+IsUnits (r ∷ rows) = (product r.line.entries (unit r.basic) ≡ one_ℚ)
+    × AllRows (λ s. product r.line.entries (unit s.basic) ≡ zero_ℚ) rows
+    × AllRows (λ s. product s.line.entries (unit r.basic) ≡ zero_ℚ) rows
+    × IsUnits rows
 
 pub record IsBasic (t : Tableau) : Type 0 where
   pub rows_rise : AllLines (λ line. Ascending 0 line.entries) t.rows
-  pub objective_rises : Ascending 0 t.objective.entries
+  pub objective_rises : Ascending 0 t.objective
   pub units : IsUnits t.rows
-  pub priced : AllRows (λ r. product t.objective.entries (unit r.basic) ≡ zero_ℚ) t.rows
+  pub priced : AllRows (λ r. product t.objective (unit r.basic) ≡ zero_ℚ) t.rows
   pub feasible : AllLines (λ line. zero_ℚ ≤ℚ line.right) t.rows
 
 -- all basic columns are below n

@@ -79,6 +79,8 @@ SolutionsAreCertified = (p : Program) (pivots : ℕ) → IsProgram p → IsCerti
 abbrev pub UnitColumnsAreFeasible : Type 0
 UnitColumnsAreFeasible = (p : Program) (y : List ℚ) → IsProgram p → EndsInUnits p → IsInfeasible p y → ⊥
 
--- where twice as many pivots are allowed as there are sets of its columns and artificial columns, and one more for each row, the path is never cut off
+-- where twice as many pivots are allowed as there are sets of its columns and artificial columns, and one more for each row,
+-- the path is never cut off
 abbrev pub PivotsAreBounded : Type 0
-PivotsAreBounded = (p : Program) (pivots : ℕ) → IsProgram p → 2 * 2 ^ (p.columns + length p.rows) + length p.rows ≤ pivots → solution p pivots ≡ Cut_off → ⊥
+PivotsAreBounded = (p : Program) (pivots : ℕ) → IsProgram p → 2 * 2 ^ (p.columns + length p.rows) + length p.rows ≤ pivots
+    → solution p pivots ≡ Cut_off → ⊥

@@ -15,7 +15,8 @@ pub record IsChosen (j : ℕ) (rows : List Row) (c : Candidate) : Type 0 where
   pub ratio : c.ratio ≡ (row_at rows c.index).line.right /ℚ value_at (row_at rows c.index).line.entries j
   pub least : AllLines (λ line. zero_ℚ <ℚ value_at line.entries j → c.ratio ≤ℚ line.right /ℚ value_at line.entries j) rows
   pub basic : c.basic ≡ (row_at rows c.index).basic
-  pub first : AllRows (λ r. zero_ℚ <ℚ value_at r.line.entries j → r.line.right /ℚ value_at r.line.entries j ≤ℚ c.ratio → c.basic ≤ r.basic) rows
+  pub first : AllRows (λ r. zero_ℚ <ℚ value_at r.line.entries j
+      → r.line.right /ℚ value_at r.line.entries j ≤ℚ c.ratio → c.basic ≤ r.basic) rows
 
 -- no row bounds column j
 abbrev pub NoneAbove : ℕ → List Row → Type 0
@@ -27,8 +28,8 @@ IsChoice j rows (Some c) = IsChosen j rows c
 
 -- what holds of the last tableau where the path ends by itself
 abbrev pub EndsWell : (Tableau → Type 0) → ℕ → Ending → Type 0
-EndsWell P n (Done k t) = P t × (entering n t.objective.entries ≡ None)
-EndsWell P n (Open j t) = P t × (entering n t.objective.entries ≡ Some j) × NoneAbove j t.rows
+EndsWell P n (Done k t) = P t × (entering n t.objective ≡ None)
+EndsWell P n (Open j t) = P t × (entering n t.objective ≡ Some j) × NoneAbove j t.rows
 EndsWell P n TooLong = Unit {0}
 EndsWell P n (Stopped k p) = Unit {0}
 

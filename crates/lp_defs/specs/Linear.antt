@@ -1,6 +1,6 @@
 -- What lines mean: linear equations.
 use Rattle.std.specs.Prelude.{◌≡◌, ℕ, List, [], ◌∷◌}
-use Rattle.rationals.specs.Rational.{ℚ, zero_ℚ, ◌-ℚ◌, ◌*ℚ◌}
+use Rattle.rationals.specs.Rational.{ℚ, ◌-ℚ◌, ◌*ℚ◌}
 use Rattle.rationals.specs.Sums.{dot}
 use Rattle.rationals.specs.Sparse.{Entry, product}
 use Rattle.lp_defs.specs.Lines.{Line}
@@ -30,9 +30,13 @@ abbrev pub rights : List Row → List ℚ
 rights [] = []
 rights (r ∷ rows) = r.line.right ∷ rights rows
 
+-- the new form is the form less f times the pivot's
+abbrev pub FormLess : ℚ → List Entry → List Entry → List Entry → Type 0
+FormLess f form pivot new = (x : ℕ → ℚ) → product new x ≡ product form x -ℚ f *ℚ product pivot x
+
 -- the new line is the line less f times the pivot's
 pub record Less (f : ℚ) (line pivot new : Line) : Type 0 where
-  pub entries : (x : ℕ → ℚ) → product new.entries x ≡ product line.entries x -ℚ f *ℚ product pivot.entries x
+  pub entries : FormLess f line.entries pivot.entries new.entries
   pub right : new.right ≡ line.right -ℚ f *ℚ pivot.right
 
 -- the new line is c times the line
@@ -46,12 +50,11 @@ pub record Combines (rows : List Row) (y : List ℚ) (line : Line) : Type 0 wher
   pub right : line.right ≡ dot y (rights rows)
 
 -- the objective row is the cost less the sum of the rows, each times its multiplier
-pub record Prices (cost : List Entry) (rows : List Row) (y : List ℚ) (objective : Line) : Type 0 where
-  pub entries : (x : ℕ → ℚ) → product objective.entries x ≡ product cost x -ℚ dot y (values rows x)
-  pub right : objective.right ≡ zero_ℚ -ℚ dot y (rights rows)
+abbrev pub Prices : List Entry → List Row → List ℚ → List Entry → Type 0
+Prices cost rows y objective = (x : ℕ → ℚ) → product objective x ≡ product cost x -ℚ dot y (values rows x)
 
--- t is the program with this cost and these rows, written in another way: a solution of either is one of the other, each row is a sum of the program's rows,
--- and the objective row is the cost less such a sum
+-- t is the program with this cost and these rows, written in another way: a solution of either is one of the other,
+-- each row is a sum of the program's rows, and the objective row is the cost less such a sum
 pub record IsTied (cost : List Entry) (rows : List Row) (t : Tableau) : Type 0 where
   pub spans : AllLines (λ line. (y : List ℚ) × Combines rows y line) t.rows
   pub prices : (y : List ℚ) × Prices cost rows y t.objective

@@ -8,15 +8,16 @@ use Rattle.lp_defs.specs.Tests.{is_above_zero, is_below_zero}
 use Rattle.lp_defs.specs.Walks.{Walk}
 use Rattle.rationals.specs.Sparse.{Entry}
 use Rattle.rationals.specs.Passes.{Operation, then_walk, div_walk}
-use Rattle.lp_defs.specs.Lines.{Line, value_at, cleared, divided}
+use Rattle.lp_defs.specs.Lines.{Line, value_at, cleared, cleared_form, divided}
 
 pub record Row : Type 0 where
   pub basic : ℕ
   pub line : Line
 
+-- the objective row has the reduced costs and no right side: what the point costs is computed from the point
 pub record Tableau : Type 0 where
   pub rows : List Row
-  pub objective : Line
+  pub objective : List Entry
 
 -- ---- Bland's rule
 -- the least column below n with a reduced cost below 0
@@ -42,7 +43,8 @@ choose (Some b) c = elim (is_better c b) [ true ↦ Some c | false ↦ Some b ]
 abbrev pub leaving : ℕ → List Row → ℕ → Option Candidate → Walk (Option Candidate)
 leaving j [] i best = Ok best
 leaving j (r ∷ rows) i best = elim (is_above_zero (value_at r.line.entries j)) [
-  | true ↦ then_walk (div_walk r.line.right (value_at r.line.entries j)) (λ q. leaving j rows (i + 1) (choose best (record { index = i; ratio = q; basic = r.basic })))
+  | true ↦ then_walk (div_walk r.line.right (value_at r.line.entries j))
+      (λ q. leaving j rows (i + 1) (choose best (record { index = i; ratio = q; basic = r.basic })))
   | false ↦ leaving j rows (i + 1) best
 ]
 
@@ -59,11 +61,11 @@ cleared_rows j pivot [] done = Ok done
 cleared_rows j pivot (r ∷ rows) done = then_walk (cleared_row j pivot r) (λ new. cleared_rows j pivot rows (done ++ new ∷ []))
 
 -- the tableau where the row with this line, number i, has been taken out
-abbrev pub pivoted_by : ℕ → ℕ → Line → List Row → Line → Walk Tableau
+abbrev pub pivoted_by : ℕ → ℕ → Line → List Row → List Entry → Walk Tableau
 pivoted_by j i line others objective =
     then_walk (divided (value_at line.entries j) line) (λ pivot.
     then_walk (cleared_rows j pivot others []) (λ rows.
-    then_walk (cleared j pivot objective) (λ objective.
+    then_walk (cleared_form (value_at objective j) pivot.entries objective) (λ objective.
     Ok (record { rows = insert rows i (record { basic = j; line = pivot }); objective = objective }))))
 
 -- row i, or an empty one past the end
@@ -100,9 +102,9 @@ at_limit j t false = Open j t
 
 -- columns below n may enter; `left` pivots are allowed, and k have been made
 abbrev pub path : ℕ → ℕ → ℕ → Tableau → Ending
-path n zero k t = with_choice (entering n t.objective.entries) (Done k t) (λ j. at_limit j t (has_above_zero j t.rows))
+path n zero k t = with_choice (entering n t.objective) (Done k t) (λ j. at_limit j t (has_above_zero j t.rows))
 path n (suc left) k t =
-    with_choice (entering n t.objective.entries) (Done k t) (λ j.
+    with_choice (entering n t.objective) (Done k t) (λ j.
     with_value (leaving j t.rows 0 None) (Stopped (k + 1)) (λ found.
     with_choice found (Open j t) (λ c.
     with_value (pivoted j c.index t) (Stopped (k + 1)) (λ next.

@@ -1,11 +1,11 @@
 -- The parts of a solve: artificial columns, the objective row that a phase begins with, and the pivots on artificial columns that are left.
-use Rattle.std.specs.Prelude.{ℕ, zero, suc, true, false, ◌+◌, ◌&&◌, not, ltb, List, [], ◌∷◌, ◌++◌, Option, Some, None, Ok, Err}
-use Rattle.rationals.specs.Rational.{ℚ, zero_ℚ, one_ℚ, neg_ℚ}
+use Rattle.std.specs.Prelude.{ℕ, zero, suc, true, false, ◌+◌, ◌&&◌, ◌||◌, Bool, not, ltb, List, [], ◌∷◌, ◌++◌, Option, Some, None, Ok, Err}
+use Rattle.rationals.specs.Rational.{ℚ, one_ℚ, neg_ℚ}
 use Rattle.rationals.specs.Passes.{Operation, then_walk, sub_walk}
 use Rattle.rationals.specs.Sparse.{Entry}
-use Rattle.lp_defs.specs.Tests.{is_zero}
+use Rattle.lp_defs.specs.Tests.{is_zero, is_above_zero}
 use Rattle.lp_defs.specs.Walks.{Walk}
-use Rattle.lp_defs.specs.Lines.{Line, value_at, cleared_by}
+use Rattle.lp_defs.specs.Lines.{value_at, cleared_form}
 use Rattle.lp_defs.specs.Path.{Row, Tableau, row_at, pivoted}
 
 -- a row for each form, with its right side; the basic columns are j, j + 1 and so on
@@ -24,13 +24,17 @@ abbrev pub unit_costs : ℕ → ℕ → List Entry
 unit_costs j zero = []
 unit_costs j (suc m) = record { column = j; value = one_ℚ } ∷ unit_costs (suc j) m
 
--- the objective row that a phase begins with: the cost less, for each row in order, its basic column's cost times the row
-abbrev pub cost_line : List Entry → Line
-cost_line cost = record { entries = cost; right = zero_ℚ }
-
-abbrev pub priced : List Entry → List Row → Line → Walk Line
+-- the objective row that a phase begins with, from the cost on: less, for each row in order, its basic column's cost times the row
+abbrev pub priced : List Entry → List Row → List Entry → Walk (List Entry)
 priced cost [] objective = Ok objective
-priced cost (r ∷ rows) objective = then_walk (cleared_by (value_at cost r.basic) r.line objective) (λ next. priced cost rows next)
+priced cost (r ∷ rows) objective = then_walk (cleared_form (value_at cost r.basic) r.line.entries objective) (λ next. priced cost rows next)
+
+-- ---- the end of phase one
+
+-- an artificial column, which is one from n on, is basic with a right side above 0
+abbrev pub has_artificial_above : ℕ → List Row → Bool
+has_artificial_above n [] = false
+has_artificial_above n (r ∷ rows) = (not (ltb r.basic n) && is_above_zero r.line.right) || has_artificial_above n rows
 
 -- ---- the pivots on artificial columns that are left
 
@@ -67,11 +71,12 @@ driven n (suc rows) i left k t = driven_at i left k t (replacing n (row_at t.row
 -- ---- duals
 
 -- phase one: 1 less the reduced cost, of column j and the columns behind it, m of them
-abbrev pub first_duals : ℕ → ℕ → Line → List ℚ → Walk (List ℚ)
+abbrev pub first_duals : ℕ → ℕ → List Entry → List ℚ → Walk (List ℚ)
 first_duals j zero objective done = Ok done
-first_duals j (suc m) objective done = then_walk (sub_walk one_ℚ (value_at objective.entries j)) (λ y. first_duals (suc j) m objective (done ++ y ∷ []))
+first_duals j (suc m) objective done =
+    then_walk (sub_walk one_ℚ (value_at objective j)) (λ y. first_duals (suc j) m objective (done ++ y ∷ []))
 
 -- phase two: the negative reduced costs
-abbrev pub unit_duals : ℕ → ℕ → Line → List ℚ
+abbrev pub unit_duals : ℕ → ℕ → List Entry → List ℚ
 unit_duals j zero objective = []
-unit_duals j (suc m) objective = neg_ℚ (value_at objective.entries j) ∷ unit_duals (suc j) m objective
+unit_duals j (suc m) objective = neg_ℚ (value_at objective j) ∷ unit_duals (suc j) m objective

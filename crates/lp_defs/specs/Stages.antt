@@ -24,7 +24,7 @@ First p t = Three (all_columns p) (first_cost p) (first_rows p) t
 -- behind phase one, where the artificial columns are 0
 pub record Driving (p : Program) (t : Tableau) : Type 0 where
   pub first : First p t
-  pub none : t.objective.right ≡ zero_ℚ
+  pub none : AllRows (λ r. (r.basic < p.columns → ⊥) → r.line.right ≡ zero_ℚ) t.rows
 
 -- no column below n has a value
 pub record IsEmptyBelow (n : ℕ) (r : Row) : Type 0 where
@@ -48,4 +48,4 @@ pub record Second (p : Program) (t : Tableau) : Type 0 where
 -- the columns of all rows rise
 pub record HasRisen (u : Tableau) : Type 0 where
   pub rows : AllLines (λ line. Ascending 0 line.entries) u.rows
-  pub objective : Ascending 0 u.objective.entries
+  pub objective : Ascending 0 u.objective

@@ -55,25 +55,32 @@ below (negsuc n) d e h = omega (arith, ints)
 
 pub is_above_zero_false : (a : ℚ) → is_above_zero a ≡ false → a ≤ℚ zero_ℚ
 unfolding is_above_zero zero_ℚ
-is_above_zero_false a e = subst (λ (x : ℚ). x ≤ℚ pos 0 ÷ 1) (frac_self a) (frac_le a.num (pos 0) a.den 1 a.den_pos (omega arith) (not_above a.num a.den e))
+is_above_zero_false a e =
+    subst (λ (x : ℚ). x ≤ℚ pos 0 ÷ 1) (frac_self a) (frac_le a.num (pos 0) a.den 1 a.den_pos (omega arith) (not_above a.num a.den e))
 
 pub is_above_zero_true : (a : ℚ) → is_above_zero a ≡ true → zero_ℚ <ℚ a
 unfolding is_above_zero zero_ℚ
-is_above_zero_true a e = lt_of_not_le_ℚ (λ h. above a.num a.den e (frac_le_to a.num (pos 0) a.den 1 a.den_pos (omega arith) (subst (λ (x : ℚ). x ≤ℚ pos 0 ÷ 1) (sym (frac_self a)) h)))
+is_above_zero_true a e = lt_of_not_le_ℚ (λ h. above a.num a.den e
+    (frac_le_to a.num (pos 0) a.den 1 a.den_pos (omega arith) (subst (λ (x : ℚ). x ≤ℚ pos 0 ÷ 1) (sym (frac_self a)) h)))
 
 pub is_below_zero_false : (a : ℚ) → is_below_zero a ≡ false → zero_ℚ ≤ℚ a
 unfolding is_below_zero zero_ℚ
-is_below_zero_false a e = subst (λ (x : ℚ). pos 0 ÷ 1 ≤ℚ x) (frac_self a) (frac_le (pos 0) a.num 1 a.den (omega arith) a.den_pos (not_below a.num a.den e))
+is_below_zero_false a e =
+    subst (λ (x : ℚ). pos 0 ÷ 1 ≤ℚ x) (frac_self a) (frac_le (pos 0) a.num 1 a.den (omega arith) a.den_pos (not_below a.num a.den e))
 
 pub is_below_zero_true : (a : ℚ) → is_below_zero a ≡ true → a <ℚ zero_ℚ
 unfolding is_below_zero zero_ℚ
-is_below_zero_true a e = lt_of_not_le_ℚ (λ h. below a.num a.den e (frac_le_to (pos 0) a.num 1 a.den (omega arith) a.den_pos (subst (λ (x : ℚ). pos 0 ÷ 1 ≤ℚ x) (sym (frac_self a)) h)))
+is_below_zero_true a e = lt_of_not_le_ℚ (λ h. below a.num a.den e
+    (frac_le_to (pos 0) a.num 1 a.den (omega arith) a.den_pos (subst (λ (x : ℚ). pos 0 ÷ 1 ≤ℚ x) (sym (frac_self a)) h)))
 
 -- what a comparison says
-ranks : (a b : ℚ) (o : Ordering) → MatchOrdering o (cross a b <ℤ cross b a) (cross a b ≡ cross b a) (cross b a <ℤ cross a b) → MatchOrdering o (a <ℚ b) (a ≡ b) (b <ℚ a)
+ranks : (a b : ℚ) (o : Ordering) → MatchOrdering o (cross a b <ℤ cross b a) (cross a b ≡ cross b a) (cross b a <ℤ cross a b)
+    → MatchOrdering o (a <ℚ b) (a ≡ b) (b <ℚ a)
 ranks a b Less h = record { lt = h }
 ranks a b Equal h = same_ℚ a b h
 ranks a b Greater h = record { lt = h }
 
 pub compare_is : (a b : ℚ) (o : Ordering) → compare a b ≡ o → MatchOrdering o (a <ℚ b) (a ≡ b) (b <ℚ a)
-compare_is a b o e = ranks a b o (subst (λ (p : Ordering). MatchOrdering p (cross a b <ℤ cross b a) (cross a b ≡ cross b a) (cross b a <ℤ cross a b)) e (int_ranks (cross a b) (cross b a)))
+compare_is a b o e = ranks a b o
+    (subst (λ (p : Ordering). MatchOrdering p (cross a b <ℤ cross b a) (cross a b ≡ cross b a) (cross b a <ℤ cross a b)) e
+    (int_ranks (cross a b) (cross b a)))

@@ -20,7 +20,7 @@ pub record Stage : Type 0 where
 
 -- a pivot by Bland's rule
 pub record IsStep (n : ℕ) (g : Stage) : Type 0 where
-  pub enter : entering n g.from.objective.entries ≡ Some g.enters
+  pub enter : entering n g.from.objective ≡ Some g.enters
   pub leave : IsChosen g.enters g.from.rows g.leaves
   pub pivot : pivoted g.enters g.leaves.index g.from ≡ Ok g.to
 
@@ -46,15 +46,18 @@ stage_enters (Some j) go = go j
 abbrev pub stages : ℕ → ℕ → Tableau → List Stage
 stages n zero t = []
 stages n (suc left) t =
-    stage_enters (entering n t.objective.entries) (λ j. stage_found (leaving j t.rows 0 None) (λ c. add_stage t j c (pivoted j c.index t) (λ next. stages n left next)))
+    stage_enters (entering n t.objective) (λ j.
+    stage_found (leaving j t.rows 0 None) (λ c. add_stage t j c (pivoted j c.index t) (λ next. stages n left next)))
 
 -- of a path's pivots, any that stand one after another begin and end at different basic columns
 abbrev pub NoBasisTwiceOnPath : Type 0
-NoBasisTwiceOnPath = (cost : List Entry) (rows : List Row) (n left : ℕ) (t : Tableau) (front back gs : List Stage) (g last : Stage) → IsTied cost rows t → IsBasic t
+NoBasisTwiceOnPath = (cost : List Entry) (rows : List Row) (n left : ℕ) (t : Tableau) (front back gs : List Stage) (g last : Stage)
+    → IsTied cost rows t → IsBasic t
     → stages n left t ≡ front ++ (g ∷ gs ++ last ∷ []) ++ back
     → ((c : ℕ) → NotIn c g.from.rows ↔ NotIn c last.to.rows) → ⊥
 
 -- from a tableau in order of a program, one pivot or more never lead to the same basic columns again
 abbrev pub NoBasisTwice : Type 0
-NoBasisTwice = (cost : List Entry) (rows : List Row) (n : ℕ) (t u : Tableau) (g : Stage) (gs : List Stage) → IsTied cost rows t → IsBasic t → Leads n t (g ∷ gs) u
+NoBasisTwice = (cost : List Entry) (rows : List Row) (n : ℕ) (t u : Tableau) (g : Stage) (gs : List Stage) → IsTied cost rows t
+    → IsBasic t → Leads n t (g ∷ gs) u
     → ((c : ℕ) → NotIn c t.rows → NotIn c u.rows) → ((c : ℕ) → NotIn c u.rows → NotIn c t.rows) → ⊥

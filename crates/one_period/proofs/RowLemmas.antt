@@ -3,11 +3,13 @@ use Rattle.std.proofs.Common.{◌≡◌, ℕ, suc, ◌+◌, ◌*◌, ◌≤◌, 
 use Rattle.rationals.specs.Rational.{ℚ, zero_ℚ, one_ℚ, ◌-ℚ◌, ◌*ℚ◌, by_ring, by_eqs, terms, ne_of_gt_ℚ, zero_lt_one_ℚ}
 use Rattle.rationals.specs.Ring.Eqs.{done, by_eq}
 use Rattle.rationals.specs.Order.{same}
-use Rattle.rationals.specs.Passes.{then_walk, mul_walk, sub_walk}
+use Rattle.rationals.specs.Passes.{then_walk, less_product_walk, sub_walk}
 use Rattle.rationals.specs.Sparse.{Entry, product}
 use Rattle.smps_words.specs.declared.row_kind.RowKind.{RowKind}
 use Rattle.smps_words.specs.declared.row_kind.RowKind.TheVariants.{Less, Greater, Equal}
-use Rattle.lp_defs.specs.Walks.{Walk, after_ok, mul_walk_is, sub_walk_is}
+use Rattle.rationals.specs.declared.Op.TheVariants.{Sub}
+use Rattle.rationals.proofs.WalkLaws.{step_value}
+use Rattle.lp_defs.specs.Walks.{Walk, after_ok, sub_walk_is}
 use Rattle.lp_defs.specs.Program.{IsFormBelow}
 use Rattle.slack_form.specs.declared.limits.Limit.{Limit}
 use Rattle.slack_form.specs.Limits.{AllBelow}
@@ -61,12 +63,10 @@ ok_same a b e = cc
 pub right_is : (parts : List Part) (f : List Entry) (end r : ℚ) → right_walk parts end f ≡ Ok r → r ≡ end -ℚ product f (shift_at parts)
 right_is parts [] end r e = sym (ok_same end r e) ∙ by_ring (end ∷ []) (search terms depth 40) tt
 right_is parts (x ∷ f) end r e =
-    let a = after_ok (mul_walk x.value (shift_at parts x.column)) (λ p. then_walk (sub_walk end p) (λ rest. right_walk parts rest f)) r e in
-    let b = after_ok (sub_walk end a.0) (λ rest. right_walk parts rest f) r a.2 in
-    let p : a.0 ≡ x.value *ℚ shift_at parts x.column = mul_walk_is x.value (shift_at parts x.column) a.0 a.1 in
-    let q : b.0 ≡ end -ℚ a.0 = sub_walk_is end a.0 b.0 b.1 in
-    let s : r ≡ b.0 -ℚ product f (shift_at parts) = right_is parts f b.0 r b.2 in
-    by_eqs (r ∷ b.0 ∷ a.0 ∷ end ∷ x.value ∷ shift_at parts x.column ∷ product f (shift_at parts) ∷ []) (by_eq one_ℚ s (by_eq one_ℚ q (by_eq (zero_ℚ -ℚ one_ℚ) p done))) (search terms depth 40) tt
+    let a = after_ok (less_product_walk end x.value (shift_at parts x.column)) (λ rest. right_walk parts rest f) r e in
+    let q : a.0 ≡ end -ℚ x.value *ℚ shift_at parts x.column = step_value Sub end x.value (shift_at parts x.column) a.0 a.1 in
+    let s : r ≡ a.0 -ℚ product f (shift_at parts) = right_is parts f a.0 r a.2 in
+    by_eqs (r ∷ a.0 ∷ end ∷ x.value ∷ shift_at parts x.column ∷ product f (shift_at parts) ∷ []) (by_eq one_ℚ s (by_eq one_ℚ q done)) (search terms depth 40) tt
 
 limit_is : (parts : List Part) (f : List Entry) (kind : RowKind) (end : ℚ) (l : Limit) → limit_walk parts f kind end ≡ Ok l → l ≡ limit_of parts f kind end
 limit_is parts f kind end l e =

@@ -1,4 +1,5 @@
--- What is found for a program of one period, operation by operation: its limits, the path of their standard form, and what is made of its end.
+-- What is found for a program of one period, operation by operation: its limits, the path of their standard form, and what
+-- is made of its end.
 use Rattle.std.specs.Prelude.{◌≡◌, ℕ, List, Ok, Err}
 use Rattle.rationals.specs.Rational.{ℚ}
 use Rattle.rationals.specs.Passes.{then_walk}
@@ -40,18 +41,21 @@ multipliers_walk rows limits y = then_walk (own_walk rows (turned_back limits y)
 
 -- the multipliers, then the policy
 abbrev pub best_walk : List Part → List NodeRow → List Limit → (ℕ → ℚ) → List ℚ → Walk Found
-best_walk parts rows limits x y = then_walk (multipliers_walk rows limits y) (λ dual. then_walk (columns_walk Point x parts) (λ policy. Ok (found_end.Best policy dual)))
+best_walk parts rows limits x y =
+    then_walk (multipliers_walk rows limits y) (λ dual. then_walk (columns_walk Point x parts) (λ policy. Ok (found_end.Best policy dual)))
 
 -- the multipliers, then the operations that show that they exclude every point
 abbrev pub tested_walk : lp.Program → List ℚ → Walk (Unit {0})
 tested_walk standard y = then_walk (ray_walk standard y) (λ shown. Ok tt)
 
 abbrev pub nowhere_walk : List NodeRow → List Limit → lp.Program → List ℚ → Walk Found
-nowhere_walk rows limits standard y = then_walk (multipliers_walk rows limits y) (λ ray. then_walk (tested_walk standard y) (λ _. Ok (found_end.Nowhere ray)))
+nowhere_walk rows limits standard y =
+    then_walk (multipliers_walk rows limits y) (λ ray. then_walk (tested_walk standard y) (λ _. Ok (found_end.Nowhere ray)))
 
 -- the policy, then the direction
 abbrev pub endless_walk : List Part → (ℕ → ℚ) → (ℕ → ℚ) → Walk Found
-endless_walk parts x d = then_walk (columns_walk Point x parts) (λ policy. then_walk (columns_walk Direction d parts) (λ direction. Ok (found_end.Endless policy direction)))
+endless_walk parts x d = then_walk (columns_walk Point x parts) (λ policy.
+    then_walk (columns_walk Direction d parts) (λ direction. Ok (found_end.Endless policy direction)))
 
 abbrev pub end_walk : List Part → List NodeRow → List Limit → lp.Program → Solution → Walk Found
 end_walk parts rows limits standard (Optimum x y) = best_walk parts rows limits x y
@@ -63,10 +67,12 @@ end_walk parts rows limits standard (Passes k p) = Err p
 -- ---- all
 
 abbrev pub path_walk : Program → Node → ℕ → List Limit → Walk Found
-path_walk program node pivots limits = end_walk (parts_of program) node.rows.items limits (standard_seen program node limits) (solution (standard_seen program node limits) pivots)
+path_walk program node pivots limits = end_walk (parts_of program) node.rows.items limits (standard_seen program node limits)
+    (solution (standard_seen program node limits) pivots)
 
 abbrev pub found_walk : Program → Node → ℕ → Walk Found
-found_walk program node pivots = then_walk (rows_walk (parts_of program) node.rows.items program.columns.items) (path_walk program node pivots)
+found_walk program node pivots =
+    then_walk (rows_walk (parts_of program) node.rows.items program.columns.items) (path_walk program node pivots)
 
 -- what a walk finds, or the operation in which it ends
 abbrev pub or_passed : Walk Found → Found

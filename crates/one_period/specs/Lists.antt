@@ -26,7 +26,8 @@ values_from k (value ∷ values) = value_at_root k value ++ values_from (suc k) 
 -- the values of columns, behind those of the columns before column j, where the new columns have the values z
 abbrev pub columns_from : Vector → (ℕ → ℚ) → List At → ℕ → List Part → Walk (List At)
 columns_from vector z made j [] = Ok made
-columns_from vector z made j (p ∷ ps) = then_walk (value_walk vector p z) (λ v. columns_from vector z (made ++ value_at_root j v) (suc j) ps)
+columns_from vector z made j (p ∷ ps) =
+    then_walk (value_walk vector p z) (λ v. columns_from vector z (made ++ value_at_root j v) (suc j) ps)
 
 abbrev pub columns_walk : Vector → (ℕ → ℚ) → List Part → Walk (List At)
 columns_walk vector z = columns_from vector z [] 0

@@ -58,7 +58,8 @@ best_report v policy dual = by_walk (cost_walk v (at policy)) (passed_at (Cost 1
 
 -- the ray's value
 abbrev pub nowhere_report : View → List At → Report
-nowhere_report v ray = by_walk (dual_walk (without_costs v) (at ray)) (stopped_at Dual) (λ value. record (left_open Infeasible) { extra = Some value; ray = Some ray })
+nowhere_report v ray = by_walk (dual_walk (without_costs v) (at ray)) (stopped_at Dual)
+    (λ value. record (left_open Infeasible) { extra = Some value; ray = Some ray })
 
 -- the policy's cost, then the direction's
 abbrev pub slope_report : View → List At → List At → ℚ → Report

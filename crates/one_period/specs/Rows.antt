@@ -2,7 +2,7 @@
 use Rattle.std.specs.Prelude.{ℕ, List, [], ◌∷◌, ◌++◌, Option, Some, None, Ok, take, drop}
 use Rattle.rationals.specs.Rational.{ℚ, one_ℚ}
 use Rattle.rationals.specs.Order.{same}
-use Rattle.rationals.specs.Passes.{sub_walk, mul_walk, then_walk}
+use Rattle.rationals.specs.Passes.{sub_walk, less_product_walk, then_walk}
 use Rattle.rationals.specs.Sparse.{Entry}
 use Rattle.rationals.specs.Totals.{sum_walk}
 use Rattle.smps_words.specs.declared.row_kind.RowKind.{RowKind}
@@ -17,14 +17,15 @@ use Rattle.one_period.specs.Parts.{part_of, behind, part_at, shift, entry, sprea
 
 -- ---- own rows
 
--- the end less, entry by entry, the entry times the shift of its column
+-- the end less, entry by entry, the entry times the shift of its column, each as a step
 abbrev pub right_walk : List Part → ℚ → List Entry → Walk ℚ
 right_walk parts end [] = Ok end
-right_walk parts end (e ∷ f) = then_walk (mul_walk e.value (shift (part_at parts e.column))) (λ p. then_walk (sub_walk end p) (λ rest. right_walk parts rest f))
+right_walk parts end (e ∷ f) = then_walk (less_product_walk end e.value (shift (part_at parts e.column))) (λ rest. right_walk parts rest f)
 
 -- the limit of an end of this form
 abbrev pub limit_walk : List Part → List Entry → RowKind → ℚ → Walk Limit
-limit_walk parts f kind end = then_walk (right_walk parts end f) (λ right. Ok (record { entries = spread_form parts f; kind = kind; right = right }))
+limit_walk parts f kind end =
+    then_walk (right_walk parts end f) (λ right. Ok (record { entries = spread_form parts f; kind = kind; right = right }))
 
 -- the same behind the limits that are made
 abbrev pub push_walk : List Part → List Entry → List Limit → RowKind → ℚ → Walk (List Limit)
@@ -49,12 +50,14 @@ own_limits_from parts made (r ∷ rs) = then_walk (ends_walk parts r.entries mad
 abbrev pub bound_walk : ℕ → List Limit → Option ℚ → Option ℚ → Walk (List Limit)
 bound_walk m made None upper = Ok made
 bound_walk m made (Some low) None = Ok made
-bound_walk m made (Some low) (Some high) = then_walk (sub_walk high low) (λ width. Ok (made ++ record { entries = entry m one_ℚ ∷ []; kind = Less; right = width } ∷ []))
+bound_walk m made (Some low) (Some high) =
+    then_walk (sub_walk high low) (λ width. Ok (made ++ record { entries = entry m one_ℚ ∷ []; kind = Less; right = width } ∷ []))
 
 -- the new columns begin at m
 abbrev pub bound_limits_from : ℕ → List Limit → List Column → Walk (List Limit)
 bound_limits_from m made [] = Ok made
-bound_limits_from m made (c ∷ cs) = then_walk (bound_walk m made c.lower c.upper) (λ more. bound_limits_from (behind (part_of m c.lower c.upper)) more cs)
+bound_limits_from m made (c ∷ cs) =
+    then_walk (bound_walk m made c.lower c.upper) (λ more. bound_limits_from (behind (part_of m c.lower c.upper)) more cs)
 
 -- ---- all: the own rows, then the bounds
 abbrev pub rows_walk : List Part → List NodeRow → List Column → Walk (List Limit)
@@ -72,7 +75,8 @@ limit_count (Some low) (Some high) = pick (same low high) 1 2
 -- a row's multiplier is the sum of those of its limits
 abbrev pub own_from : List ℚ → List NodeRow → List ℚ → Walk (List ℚ)
 own_from made [] duals = Ok made
-own_from made (r ∷ rs) duals = then_walk (sum_walk (take (limit_count r.low r.high) duals)) (λ y. own_from (made ++ y ∷ []) rs (drop (limit_count r.low r.high) duals))
+own_from made (r ∷ rs) duals =
+    then_walk (sum_walk (take (limit_count r.low r.high) duals)) (λ y. own_from (made ++ y ∷ []) rs (drop (limit_count r.low r.high) duals))
 
 abbrev pub own_walk : List NodeRow → List ℚ → Walk (List ℚ)
 own_walk = own_from []

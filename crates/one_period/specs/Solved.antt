@@ -44,9 +44,11 @@ Shows v (found_end.Passed p) = Unit {0}
 
 -- each number of a policy or a direction is that of a column, each of multipliers that of a row
 abbrev pub FoundHasNames : Program → Found → Type 0
-FoundHasNames program (found_end.Best policy dual) = HaveNames (length program.columns.items) policy × HaveNames (length program.rows.items) dual
+FoundHasNames program (found_end.Best policy dual) =
+    HaveNames (length program.columns.items) policy × HaveNames (length program.rows.items) dual
 FoundHasNames program (found_end.Nowhere ray) = HaveNames (length program.rows.items) ray
-FoundHasNames program (found_end.Endless policy direction) = HaveNames (length program.columns.items) policy × HaveNames (length program.columns.items) direction
+FoundHasNames program (found_end.Endless policy direction) =
+    HaveNames (length program.columns.items) policy × HaveNames (length program.columns.items) direction
 FoundHasNames program found_end.PivotsEnded = Unit {0}
 FoundHasNames program (found_end.Passed p) = Unit {0}
 

@@ -89,7 +89,8 @@ EndsCost v p = (x : List At) × (Feasible v (at x) ⊎ IsDirection v (at x)) × 
 
 -- the operation ends the computation of the value of good multipliers, or of those that show that nothing is feasible
 abbrev pub EndsValue : View → Operation → Type 0
-EndsValue v p = (y : List At) × ((IsGood v (at y) × (dual_walk v (at y) ≡ Err (PassedStop p))) ⊎ (ShowsInfeasible v (at y) × (dual_walk (without_costs v) (at y) ≡ Err (PassedStop p))))
+EndsValue v p = (y : List At) × ((IsGood v (at y) × (dual_walk v (at y) ≡ Err (PassedStop p)))
+    ⊎ (ShowsInfeasible v (at y) × (dual_walk (without_costs v) (at y) ≡ Err (PassedStop p))))
 
 -- The first operation that passes 128 bits stands at this place: before anything was found, in a cost, or in a value.
 abbrev pub PassesAt : View → Found → Place → Operation → Type 0

@@ -6,7 +6,8 @@ ghost use Rattle.lp_defs.specs.Solution.{Solution};
 ghost use Rattle.slack_form.specs.Standard.{standard_of};
 ghost use Rattle.simplex_core.specs.Told.{Tells, Shows as ShowsItself};
 ghost use Rattle.one_period.specs.Node.{IsOneNode};
-ghost use Rattle.one_period.specs.Found.{multipliers_walk, best_walk, tested_walk, nowhere_walk, endless_walk, end_walk, found_walk, found, IsFaultOf, StoppedBy};
+ghost use Rattle.one_period.specs.Found.{multipliers_walk, best_walk, tested_walk, nowhere_walk, endless_walk, end_walk};
+ghost use Rattle.one_period.specs.Found.{found_walk, found, IsFaultOf, StoppedBy};
 ghost use Rattle.one_period.specs.Solved.{IsSound};
 
 use crate::limits::limits;
@@ -133,7 +134,8 @@ fn ended(
     requires few_rows { length rows.now < 2 ^ 32 }
     requires standard { standard.now ≡ standard_of limits.now }
     requires shows { ShowsItself standard.now outcome }
-    ensures { (end : Solution) → Tells end outcome → IfNotMemory result (end_walk parts.now rows.now limits.now.rows.items standard.now end) }
+    ensures { (end : Solution) → Tells end outcome
+        → IfNotMemory result (end_walk parts.now rows.now limits.now.rows.items standard.now end) }
 {
     match outcome {
         Outcome::Optimal { point, duals } => best(alloc, parts, rows, limits, &point, &duals),

@@ -21,8 +21,7 @@ fn right(parts: &[Part], end: Frac, entries: &[Term]) -> Result<Frac, Passed>
 {
     let mut right = end;
     for term in entries {
-        let product = term.value.mul(shift(part_at(parts, term.column)))?;
-        right = right.sub(product)?;
+        right = right.less_product(term.value, shift(part_at(parts, term.column)))?;
     }
     Ok(right)
 }
@@ -58,7 +57,9 @@ fn push_ends(
 ) -> Result<(), FormFault>
     requires parts { AreParts 0 parts.now }
     requires entries { IsFormBelow (length parts.now) row.now.entries }
-    ensures { MatchResult result (λ _. ends_walk parts.now row.now.entries limits.old.items row.now.low row.now.high ≡ Ok limits.new.items) (FaultOf (ends_walk parts.now row.now.entries limits.old.items row.now.low row.now.high)) }
+    ensures { MatchResult result
+        (λ _. ends_walk parts.now row.now.entries limits.old.items row.now.low row.now.high ≡ Ok limits.new.items)
+        (FaultOf (ends_walk parts.now row.now.entries limits.old.items row.now.low row.now.high)) }
 {
     let entries = &row.entries;
     match (row.low, row.high) {
@@ -81,7 +82,8 @@ fn push_ends(
 fn own_limits(alloc: Global, parts: &[Part], rows: &[NodeRow]) -> Result<Vec<Limit>, FormFault>
     requires parts { AreParts 0 parts.now }
     requires rows { AreOwnRows (length parts.now) 0 rows.now }
-    ensures { MatchResult result (λ limits. own_limits_from parts.now [] rows.now ≡ Ok limits.items) (FaultOf (own_limits_from parts.now [] rows.now)) }
+    ensures { MatchResult result (λ limits. own_limits_from parts.now [] rows.now ≡ Ok limits.items)
+        (FaultOf (own_limits_from parts.now [] rows.now)) }
 {
     let mut limits = Vec::new(alloc);
     for row in rows {
@@ -106,7 +108,8 @@ fn push_bound(
     column: &Column,
     limits: &mut Vec<Limit>,
 ) -> Result<(), FormFault>
-    ensures { MatchResult result (λ _. bound_walk new limits.old.items column.now.lower column.now.upper ≡ Ok limits.new.items) (FaultOf (bound_walk new limits.old.items column.now.lower column.now.upper)) }
+    ensures { MatchResult result (λ _. bound_walk new limits.old.items column.now.lower column.now.upper ≡ Ok limits.new.items)
+        (FaultOf (bound_walk new limits.old.items column.now.lower column.now.upper)) }
 {
     if let (Some(low), Some(high)) = (column.lower, column.upper) {
         let right = high.sub(low)?;
@@ -124,7 +127,8 @@ fn push_bound(
 fn push_bounds(alloc: Global, columns: &[Column], limits: &mut Vec<Limit>) -> Result<u64, FormFault>
     requires { length columns.now < 2 ^ 32 }
     ensures count { IfOk result (λ new. new ≡ behind_all 0 (parts_from 0 columns.now)) }
-    ensures exact { MatchResult result (λ _. bound_limits_from 0 limits.old.items columns.now ≡ Ok limits.new.items) (FaultOf (bound_limits_from 0 limits.old.items columns.now)) }
+    ensures exact { MatchResult result (λ _. bound_limits_from 0 limits.old.items columns.now ≡ Ok limits.new.items)
+        (FaultOf (bound_limits_from 0 limits.old.items columns.now)) }
 {
     let mut new = 0;
     for column in columns {
@@ -146,7 +150,8 @@ pub(crate) fn limits(
     requires few_rows { length node.now.rows.items < 2 ^ 32 }
     requires rows { AreOwnRows (length columns.now) 0 node.now.rows.items }
     requires cost { IsFormBelow (length columns.now) node.now.cost }
-    ensures rows { MatchResult result (λ limits. rows_walk parts.now node.now.rows.items columns.now ≡ Ok limits.rows.items) (FaultOf (rows_walk parts.now node.now.rows.items columns.now)) }
+    ensures rows { MatchResult result (λ limits. rows_walk parts.now node.now.rows.items columns.now ≡ Ok limits.rows.items)
+        (FaultOf (rows_walk parts.now node.now.rows.items columns.now)) }
     ensures cost { IfOk result (λ limits. limits.cost ≡ spread_form parts.now node.now.cost) }
     ensures columns { IfOk result (λ limits. limits.columns ≡ behind_all 0 parts.now) }
     ensures limits { IfOk result IsLimits }

@@ -51,7 +51,12 @@ fn put_place(alloc: Global, out: &mut Vec<u8>, place: Place) -> Result<(), Memor
 }
 
 /// Appends a word and a whole number.
-fn put_numbered(alloc: Global, out: &mut Vec<u8>, word: &[u8], number: u64) -> Result<(), Memory>
+pub(crate) fn put_numbered(
+    alloc: Global,
+    out: &mut Vec<u8>,
+    word: &[u8],
+    number: u64,
+) -> Result<(), Memory>
     ensures { OnOk result (out.new.items ≡ out.old.items ++ (word.now ++ decimal number)) }
 {
     put(out, word)?;

@@ -1,12 +1,12 @@
 -- The value of the walk over the value of multipliers.
 use Rattle.std.proofs.Common.{◌≡◌, ℕ, Bool, true, false, List, [], ◌∷◌, Option, Some, None, Ok, Err, sym, ap, subst, ◌∙◌}
-use Rattle.rationals.specs.declared.Op.TheVariants.{Sub, Mul}
+use Rattle.rationals.specs.declared.Op.TheVariants.{Add, Sub, Mul}
 use Rattle.rationals.specs.Rational.{ℚ, zero_ℚ, one_ℚ, ◌+ℚ◌, ◌-ℚ◌, ◌*ℚ◌, by_eqs, by_ring, terms, add_zero_ℚ}
 use Rattle.rationals.specs.Ring.Eqs.{done, by_eq}
-use Rattle.rationals.specs.Passes.{then_walk, sub_walk, mul_walk}
+use Rattle.rationals.specs.Passes.{then_walk, mul_walk, add_product_walk, less_product_walk}
 use Rattle.rationals.specs.Sums.{sum_ℚ}
 use Rattle.rationals.specs.Sparse.{coefficient, value_if}
-use Rattle.rationals.proofs.WalkLaws.{walk_value}
+use Rattle.rationals.proofs.WalkLaws.{walk_value, step_value}
 use Rattle.scen_defs.specs.declared.program.NodeRow.{NodeRow}
 use Rattle.scen_defs.specs.Lists.{Each, pick}
 use Rattle.scen_defs.specs.Ends.{used_end, IsFinite, number, IsGoodAt, worth}
@@ -14,9 +14,9 @@ use Rattle.scen_defs.specs.Program.{View, total}
 use Rattle.scen_defs.specs.Flat.{is_above, subtree, reduced, GoodAt, IsGood, value}
 use Rattle.scen_defs.proofs.SumLaws.{each-both, each-map, sum-keep}
 use Rattle.scen_model.specs.declared.stop.Stop.TheVariants.{Decided}
-use Rattle.scen_model.specs.Walks.{add_product, total_walk, totals_walk, stopping, end_step, worth_step, rows_from, less_from, less_step, less_all, reduced_walk, column_step, columns_step, all_rows, all_columns, dual_walk}
+use Rattle.scen_model.specs.Walks.{total_walk, totals_walk, stopping, end_step, worth_step, rows_from, less_from, less_step, less_all, reduced_walk, column_step, columns_step, all_rows, all_columns, dual_walk}
 use Rattle.scen_model.specs.Laws.{DualLaws}
-use Rattle.scen_model.proofs.WalkEnds.{Decides, ended, decides, stopping-ends, stopping-decided, fold-adds, fold-takes, fold-each, fold-decided, add_product-ends, total_from-ends}
+use Rattle.scen_model.proofs.WalkEnds.{Decides, ended, decides, stopping-ends, stopping-decided, fold-adds, fold-takes, fold-each, fold-decided, total_from-ends}
 use Rattle.scen_model.proofs.WalkEnds.Decides.{at_first, at_next}
 
 -- ---- a multiplier and the end that it uses
@@ -27,7 +27,7 @@ module _ (low high : Option ℚ) (y s : ℚ) where
     where
       go : (u : Option ℚ) → end_step s y u ≡ Ok q → q ≡ s +ℚ y *ℚ number u
       go None e = absurd (cc)
-      go (Some u) e = add_product-ends s y u q (stopping-ends (add_product s y u) q e)
+      go (Some u) e = step_value Add s y u q (stopping-ends (add_product_walk s y u) q e)
 
   pub worth-good : (q : ℚ) → worth_step low high y s ≡ Ok q → IsGoodAt low high y
   worth-good q e = record { finite = go (used_end low high y) e }
@@ -41,7 +41,7 @@ module _ (low high : Option ℚ) (y s : ℚ) where
     where
       go : (u : Option ℚ) → end_step s y u ≡ Err Decided → IsFinite u → ⊥
       go None e f = f
-      go (Some u) e f = stopping-decided (add_product s y u) e
+      go (Some u) e f = stopping-decided (add_product_walk s y u) e
 
 -- ---- the rows of a node
 rows-worth : (ℕ → ℚ) → List NodeRow → ℚ
@@ -83,12 +83,10 @@ less-takes : (j : ℕ) (y : ℕ → ℚ) (s : ℚ) (rs : List NodeRow) (q : ℚ)
 unfolding products
 less-takes j y s [] q e = let d : q ≡ s = cc in d ∙ by_ring (s ∷ []) (search terms depth 40) tt
 less-takes j y s (r ∷ rs) q e =
-    let one = ended (mul_walk (coefficient r.entries j) (y r.row)) (λ p. then_walk (sub_walk s p) (λ t. less_from j y t rs)) q e in
-    let two = ended (sub_walk s one.result) (λ t. less_from j y t rs) q one.next_is in
-    let a : q ≡ two.result -ℚ products j y rs = less-takes j y two.result rs q two.next_is in
-    let b : two.result ≡ s -ℚ one.result = walk_value Sub s one.result two.result two.first_is in
-    let c : one.result ≡ coefficient r.entries j *ℚ y r.row = walk_value Mul (coefficient r.entries j) (y r.row) one.result one.first_is in
-    by_eqs (q ∷ s ∷ one.result ∷ two.result ∷ coefficient r.entries j ∷ y r.row ∷ products j y rs ∷ []) (by_eq one_ℚ a (by_eq one_ℚ b (by_eq (zero_ℚ -ℚ one_ℚ) c done))) (search terms depth 40) tt
+    let one = ended (less_product_walk s (coefficient r.entries j) (y r.row)) (λ t. less_from j y t rs) q e in
+    let a : q ≡ one.result -ℚ products j y rs = less-takes j y one.result rs q one.next_is in
+    let b : one.result ≡ s -ℚ coefficient r.entries j *ℚ y r.row = step_value Sub s (coefficient r.entries j) (y r.row) one.result one.first_is in
+    by_eqs (q ∷ s ∷ one.result ∷ coefficient r.entries j ∷ y r.row ∷ products j y rs ∷ []) (by_eq one_ℚ a (by_eq one_ℚ b done)) (search terms depth 40) tt
 
 less_step-takes : (v : View) (y : ℕ → ℕ → ℚ) (m j : ℕ) (s : ℚ) (n : ℕ) (q : ℚ) → less_step v y m j s n ≡ Ok q → q ≡ s -ℚ value_if (is_above v m n) (products j (y n) (v.rows n))
 less_step-takes v y m j s n q e = go (is_above v m n) e

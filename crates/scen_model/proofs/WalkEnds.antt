@@ -1,17 +1,17 @@
 -- What a walk that came to its end, or was stopped, went through.
 use Rattle.std.proofs.Common.{◌≡◌, ℕ, Bool, true, false, List, [], ◌∷◌, Result, Ok, Err, refl, sym, ap, ◌∙◌}
-use Rattle.rationals.specs.declared.Op.TheVariants.{Add, Mul}
+use Rattle.rationals.specs.declared.Op.TheVariants.{Add}
 use Rattle.rationals.specs.Rational.{ℚ, one_ℚ, ◌+ℚ◌, ◌-ℚ◌, ◌*ℚ◌, by_eqs, by_ring, terms, add_zero_ℚ}
 use Rattle.rationals.specs.Ring.Eqs.{done, by_eq}
-use Rattle.rationals.specs.Passes.{Operation, add_walk, mul_walk, then_walk}
+use Rattle.rationals.specs.Passes.{Operation, add_walk, add_product_walk, then_walk}
 use Rattle.rationals.specs.Sums.{sum_ℚ}
 use Rattle.rationals.specs.Sparse.{Entry, product, value_if}
-use Rattle.rationals.proofs.WalkLaws.{walk_value}
+use Rattle.rationals.proofs.WalkLaws.{walk_value, step_value}
 use Rattle.scen_defs.specs.Lists.{Each, is_in, pick}
 use Rattle.scen_defs.specs.Program.{Scenario}
 use Rattle.scen_model.specs.declared.stop.Stop.{Stop}
 use Rattle.scen_model.specs.declared.stop.Stop.TheVariants.{Decided}
-use Rattle.scen_model.specs.Walks.{fold_walk, add_product, product_from, total_from, stopping}
+use Rattle.scen_model.specs.Walks.{fold_walk, product_from, total_from, stopping}
 
 -- one walk and then another
 pub record Ended {A B P : Type 0} (first : Result A P) (next : A → Result B P) (b : B) : Type 0 where
@@ -70,17 +70,12 @@ fold-decided {A} {S} f G h s (x ∷ xs) e g = go (decides (f s x) (λ t. fold_wa
     go (at_next t d k) rest = rest t k
 
 -- ---- sums
-pub add_product-ends : (s a b q : ℚ) → add_product s a b ≡ Ok q → q ≡ s +ℚ a *ℚ b
-add_product-ends s a b q e =
-    let one = ended (mul_walk a b) (λ p. add_walk s p) q e in
-    walk_value Add s one.result q one.next_is ∙ ap (λ p. s +ℚ p) (walk_value Mul a b one.result one.first_is)
-
 pub product_from-ends : (x : ℕ → ℚ) (s : ℚ) (es : List Entry) (q : ℚ) → product_from x s es ≡ Ok q → q ≡ s +ℚ product es x
 product_from-ends x s [] q e = let d : q ≡ s = cc in d ∙ sym (add_zero_ℚ s)
 product_from-ends x s (d ∷ es) q e =
-    let one = ended (add_product s d.value (x d.column)) (λ t. product_from x t es) q e in
+    let one = ended (add_product_walk s d.value (x d.column)) (λ t. product_from x t es) q e in
     let r : q ≡ one.result +ℚ product es x = product_from-ends x one.result es q one.next_is in
-    let t : one.result ≡ s +ℚ d.value *ℚ x d.column = add_product-ends s d.value (x d.column) one.result one.first_is in
+    let t : one.result ≡ s +ℚ d.value *ℚ x d.column = step_value Add s d.value (x d.column) one.result one.first_is in
     by_eqs (q ∷ s ∷ one.result ∷ d.value ∷ x d.column ∷ product es x ∷ []) (by_eq one_ℚ r (by_eq one_ℚ t done)) (search terms depth 40) tt
 
 through : ℕ → List Scenario → ℚ

@@ -2,7 +2,7 @@
 use Rattle.std.specs.Prelude.{ℕ, Bool, true, false, not, ◌&&◌, List, [], ◌∷◌, Option, Some, None, Result, Ok, Err}
 use Rattle.rationals.specs.Rational.{ℚ, zero_ℚ, at_most}
 use Rattle.rationals.specs.Sparse.{Entry, coefficient}
-use Rattle.rationals.specs.Passes.{Operation, add_walk, sub_walk, mul_walk, then_walk}
+use Rattle.rationals.specs.Passes.{Operation, add_walk, mul_walk, add_product_walk, less_product_walk, then_walk}
 use Rattle.scen_defs.specs.declared.program.NodeRow.{NodeRow}
 use Rattle.scen_defs.specs.Lists.{is_in, pick}
 use Rattle.scen_defs.specs.Ends.{used_end}
@@ -20,14 +20,10 @@ abbrev pub fold_walk : {S A P : Type 0} → (S → A → Result S P) → S → L
 fold_walk f s [] = Ok s
 fold_walk f s (x ∷ xs) = then_walk (f s x) (λ t. fold_walk f t xs)
 
--- s and a product
-abbrev pub add_product : ℚ → ℚ → ℚ → Result ℚ Operation
-add_product s a b = then_walk (mul_walk a b) (λ p. add_walk s p)
-
 -- s and, entry by entry, the entry times the value of its column
 abbrev pub product_from : (ℕ → ℚ) → ℚ → List Entry → Result ℚ Operation
 product_from x s [] = Ok s
-product_from x s (e ∷ es) = then_walk (add_product s e.value (x e.column)) (λ t. product_from x t es)
+product_from x s (e ∷ es) = then_walk (add_product_walk s e.value (x e.column)) (λ t. product_from x t es)
 
 -- ---- the total of a node
 
@@ -48,7 +44,7 @@ totals_walk v (n ∷ ns) = then_walk (total_walk v n) (λ t. totals_walk v ns)
 
 -- s and, for a node with these costs and values, the total times the cost of the values
 abbrev pub cost_step : List Scenario → List Entry → (ℕ → ℚ) → ℕ → ℚ → Result ℚ Operation
-cost_step scenarios costs x n s = then_walk (product_from x zero_ℚ costs) (λ c. then_walk (total_from n zero_ℚ scenarios) (λ t. add_product s t c))
+cost_step scenarios costs x n s = then_walk (product_from x zero_ℚ costs) (λ c. then_walk (total_from n zero_ℚ scenarios) (λ t. add_product_walk s t c))
 
 abbrev pub costs_walk : View → (ℕ → ℕ → ℚ) → Result ℚ Operation
 costs_walk v x = fold_walk (λ s n. cost_step v.scenarios (v.cost n) (x n) n s) zero_ℚ v.live
@@ -67,7 +63,7 @@ stopping (Err p) = Err (Passed p)
 -- s and a multiplier times an end; an end that isn't finite decides
 abbrev pub end_step : ℚ → ℚ → Option ℚ → Result ℚ Stop
 end_step s y None = Err Decided
-end_step s y (Some e) = stopping (add_product s y e)
+end_step s y (Some e) = stopping (add_product_walk s y e)
 
 -- s and a multiplier times the end that it uses
 abbrev pub worth_step : Option ℚ → Option ℚ → ℚ → ℚ → Result ℚ Stop
@@ -81,7 +77,7 @@ rows_from y s (r ∷ rs) = then_walk (worth_step r.low r.high (y r.row) s) (λ t
 -- s less, row by row, the entry of column j times the multiplier
 abbrev pub less_from : ℕ → (ℕ → ℚ) → ℚ → List NodeRow → Result ℚ Operation
 less_from j y s [] = Ok s
-less_from j y s (r ∷ rs) = then_walk (mul_walk (coefficient r.entries j) (y r.row)) (λ p. then_walk (sub_walk s p) (λ t. less_from j y t rs))
+less_from j y s (r ∷ rs) = then_walk (less_product_walk s (coefficient r.entries j) (y r.row)) (λ t. less_from j y t rs)
 
 -- s less the products of a node's rows, where the node is m or below it
 abbrev pub less_step : View → (ℕ → ℕ → ℚ) → ℕ → ℕ → ℚ → ℕ → Result ℚ Operation

@@ -16,8 +16,7 @@ fn node_cost(costs: &[Term], values: &Values, node: u64) -> Result<Frac, Passed>
 {
     let mut sum = Frac::zero();
     for term in costs {
-        let product = term.value.mul(values.get(node, term.column))?;
-        sum = sum.add(product)?;
+        sum = sum.add_product(term.value, values.get(node, term.column))?;
     }
     Ok(sum)
 }
@@ -34,8 +33,7 @@ fn add_node(
 {
     let cost = node_cost(costs, values, node)?;
     let total = total(scenarios, node)?;
-    let product = total.mul(cost)?;
-    sum.add(product)
+    sum.add_product(total, cost)
 }
 
 /// The total times the node's cost, added up by node.

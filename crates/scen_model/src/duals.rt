@@ -53,8 +53,7 @@ fn less_rows(
     let mut rest = start;
     for row in rows {
         let multiplier = values.get(node, row.row as u64);
-        let product = row.entries.get(column).mul(multiplier)?;
-        rest = rest.sub(product)?;
+        rest = rest.less_product(row.entries.get(column), multiplier)?;
     }
     Ok(rest)
 }

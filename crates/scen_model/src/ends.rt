@@ -39,8 +39,7 @@ pub(crate) fn add_worth(
     match used_end(low, high, multiplier) {
         None => Err(Stop::Decided),
         Some(end) => {
-            let product = multiplier.mul(end)?;
-            let next = sum.add(product)?;
+            let next = sum.add_product(multiplier, end)?;
             Ok(next)
         }
     }

@@ -69,8 +69,7 @@ fn row_sum(program: &Program, entries: &[Term], values: &Values, node: u64) -> R
     let mut sum = Frac::zero();
     for term in entries {
         let value = values.get(home(program, node, term.column), term.column);
-        let product = term.value.mul(value)?;
-        sum = sum.add(product)?;
+        sum = sum.add_product(term.value, value)?;
     }
     Ok(sum)
 }

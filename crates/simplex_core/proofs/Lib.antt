@@ -9,3 +9,4 @@ pub mod Solves
 pub mod Checks
 pub mod Columns
 pub mod Rises
+pub mod Sweep

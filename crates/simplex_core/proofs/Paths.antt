@@ -6,27 +6,27 @@ use Rattle.lp_defs.specs.Ends.{IsChosen}
 use Rattle.lp_defs.proofs.Choice.{leaving_is}
 use Rattle.lp_defs.specs.Path.{Row, Tableau, Candidate, Ending, Done, Open, Stopped, TooLong, entering, leaving, has_above_zero, pivoted, path}
 
-pub best_is : (n l k : ℕ) (t : Tableau) → None ≡ entering n t.objective.entries → path n l k t ≡ Done k t
+pub best_is : (n l k : ℕ) (t : Tableau) → None ≡ entering n t.objective → path n l k t ≡ Done k t
 best_is n zero k t e = rw (← e) refl
 best_is n (suc l) k t e = rw (← e) refl
 
-pub open_is : (n l k j : ℕ) (t : Tableau) → Some j ≡ entering n t.objective.entries → Ok None ≡ leaving j t.rows 0 None → path n (suc l) k t ≡ Open j t
+pub open_is : (n l k j : ℕ) (t : Tableau) → Some j ≡ entering n t.objective → Ok None ≡ leaving j t.rows 0 None → path n (suc l) k t ≡ Open j t
 open_is n l k j t e f = rw (← e, ← f) refl
 
-pub stop_leave : (n l k j : ℕ) (t : Tableau) (p : Operation) → Some j ≡ entering n t.objective.entries → Err p ≡ leaving j t.rows 0 None → path n (suc l) k t ≡ Stopped (k + 1) p
+pub stop_leave : (n l k j : ℕ) (t : Tableau) (p : Operation) → Some j ≡ entering n t.objective → Err p ≡ leaving j t.rows 0 None → path n (suc l) k t ≡ Stopped (k + 1) p
 stop_leave n l k j t p e f = rw (← e, ← f) refl
 
-pub stop_pivot : (n l k j : ℕ) (t : Tableau) (c : Candidate) (p : Operation) → Some j ≡ entering n t.objective.entries → Ok (Some c) ≡ leaving j t.rows 0 None → pivoted j c.index t ≡ Err p → path n (suc l) k t ≡ Stopped (k + 1) p
+pub stop_pivot : (n l k j : ℕ) (t : Tableau) (c : Candidate) (p : Operation) → Some j ≡ entering n t.objective → Ok (Some c) ≡ leaving j t.rows 0 None → pivoted j c.index t ≡ Err p → path n (suc l) k t ≡ Stopped (k + 1) p
 stop_pivot n l k j t c p e f g = rw (← e, ← f, g) refl
 
-pub goes_on : (n l k j : ℕ) (t next : Tableau) (c : Candidate) → Some j ≡ entering n t.objective.entries → Ok (Some c) ≡ leaving j t.rows 0 None → pivoted j c.index t ≡ Ok next → path n (suc l) k t ≡ path n l (k + 1) next
+pub goes_on : (n l k j : ℕ) (t next : Tableau) (c : Candidate) → Some j ≡ entering n t.objective → Ok (Some c) ≡ leaving j t.rows 0 None → pivoted j c.index t ≡ Ok next → path n (suc l) k t ≡ path n l (k + 1) next
 goes_on n l k j t next c e f g = rw (← e, ← f, g) refl
 
 -- where no pivot is left
-pub long_is : (n k j : ℕ) (t : Tableau) → Some j ≡ entering n t.objective.entries → has_above_zero j t.rows ≡ true → path n 0 k t ≡ TooLong
+pub long_is : (n k j : ℕ) (t : Tableau) → Some j ≡ entering n t.objective → has_above_zero j t.rows ≡ true → path n 0 k t ≡ TooLong
 long_is n k j t e f = rw (← e, f) refl
 
-pub open_at_end : (n k j : ℕ) (t : Tableau) → Some j ≡ entering n t.objective.entries → has_above_zero j t.rows ≡ false → path n 0 k t ≡ Open j t
+pub open_at_end : (n k j : ℕ) (t : Tableau) → Some j ≡ entering n t.objective → has_above_zero j t.rows ≡ false → path n 0 k t ≡ Open j t
 open_at_end n k j t e f = rw (← e, f) refl
 
 -- at the start of a loop's turn

@@ -1,12 +1,10 @@
 -- The columns of a line rise.
-use Rattle.std.proofs.Common.{◌≡◌, ℕ, zero, suc, ◌<◌, ◌≤◌, false, List, [], ◌∷◌, ◌++◌, Ok, length, get_or, slice_set, refl, sym, ap, subst, arith, ◌∙◌}
+use Rattle.std.proofs.Common.{◌≡◌, ℕ, zero, suc, ◌<◌, ◌≤◌, List, [], ◌∷◌, ◌++◌, length, get_or, slice_set, sym, ap, subst, arith, ◌∙◌}
 use Rattle.rationals.specs.Rational.{ℚ, one_ℚ}
 use Rattle.rationals.specs.Sparse.{Entry, Ascending, coefficient, coefficient_is}
-use Rattle.lp_defs.specs.Tests.{is_zero}
-use Rattle.lp_defs.specs.Lines.{Line, value_at, less_walk, less_entries, cleared_by}
+use Rattle.lp_defs.specs.Lines.{value_at}
 use Rattle.lp_defs.specs.Program.{IsFormBelow, AllFormsBelow}
 use Rattle.lp_defs.proofs.Basic.{value_is}
-use Rattle.lp_defs.proofs.Rising.{cleared_rises}
 use Rattle.lp_defs.proofs.Starts.{rows_rise}
 
 -- where columns rise, the entry of a column is all that stands there
@@ -21,13 +19,6 @@ pub form_at : (n i : ℕ) (forms : List (List Entry)) (f : List Entry) → AllFo
 form_at n i [] f h l e = absurd (omega arith)
 form_at n zero (g ∷ forms) f h l e = subst (IsFormBelow n) (sym e) h.0
 form_at n (suc i) (g ∷ forms) f h l e = form_at n i forms f h.1 (omega arith) e
-
--- a line less a multiple of another
-pub less_rises : (f r : ℚ) (pivot line : Line) (entries : List Entry) → Ascending 0 pivot.entries → Ascending 0 line.entries → is_zero f ≡ false → less_entries f line.entries pivot.entries [] ≡ Ok entries → less_walk f line.right pivot.right ≡ Ok r → Ascending 0 entries
-less_rises f r pivot line entries p l z e w = cleared_rises f pivot line (record { entries = entries; right = r }) p l made
-  where
-    made : cleared_by f pivot line ≡ Ok (record { entries = entries; right = r })
-    made = rw (cleared_by, z, e, w) refl
 
 -- another value in a column
 pub set_rises : (n i : ℕ) (xs : List Entry) (x y : Entry) → Ascending n xs → i < length xs → x ≡ get_or xs i x → y.column ≡ x.column → Ascending n (slice_set xs i y)

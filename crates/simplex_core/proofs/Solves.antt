@@ -1,16 +1,14 @@
 -- From the parts of a solve to its answer.
-use Rattle.std.proofs.Common.{◌≡◌, ℕ, ◌+◌, ◌-◌, ◌*◌, ◌^◌, ◌≤◌, Bool, true, false, List, [], Result, Ok, length, sym, ap, ap₂, ◌∙◌, subst, arith}
+use Rattle.std.proofs.Common.{◌≡◌, ℕ, ◌+◌, ◌-◌, ◌*◌, ◌^◌, ◌≤◌, Bool, true, false, List, [], Result, Ok, length, sym, ap, ap₂, ◌∙◌, subst, subst₂, arith, le_refl}
 use Rattle.std.specs.Prelude.{IfOk}
-use Rattle.rationals.specs.Rational.{ℚ}
-use Rattle.rationals.specs.Sparse.{Entry, coefficient}
+use Rattle.rationals.specs.Rational.{ℚ, one_ℚ}
+use Rattle.rationals.specs.Sparse.{Entry, Ascending, coefficient}
 use Rattle.frac128.specs.declared.memory.Memory.{Memory}
-use Rattle.lp_defs.specs.Tests.{is_below_zero, is_below_zero_false}
 use Rattle.lp_defs.specs.Walks.{Walk}
-use Rattle.lp_defs.specs.Lines.{Line}
 use Rattle.lp_defs.specs.Path.{Row, Tableau, Done, Open, path}
 use Rattle.lp_defs.specs.Ends.{EndsWell}
 use Rattle.lp_defs.specs.Basis.{point, ray}
-use Rattle.lp_defs.specs.Phases.{unit_rows, with_units, unit_costs, cost_line, priced, Driven_out, driven, first_duals, unit_duals}
+use Rattle.lp_defs.specs.Phases.{unit_rows, with_units, unit_costs, priced, has_artificial_above, Driven_out, driven, first_duals, unit_duals}
 use Rattle.lp_defs.specs.Program.{Program, IsProgram, EndsInUnits}
 use Rattle.lp_defs.specs.Solution.{Solution, Optimum, Nowhere, Endless, Cut_off, counted, first_rows, first_cost, first_end, second_end, second, between, solution}
 use Rattle.lp_defs.specs.Stages.{First, Driving, DrivenOut, Second}
@@ -24,6 +22,11 @@ use Rattle.lp_defs.proofs.Certified.{solutions_are_certified}
 use Rattle.lp_defs.proofs.Feasible.{unit_columns_are_feasible}
 use Rattle.lp_defs.proofs.Bound.{pivots_are_bounded}
 use Rattle.lp_defs.proofs.Same.{optimal_same, unbounded_same}
+use Rattle.lp_defs.specs.Lines.{value_at}
+use Rattle.lp_defs.specs.Linear.{AllLines, AllRows}
+use Rattle.lp_defs.proofs.Starts.{rows_rise, length_with_units}
+use Rattle.rationals.specs.Forms.{EndsBelow}
+use Rattle.simplex_core.proofs.Sweep.{rows_below, basics_cost}
 use Rattle.simplex_core.specs.declared.tableau.End.{End}
 use Rattle.simplex_core.specs.declared.tableau.End.TheVariants as end
 use Rattle.simplex_core.specs.declared.drive.Driven.{Driven as DriveEnd}
@@ -55,14 +58,14 @@ differ_open p l m j t new rows s e h = subst BasicsDiffer (sym h) (basics_differ
 pub apart_open : (p : Program) (l m j : ℕ) (t new : Tableau) (rows : List Row) → Second p t → path p.columns l m t ≡ Open j new → rows ≡ new.rows → NotIn j rows
 apart_open p l m j t new rows s e h =
     let w = subst (EndsWell (Second p) p.columns) e (second_path p l m t s) in
-    subst (NotIn j) (sym h) (apart_entering new.objective.entries j new.rows w.0.three.1.objective_rises (entering_falls p.columns 0 j new.objective.entries w.0.three.1.objective_rises w.1) w.0.three.1.priced)
+    subst (NotIn j) (sym h) (apart_entering new.objective j new.rows w.0.three.1.objective_rises (entering_falls p.columns 0 j new.objective w.0.three.1.objective_rises w.1) w.0.three.1.priced)
 
-pub tells_done : (p : Program) (l m last columns : ℕ) (t new : Tableau) (forms : List (List Entry)) (rows : List Row) (objective : Line) (x : List Entry) (y : List ℚ) → path p.columns l m t ≡ Done last new → columns ≡ p.columns → forms ≡ p.rows → rows ≡ new.rows → objective ≡ new.objective
+pub tells_done : (p : Program) (l m last columns : ℕ) (t new : Tableau) (forms : List (List Entry)) (rows : List Row) (objective : List Entry) (x : List Entry) (y : List ℚ) → path p.columns l m t ≡ Done last new → columns ≡ p.columns → forms ≡ p.rows → rows ≡ new.rows → objective ≡ new.objective
     → ((c : ℕ) → coefficient x c ≡ point rows c) → y ≡ unit_duals columns (length forms) objective
     → (v : ℕ → ℚ) × (second_end p (path p.columns l m t) ≡ Optimum v y) × ((c : ℕ) → coefficient x c ≡ v c)
 tells_done p l m last columns t new forms rows objective x y e h k r o px dy =
     let d : y ≡ unit_duals p.columns (length p.rows) new.objective =
-    dy ∙ ap (λ (z : Line). unit_duals columns (length forms) z) o ∙ ap₂ (λ (n : ℕ) (f : List (List Entry)). unit_duals n (length f) new.objective) h k in (
+    dy ∙ ap (λ (z : List Entry). unit_duals columns (length forms) z) o ∙ ap₂ (λ (n : ℕ) (f : List (List Entry)). unit_duals n (length f) new.objective) h k in (
       point new.rows,
       ap (second_end p) e ∙ ap (λ (z : List ℚ). Optimum (point new.rows) z) (sym d),
       λ c. px c ∙ ap (λ (z : List Row). point z c) r,
@@ -79,15 +82,15 @@ tells_open p l m j t new rows again x d e r s px dx = (
 )
 
 -- the objective row of a phase, as the code made it
-pub priced_is : (cost made : List Entry) (rows read : List Row) (o : Line) → made ≡ cost → read ≡ rows → priced made read (cost_line made) ≡ Ok o → priced cost rows (cost_line cost) ≡ Ok o
-priced_is cost made rows read o h k e = sym (ap₂ (λ (c : List Entry) (r : List Row). priced c r (cost_line c)) h k) ∙ e
+pub priced_is : (cost made : List Entry) (rows read : List Row) (o : List Entry) → made ≡ cost → read ≡ rows → priced made read made ≡ Ok o → priced cost rows cost ≡ Ok o
+priced_is cost made rows read o h k e = sym (ap₂ (λ (c : List Entry) (r : List Row). priced c r c) h k) ∙ e
 
-pub second_ready : (p : Program) (t u : Tableau) (o : Line) → IsProgram p → DrivenOut p t → priced p.cost t.rows (cost_line p.cost) ≡ Ok o → u ≡ record { rows = t.rows; objective = o } → Second p u
+pub second_ready : (p : Program) (t u : Tableau) (o : List Entry) → IsProgram p → DrivenOut p t → priced p.cost t.rows p.cost ≡ Ok o → u ≡ record { rows = t.rows; objective = o } → Second p u
 second_ready p t u o is d e h = subst (Second p) (sym h) (second_begins p t o is d e)
 
-pub second_is : (p : Program) (pivots made : ℕ) (t u : Tableau) (o : Line) → priced p.cost t.rows (cost_line p.cost) ≡ Ok o → u ≡ record { rows = t.rows; objective = o } → second p pivots made t ≡ second_end p (path p.columns (pivots - made) made u)
+pub second_is : (p : Program) (pivots made : ℕ) (t u : Tableau) (o : List Entry) → priced p.cost t.rows p.cost ≡ Ok o → u ≡ record { rows = t.rows; objective = o } → second p pivots made t ≡ second_end p (path p.columns (pivots - made) made u)
 second_is p pivots made t u o e h =
-    ap (λ (w : Walk Line). counted made w (λ x. second_end p (path p.columns (pivots - made) made (record { rows = t.rows; objective = x })))) e
+    ap (λ (w : Walk (List Entry)). counted made w (λ x. second_end p (path p.columns (pivots - made) made (record { rows = t.rows; objective = x })))) e
     ∙ ap (λ (v : Tableau). second_end p (path p.columns (pivots - made) made v)) (sym h)
 
 -- ---- the pivots on artificial columns
@@ -98,10 +101,10 @@ pub driven_ready : (p : Program) (left made last : ℕ) (t new : Tableau) → Dr
 driven_ready p left made last t new d e = subst (EndsDriven p) e (driven_well p left made t d)
 
 -- ---- behind phase one
-pub driving_ready : (p : Program) (t : Tableau) (b : Bool) → First p t → b ≡ is_below_zero t.objective.right → b ≡ false → Driving p t
-driving_ready p t b h e k = driving_begins p t h (is_below_zero_false t.objective.right (sym e ∙ k))
+pub driving_ready : (p : Program) (t : Tableau) (b : Bool) → First p t → b ≡ has_artificial_above p.columns t.rows → b ≡ false → Driving p t
+driving_ready p t b h e k = driving_begins p t h (sym e ∙ k)
 
-pub feasible_is : (p : Program) (pivots made : ℕ) (t : Tableau) (b : Bool) → b ≡ is_below_zero t.objective.right → b ≡ false → first_end p pivots (Done made t) ≡ between p pivots (driven p.columns (length t.rows) 0 (pivots - made) made t)
+pub feasible_is : (p : Program) (pivots made : ℕ) (t : Tableau) (b : Bool) → b ≡ has_artificial_above p.columns t.rows → b ≡ false → first_end p pivots (Done made t) ≡ between p pivots (driven p.columns (length t.rows) 0 (pivots - made) made t)
 feasible_is p pivots made t b e k =
     ap (λ (x : Bool). elim x as (λ y. Solution) [ true ↦ counted made (first_duals p.columns (length p.rows) t.objective []) Nowhere | false ↦ between p pivots (driven p.columns (length t.rows) 0 (pivots - made) made t) ]) (sym e ∙ k)
 
@@ -125,15 +128,31 @@ pub rows_are : (p : Program) (columns : ℕ) (forms : List (List Entry)) (right 
 rows_are p columns forms right rows h k m e =
     e ∙ ap₂ (λ (n : ℕ) (f : List (List Entry)). unit_rows n (with_units n f) right) h k ∙ ap (λ (r : List ℚ). unit_rows p.columns (with_units p.columns p.rows) r) m
 
-pub cost_is : (p : Program) (columns : ℕ) (forms : List (List Entry)) (cost : List Entry) → columns ≡ p.columns → forms ≡ p.rows → cost ≡ unit_costs columns (length forms) → cost ≡ first_cost p
-cost_is p columns forms cost h k e = e ∙ ap₂ (λ (n : ℕ) (f : List (List Entry)). unit_costs n (length f)) h k
+-- the rows rise, are below the columns behind the artificial ones, and are basic in columns that cost 1
+pub begins_rise : (p : Program) (rows : List Row) → IsProgram p → rows ≡ first_rows p → AllLines (λ line. Ascending 0 line.entries) rows
+begins_rise p rows is e = subst (AllLines (λ line. Ascending 0 line.entries)) (sym e) (rows_rise p.columns p.columns p.rows p.right (le_refl p.columns) is.rows)
 
-pub first_ready : (p : Program) (t : Tableau) (rows : List Row) (o : Line) → IsProgram p → rows ≡ first_rows p → priced (first_cost p) (first_rows p) (cost_line (first_cost p)) ≡ Ok o → t ≡ record { rows = rows; objective = o } → First p t
+pub begins_below : (p : Program) (columns count : ℕ) (forms : List (List Entry)) (rows : List Row) → IsProgram p → columns ≡ p.columns → forms ≡ p.rows → count ≡ length forms → rows ≡ first_rows p → AllLines (λ line. EndsBelow (columns + count) line.entries) rows
+begins_below p columns count forms rows is h k m e =
+    let n : columns + count ≡ p.columns + length p.rows = ap₂ (λ (a b : ℕ). a + b) h (m ∙ ap (λ (f : List (List Entry)). length f) k) in
+    subst₂ (λ (b : ℕ) (r : List Row). AllLines (λ line. EndsBelow b line.entries) r) (sym n) (sym e) (rows_below p.columns p.columns (p.columns + length p.rows) p.rows p.right (le_refl p.columns) (omega arith) is.rows)
+
+pub begins_basic : (p : Program) (columns count : ℕ) (forms : List (List Entry)) (rows : List Row) → columns ≡ p.columns → forms ≡ p.rows → count ≡ length forms → rows ≡ first_rows p → AllRows (λ r. value_at (unit_costs columns count) r.basic ≡ one_ℚ) rows
+begins_basic p columns count forms rows h k m e =
+    let n : count ≡ length p.rows = m ∙ ap (λ (f : List (List Entry)). length f) k in
+    let long : length (with_units p.columns p.rows) ≡ length p.rows = length_with_units p.columns p.rows in
+    subst₂ (λ (c : List Entry) (r : List Row). AllRows (λ s. value_at c s.basic ≡ one_ℚ) r) (sym (ap₂ (λ (a b : ℕ). unit_costs a b) h n)) (sym e)
+    (basics_cost p.columns (length p.rows) p.columns (with_units p.columns p.rows) p.right (le_refl p.columns) (omega arith))
+
+pub cost_is : (p : Program) (columns count : ℕ) (forms : List (List Entry)) → columns ≡ p.columns → forms ≡ p.rows → count ≡ length forms → unit_costs columns count ≡ first_cost p
+cost_is p columns count forms h k m = ap₂ (λ (a b : ℕ). unit_costs a b) h (m ∙ ap (λ (f : List (List Entry)). length f) k)
+
+pub first_ready : (p : Program) (t : Tableau) (rows : List Row) (o : List Entry) → IsProgram p → rows ≡ first_rows p → priced (first_cost p) (first_rows p) (first_cost p) ≡ Ok o → t ≡ record { rows = rows; objective = o } → First p t
 first_ready p t rows o is h e k = subst (First p) (sym (k ∙ ap (λ (r : List Row). record { rows = r; objective = o }) h)) (first_begins p o is e)
 
-pub solution_is : (p : Program) (pivots : ℕ) (t : Tableau) (rows : List Row) (o : Line) → rows ≡ first_rows p → priced (first_cost p) (first_rows p) (cost_line (first_cost p)) ≡ Ok o → t ≡ record { rows = rows; objective = o } → solution p pivots ≡ first_end p pivots (path p.columns pivots 0 t)
+pub solution_is : (p : Program) (pivots : ℕ) (t : Tableau) (rows : List Row) (o : List Entry) → rows ≡ first_rows p → priced (first_cost p) (first_rows p) (first_cost p) ≡ Ok o → t ≡ record { rows = rows; objective = o } → solution p pivots ≡ first_end p pivots (path p.columns pivots 0 t)
 solution_is p pivots t rows o h e k =
-    ap (λ (w : Walk Line). counted 0 w (λ x. first_end p pivots (path p.columns pivots 0 (record { rows = first_rows p; objective = x })))) e
+    ap (λ (w : Walk (List Entry)). counted 0 w (λ x. first_end p pivots (path p.columns pivots 0 (record { rows = first_rows p; objective = x })))) e
     ∙ ap (λ (v : Tableau). first_end p pivots (path p.columns pivots 0 v)) (sym (k ∙ ap (λ (r : List Row). record { rows = r; objective = o }) h))
 
 -- ---- an outcome that tells a certified answer shows that it is right

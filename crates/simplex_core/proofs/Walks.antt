@@ -6,7 +6,7 @@ use Rattle.rationals.specs.Sparse.{Entry}
 use Rattle.lp_defs.specs.Lines.{less_entries, less_right}
 
 -- the pivot has no more entries
-alone : (f : ℚ) (xs done : List Entry) → less_entries f xs [] done ≡ less_right f [] (done ++ xs)
+pub alone : (f : ℚ) (xs done : List Entry) → less_entries f xs [] done ≡ less_right f [] (done ++ xs)
 alone f [] done = ap (λ (l : List Entry). Ok l) (sym (append-nil done))
 alone f (x ∷ xs) done = alone f xs (done ++ x ∷ []) ∙ ap (λ (l : List Entry). Ok l) (append_assoc done (x ∷ []) xs)
 

@@ -3,3 +3,4 @@ pub mod Reached
 pub mod Told
 pub mod Drove
 pub mod Checks
+pub mod Dense

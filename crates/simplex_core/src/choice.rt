@@ -2,7 +2,7 @@
 ghost use Rattle.std.specs.Prelude.{◌≡◌, None};
 ghost use Rattle.lp_defs.specs.Path.{choose, is_better, leaving, has_above_zero};
 
-use crate::line::over;
+use crate::entries::over;
 use crate::row::Row;
 use crate::sign::is_above_zero;
 use frac128::{Frac, Passed};

@@ -1,11 +1,11 @@
 //! The pivots on artificial columns that are left behind phase one.
 ghost use Rattle.std.specs.Prelude.{◌≡◌, ◌≤◌, ◌-◌, length, IfOk};
-ghost use Rattle.lp_defs.specs.Phases.{nonzero_below, replacing, driven};
+ghost use Rattle.lp_defs.specs.Phases.{nonzero_below, has_artificial_above, replacing, driven};
 ghost use Rattle.lp_defs.specs.Stages.{HasRisen};
 ghost use Rattle.simplex_core.specs.Drove.{Drove, DroveWithin, StopsDrive};
 
 use crate::row::Row;
-use crate::sign::is_zero;
+use crate::sign::{is_above_zero, is_zero};
 use crate::tableau::Tableau;
 use frac128::{FormFault, Memory, Passed, Term};
 
@@ -39,8 +39,20 @@ fn replacing(row: &Row, columns: u64) -> Option<u64>
     if row.basic() < columns {
         None
     } else {
-        nonzero_below(row.line().entries(), columns)
+        nonzero_below(row.line().entries().terms(), columns)
     }
+}
+
+/// Whether an artificial column is basic with a right side above 0.
+pub fn has_artificial_above(rows: &[Row], columns: u64) -> bool
+    ensures { result ≡ has_artificial_above columns rows.now }
+{
+    for row in rows {
+        if columns <= row.basic() && is_above_zero(row.line().right()) {
+            return true;
+        }
+    }
+    false
 }
 
 /// How the pivots end at a fault.
@@ -64,7 +76,8 @@ pub fn drive(
 ) -> Result<Driven, Memory>
     requires within { made ≤ pivots }
     requires rises { HasRisen tableau.old }
-    ensures driven { IfOk result (λ end. Drove (driven columns (length tableau.old.rows) 0 (pivots - made) made tableau.old) end tableau.new) }
+    ensures driven { IfOk result (λ end.
+        Drove (driven columns (length tableau.old.rows) 0 (pivots - made) made tableau.old) end tableau.new) }
     ensures within { IfOk result (DroveWithin pivots) }
 {
     let mut count = made;

@@ -3,19 +3,20 @@ ghost use Rattle.std.specs.Prelude.{◌≡◌, ◌+◌, ◌<◌, ◌^◌, [], If
 ghost use Rattle.frac128.specs.Faults.{FaultOf};
 ghost use Rattle.lp_defs.specs.Phases.{first_duals, unit_duals};
 
-use crate::line::Line;
+use crate::entries::Entries;
 use frac128::{FormFault, Frac, Memory};
 use std::alloc::Global;
 
 /// The duals of phase one: 1 less the reduced cost, for `count` columns from `first` on.
 pub fn first_duals(
     alloc: Global,
-    objective: &Line,
+    objective: &Entries,
     first: u64,
     count: u64,
 ) -> Result<Vec<Frac>, FormFault>
     requires { first + count < 2 ^ 64 }
-    ensures { MatchResult result (λ duals. first_duals first count objective.now [] ≡ Ok duals.items) (FaultOf (first_duals first count objective.now [])) }
+    ensures { MatchResult result (λ duals. first_duals first count objective.now [] ≡ Ok duals.items)
+        (FaultOf (first_duals first count objective.now [])) }
 {
     let mut duals = Vec::new(alloc);
     for column in first..first + count {
@@ -28,7 +29,7 @@ pub fn first_duals(
 /// The duals of phase two: the negative reduced costs of `count` columns from `first` on.
 pub fn unit_duals(
     alloc: Global,
-    objective: &Line,
+    objective: &Entries,
     first: u64,
     count: u64,
 ) -> Result<Vec<Frac>, Memory>

@@ -2,8 +2,10 @@
 #![tactic(auto)]
 
 mod choice;
+mod costs;
 mod drive;
 mod duals;
+mod entries;
 mod line;
 mod outcome;
 mod point;

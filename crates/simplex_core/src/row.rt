@@ -48,16 +48,16 @@ impl Row {
         self.line
     }
 
-    /// Takes `factor` times another row away.
-    pub fn subtract(
+    /// Takes `factor` times the pivot's row away, where `factor` isn't 0.
+    pub fn clear(
         &mut self,
         factor: Frac,
-        other: &Line,
+        pivot: &Line,
         spare: &mut Vec<Term>,
     ) -> Result<(), FormFault>
-        ensures { Gives (less_row factor other.now self.old) result self.new }
+        ensures { Gives (less_row factor pivot.now self.old) result self.new }
     {
-        self.line.subtract(factor, other, spare)
+        self.line.clear(factor, pivot, spare)
     }
 }
 
@@ -73,7 +73,7 @@ pub fn clear_all(
     for k in 0..rows.len() {
         let factor = rows[k].line().value_at(column);
         if !is_zero(factor) {
-            rows[k].subtract(factor, pivot, spare)?;
+            rows[k].clear(factor, pivot, spare)?;
         }
     }
     Ok(())

@@ -7,13 +7,13 @@ ghost use Rattle.lp_defs.specs.Solution.{first_end, between, second, second_end,
 ghost use Rattle.lp_defs.specs.Stages.{First, Driving, DrivenOut, Second};
 ghost use Rattle.simplex_core.specs.Told.{Tells, TellsFault, Shows, IsNotInfeasible, IsNotPivotsEnded};
 
-use crate::drive::{Driven, drive};
+use crate::costs::first_objective;
+use crate::drive::{Driven, drive, has_artificial_above};
 use crate::duals::{first_duals, unit_duals};
 use crate::outcome::Outcome;
 use crate::point::{point, ray};
-use crate::sign::is_below_zero;
 use crate::standard::Standard;
-use crate::start::{artificial_cost, artificial_rows, price};
+use crate::start::{artificial_rows, price};
 use crate::tableau::{End, Tableau};
 use frac128::{FormFault, Memory, Term};
 use std::alloc::Global;
@@ -94,7 +94,8 @@ fn drive_out(
 ) -> Result<Outcome, Memory>
     requires within { made ≤ pivots }
     requires ready { Driving program.now tableau }
-    ensures { IfOk result (Tells (between program.now pivots (driven program.now.columns (length tableau.rows) 0 (pivots - made) made tableau))) }
+    ensures { IfOk result (Tells (between program.now pivots
+        (driven program.now.columns (length tableau.rows) 0 (pivots - made) made tableau))) }
 {
     match drive(&mut tableau, program.columns(), pivots, made, spare)? {
         Driven::Out(last) => second_phase(alloc, program, tableau, pivots, last, spare),
@@ -103,7 +104,7 @@ fn drive_out(
     }
 }
 
-/// Behind phase one: its duals where the sum of the artificial columns is above 0.
+/// Behind phase one: its duals where an artificial column is basic above 0.
 fn feasible_or_not(
     alloc: Global,
     program: &Standard,
@@ -117,7 +118,7 @@ fn feasible_or_not(
     ensures { IfOk result (Tells (first_end program.now pivots (Done made tableau))) }
 {
     let columns = program.columns();
-    if !is_below_zero(tableau.objective().right()) {
+    if !has_artificial_above(tableau.rows(), columns) {
         return drive_out(alloc, program, tableau, pivots, made, spare);
     }
     let count = program.rows().len() as u64;
@@ -153,11 +154,10 @@ fn answer(alloc: Global, program: &Standard, pivots: u64) -> Result<Outcome, Mem
     let columns = program.columns();
     let count = program.rows().len() as u64;
     let rows = artificial_rows(alloc, program.rows(), program.right(), columns)?;
-    let cost = artificial_cost(alloc, columns, count)?;
-    let mut spare = Vec::new(alloc);
-    match price(alloc, &cost, &rows, &mut spare) {
+    match first_objective(alloc, rows.as_slice(), columns, count) {
         Ok(objective) => {
             let tableau = Tableau::new(rows, objective);
+            let mut spare = Vec::new(alloc);
             first_phase(alloc, program, tableau, pivots, &mut spare)
         }
         Err(fault) => stopped(fault, 0),
@@ -170,14 +170,15 @@ fn answer(alloc: Global, program: &Standard, pivots: u64) -> Result<Outcome, Mem
 /// Each row gets an artificial column, numbered after all others; they are the first basis. Phase one
 /// minimises their sum. The entering column is the least that isn't artificial with a reduced cost below 0.
 /// The leaving row has the least quotient of right side and entry among entries above 0; among equals, the
-/// least basic column. Where the sum ends above 0 the outcome is `Infeasible`; a dual is 1 less the reduced
-/// cost of its row's artificial column. Else each row in order whose basic column is artificial is pivoted
+/// least basic column. Where an artificial column is basic above 0 at its end, the outcome is `Infeasible`; a
+/// dual is 1 less the reduced cost of its row's artificial column. Else each row in order whose basic column is artificial is pivoted
 /// on its least nonzero column that isn't, where it has one. Phase two minimises the cost by the same
 /// rules; a dual is the negative reduced cost of its row's artificial column.
 ///
 /// A pivot takes the quotients of the ratio test by row, then the pivot row's entries by column and its
-/// right side, each divided by the pivot, then for each other row in order, the objective row last, each
-/// entry by column and the right side less factor times pivot row. Phase one's objective row is the
+/// right side, each divided by the pivot, then for each other row in order each entry by column and the right
+/// side, and last each entry of the objective row by column, less factor times pivot row. Each of these
+/// differences is a step: only its value has to fit. The objective row has no right side. Phase one's objective row is the
 /// artificial costs less each row in order, phase two's the costs less, for each row in order, its basic
 /// column's cost times the row. The first of all these operations that passes 128 bits ends the path:
 /// `Passed` has it and the number of its pivot. The rows made before the first pivot count to 0; phase two's
@@ -190,7 +191,8 @@ pub fn solve(alloc: Global, program: &Standard, pivots: u64) -> Result<Outcome, 
     ensures exact { IfOk result (Tells (solution program.now pivots)) }
     ensures certified { IfOk result (Shows program.now) }
     ensures feasible { EndsInUnits program.now → IfOk result IsNotInfeasible }
-    ensures bounded { 2 * 2 ^ (program.now.columns + length program.now.rows) + length program.now.rows ≤ pivots → IfOk result IsNotPivotsEnded }
+    ensures bounded { 2 * 2 ^ (program.now.columns + length program.now.rows) + length program.now.rows ≤ pivots
+        → IfOk result IsNotPivotsEnded }
 {
     let _columns = program.columns();
     let outcome = answer(alloc, program, pivots)?;

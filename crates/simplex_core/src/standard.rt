@@ -124,7 +124,8 @@ impl Standard {
     /// forms over the columns below `columns`, and these fewer than 2^63.
     pub fn checked(columns: u64, rows: Vec<Form>, right: Vec<Frac>, cost: Form) -> Option<Standard>
         ensures exact { IsSome result ↔ IsProgram (record { columns = columns; rows = rows.items; right = right.items; cost = cost }) }
-        ensures value { IfSome result (λ program. program ≡ record { columns = columns; rows = rows.items; right = right.items; cost = cost }) }
+        ensures value { IfSome result
+            (λ program. program ≡ record { columns = columns; rows = rows.items; right = right.items; cost = cost }) }
     {
         if are_parts(columns, &rows, &right, &cost) {
             Some(Standard::new(columns, rows, right, cost))

@@ -4,9 +4,10 @@ ghost use Rattle.rationals.specs.Rational.{one_ℚ};
 ghost use Rattle.rationals.specs.Sparse.{Ascending};
 ghost use Rattle.frac128.specs.Faults.{IfNotMemory};
 ghost use Rattle.lp_defs.specs.Program.{IsFormBelow, AllFormsBelow};
-ghost use Rattle.lp_defs.specs.Phases.{unit_rows, with_units, unit_costs, cost_line, priced};
+ghost use Rattle.lp_defs.specs.Phases.{unit_rows, with_units, priced};
 
-use crate::line::{Line, find};
+use crate::entries::{Entries, find};
+use crate::line::Line;
 use crate::row::Row;
 use frac128::{Form, FormFault, Frac, Memory, Term};
 use std::alloc::Global;
@@ -21,15 +22,20 @@ fn artificial_row(
 ) -> Result<Row, Memory>
     requires below { IsFormBelow first form.now }
     requires column { first ≤ column }
-    ensures { IfOk result (λ row. row ≡ record { basic = column; line = record { entries = form.now ++ record { column = column; value = one_ℚ } ∷ []; right = right } }) }
+    ensures { IfOk result (λ row. row ≡ record {
+      basic = column;
+      line = record { entries = form.now ++ record { column = column; value = one_ℚ } ∷ []; right = right };
+    }) }
 {
     let _first = first;
-    let mut entries = form.terms().to_vec(alloc)?;
-    entries.push(Term {
+    let entries = form.terms();
+    let mut terms = Vec::with_capacity(alloc, entries.len() + 1)?;
+    terms.extend_from_slice(entries)?;
+    terms.push(Term {
         column,
         value: Frac::one(),
     })?;
-    Ok(Row::new(column, Line::new(entries, right)))
+    Ok(Row::new(column, Line::new(Entries::new(terms), right)))
 }
 
 /// A row for each form with its artificial column and its right side; the artificial columns are `first`
@@ -53,34 +59,19 @@ pub fn artificial_rows(
     Ok(rows)
 }
 
-/// A cost of 1 in each of `count` columns from `first` on.
-pub fn artificial_cost(alloc: Global, first: u64, count: u64) -> Result<Vec<Term>, Memory>
-    requires { first + count < 2 ^ 64 }
-    ensures { IfOk result (λ cost. cost.items ≡ unit_costs first count) }
-{
-    let mut cost = Vec::new(alloc);
-    for column in first..first + count {
-        cost.push(Term {
-            column,
-            value: Frac::one(),
-        })?;
-    }
-    Ok(cost)
-}
-
 /// The cost less, for each row in order, its basic column's cost times the row.
 pub fn price(
     alloc: Global,
     cost: &[Term],
     rows: &[Row],
     spare: &mut Vec<Term>,
-) -> Result<Line, FormFault>
+) -> Result<Entries, FormFault>
     requires { Ascending 0 cost.now }
-    ensures { IfNotMemory result (priced cost.now rows.now (cost_line cost.now)) }
+    ensures { IfNotMemory result (priced cost.now rows.now cost.now) }
 {
-    let mut objective = Line::new(cost.to_vec(alloc)?, Frac::zero());
+    let mut objective = Entries::new(cost.to_vec(alloc)?);
     for row in rows {
-        objective.subtract(find(cost, row.basic()), row.line(), spare)?;
+        objective.clear(find(cost, row.basic()), row.line().entries(), spare)?;
     }
     Ok(objective)
 }

@@ -7,7 +7,7 @@ ghost use Rattle.simplex_core.specs.Gives.{Gives};
 ghost use Rattle.simplex_core.specs.Reached.{Steps, Stops, Reached, EndsWithin};
 
 use crate::choice::{has_above_zero, leave};
-use crate::line::Line;
+use crate::entries::Entries;
 use crate::row::{Row, clear_all};
 use crate::sign::is_below_zero;
 use frac128::{FormFault, Memory, Passed, Term};
@@ -36,11 +36,11 @@ pub enum End {
     Passed(u64, Passed),
 }
 
-/// The rows with their basic columns, and the objective row.
+/// The rows with their basic columns, and the objective row: the reduced costs, with no right side.
 #[derive(Drop)]
 pub struct Tableau {
     rows: Vec<Row>,
-    objective: Line,
+    objective: Entries,
 }
 
 impl Model for Tableau {
@@ -74,7 +74,7 @@ fn stopped(fault: FormFault, pivot: u64) -> Result<End, Memory>
 }
 
 impl Tableau {
-    pub fn new(rows: Vec<Row>, objective: Line) -> Tableau
+    pub fn new(rows: Vec<Row>, objective: Entries) -> Tableau
         ensures { result ≡ record { rows = rows.items; objective = objective } }
     {
         Tableau { rows, objective }
@@ -86,14 +86,14 @@ impl Tableau {
         self.rows.as_slice()
     }
 
-    pub fn objective(&self) -> &Line
+    pub fn objective(&self) -> &Entries
         ensures { result.now ≡ self.now.objective }
     {
         &self.objective
     }
 
     /// The rows with another objective row.
-    pub fn with_objective(self, objective: Line) -> Tableau
+    pub fn with_objective(self, objective: Entries) -> Tableau
         ensures { result ≡ record { rows = self.rows; objective = objective } }
     {
         Tableau {
@@ -116,7 +116,8 @@ impl Tableau {
         let mut pivot = self.rows.remove(index).into_line();
         pivot.divide(pivot.value_at(column))?;
         clear_all(self.rows.as_mut_slice(), column, &pivot, spare)?;
-        self.objective.clear(column, &pivot, spare)?;
+        let factor = self.objective.value_at(column);
+        self.objective.clear(factor, pivot.entries(), spare)?;
         self.rows.insert(index, Row::new(column, pivot))?;
         Ok(())
     }
@@ -125,7 +126,7 @@ impl Tableau {
     fn step(&mut self, columns: u64, spare: &mut Vec<Term>) -> Result<Step, FormFault>
         ensures { Steps columns self.old result self.new }
     {
-        let Some(column) = enter(self.objective.entries(), columns) else {
+        let Some(column) = enter(self.objective.terms(), columns) else {
             return Ok(Step::Done);
         };
         let Some(best) = leave(self.rows.as_slice(), column)? else {
@@ -139,7 +140,7 @@ impl Tableau {
     fn end(&self, columns: u64, made: u64) -> End
         ensures { Reached (path columns 0 made self.now) result self.now }
     {
-        match enter(self.objective.entries(), columns) {
+        match enter(self.objective.terms(), columns) {
             None => End::Done(made),
             Some(column) => {
                 if has_above_zero(self.rows.as_slice(), column) {

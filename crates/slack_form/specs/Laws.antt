@@ -20,7 +20,9 @@ pub record SlackFormLaws : Type 0 where
       → (z : ℕ → ℚ) × lp_shows.IsFeasible (standard_of limits) z × ((j : ℕ) → j < limits.columns → z j ≡ x j)
   pub ray : (limits : Limits) (d : ℕ → ℚ) → IsLimits limits → lp_shows.IsRay (standard_of limits) d → IsRay limits d
   -- multipliers of the equations, their signs undone, are multipliers of the rows
-  pub dual : (limits : Limits) (duals : List ℚ) → IsLimits limits → lp_shows.IsDual (standard_of limits) duals → IsDual limits (signed limits duals)
-  pub farkas : (limits : Limits) (duals : List ℚ) → IsLimits limits → lp_shows.IsInfeasible (standard_of limits) duals → IsFarkas limits (signed limits duals)
+  pub dual : (limits : Limits) (duals : List ℚ) → IsLimits limits → lp_shows.IsDual (standard_of limits) duals
+      → IsDual limits (signed limits duals)
+  pub farkas : (limits : Limits) (duals : List ℚ) → IsLimits limits → lp_shows.IsInfeasible (standard_of limits) duals
+      → IsFarkas limits (signed limits duals)
   -- and of equal worth
   pub worth : (limits : Limits) (duals : List ℚ) → worth limits (signed limits duals) ≡ dot duals (standard_of limits).right

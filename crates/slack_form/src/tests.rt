@@ -4,20 +4,18 @@ ghost use Rattle.lp_defs.specs.Program.{IsFormBelow};
 ghost use Rattle.slack_form.specs.Limits.{IsLimits};
 
 use crate::{Limit, Limits, own_duals, standard};
-use frac128::{Form, Frac, Memory, parse};
+use frac128::{Form, Frac, Memory, parse, print};
+use simplex_core::Standard;
 use smps_words::RowKind;
 use std::alloc::Global;
 use std::process::Abort;
 use std::test::Fail;
 
-/// Of `limits`, by row: the entries of its equation by column with the right side, the equation's
-/// multiplier, and the row's.
-const EQUATIONS: &str = "\
-2 0 1 0 0=4|-3|-3
-0 -3 0 1 0=5|-2|2
-1 0 0 0 0=6|7|-7
-0 1 0 0 -1=1|5|5
-";
+/// The equations of `limits`: the entries by column, and the right side.
+const EQUATIONS: &str = " 2 0 1 0 0= 4; 0 -3 0 1 0= 5; 1 0 0 0 0= 6; 0 1 0 0 -1= 1;";
+
+/// Multipliers of the equations, and of the rows.
+const MULTIPLIERS: &str = "-3 -2 7 5= -3 2 -7 5";
 
 /// A row with one entry over two columns.
 fn limit(
@@ -58,30 +56,68 @@ fn limits(rt: &impl Abort, alloc: Global) -> Result<Limits, Memory>
     })
 }
 
+/// Appends numbers, each behind a blank.
+fn write_values(alloc: Global, values: &[Frac], out: &mut Vec<u8>) -> Result<(), Memory> {
+    for value in values {
+        out.extend_from_slice(b" ")?;
+        print(alloc, *value, out)?;
+    }
+    Ok(())
+}
+
+/// Appends an equation.
+fn write_equation(
+    alloc: Global,
+    form: &Form,
+    right: Frac,
+    columns: u64,
+    out: &mut Vec<u8>,
+) -> Result<(), Memory> {
+    for column in 0..columns {
+        write_values(alloc, &[form.get(column)], out)?;
+    }
+    out.extend_from_slice(b"=")?;
+    write_values(alloc, &[right], out)?;
+    out.extend_from_slice(b";")?;
+    Ok(())
+}
+
+/// All equations.
+fn text(alloc: Global, standard: &Standard) -> Result<Vec<u8>, Memory> {
+    let mut out = Vec::new(alloc);
+    for (form, right) in standard.rows().iter().zip(standard.right()) {
+        write_equation(alloc, form, *right, standard.columns(), &mut out)?;
+    }
+    Ok(out)
+}
+
+/// The numbers of a text, with blanks between them.
+fn numbers(alloc: Global, text: &str) -> Result<Vec<Frac>, Fail> {
+    let mut all = Vec::new(alloc);
+    for word in text.split(' ') {
+        all.push(parse(word.as_bytes())?)?;
+    }
+    Ok(all)
+}
+
+/// The multipliers of the rows, from those of their equations.
+fn own(rt: &impl Abort, alloc: Global, limits: &Limits, words: &str) -> Result<Vec<u8>, Fail> {
+    let duals = numbers(alloc, words)?;
+    assert_eq!(rt; duals.len(), limits.rows.len());
+    let own = own_duals(alloc, limits, &duals)?;
+    let mut out = Vec::new(alloc);
+    write_values(alloc, &own, &mut out)?;
+    Ok(out)
+}
+
 #[test]
-fn equations(rt: HostRuntime) -> Result<(), Fail> {
+fn four_rows(rt: HostRuntime) -> Result<(), Fail> {
     let limits = limits(&rt, rt.alloc())?;
     let standard = standard(rt.alloc(), &limits)?;
-    let mut duals = Vec::new(rt.alloc());
-    for (line, (form, right)) in EQUATIONS
-        .lines()
-        .zip(standard.rows().iter().zip(standard.right()))
-    {
-        let (equation, words) = line.split_once('|').ok_or("no multipliers")?;
-        let (entries, end) = equation.split_once('=').ok_or("no right side")?;
-        for (column, word) in entries.split(' ').enumerate() {
-            assert_eq!(rt; form.get(column as u64), parse(word.as_bytes())?, "{line}");
-        }
-        assert_eq!(rt; *right, parse(end.as_bytes())?, "{line}");
-        let (dual, _own) = words.split_once('|').ok_or("no multiplier")?;
-        duals.push(parse(dual.as_bytes())?)?;
-    }
-    assert_eq!(rt; standard.columns(), 5);
-    assert_eq!(rt; duals.len(), limits.rows.len());
-    let own = own_duals(rt.alloc(), &limits, &duals)?;
-    for (line, dual) in EQUATIONS.lines().zip(&own) {
-        let (_equation, word) = line.rsplit_once('|').ok_or("no multiplier")?;
-        assert_eq!(rt; *dual, parse(word.as_bytes())?, "{line}");
-    }
+    let equations = text(rt.alloc(), &standard)?;
+    assert_eq!(rt; equations.as_slice(), EQUATIONS.as_bytes());
+    let (words, expected) = MULTIPLIERS.split_once('=').ok_or("no multipliers")?;
+    let own = own(&rt, rt.alloc(), &limits, words)?;
+    assert_eq!(rt; own.as_slice(), expected.as_bytes());
     Ok(())
 }

@@ -1,24 +1,27 @@
--- What is answered for a file that the shelf gave.
-use Rattle.std.proofs.Common.{◌≡◌, ◌≤◌, ℕ, List, length, Option, Some, None, Ok, inr, subst}
-use Rattle.std.specs.Prelude.{IfSome, Vec}
-use Rattle.std.specs.Option.{option_map}
-use Rattle.std.specs.declared.alloc.Global.{Global}
-use Rattle.smps_io.specs.Fetches.{GivesFile}
-use Rattle.smps_io.specs.Files.{Files, bytes_of}
+-- What is answered for words that are a command that runs.
+use Rattle.std.proofs.Common.{◌≡◌, ◌⊎◌, ℕ, List, Option, Some, None, inl, inr, subst}
+use Rattle.smps_io.specs.Files.{Files}
+use Rattle.command_words.specs.Words.{Asked}
+use Rattle.input_files.specs.declared.kind.FileKind.{FileKind}
+use Rattle.input_files.specs.Fetched.{Texts, AreGiven, IsNamed, IsLong}
 use Rattle.smps_cli.specs.declared.status.Status.{Status}
-use Rattle.smps_cli.specs.Answers.{MayAnswer, MayAnswerFor, MayBeSolved, MaySolve, file_limit}
-use Rattle.smps_cli.specs.Words.{core_name}
+use Rattle.smps_cli.specs.declared.status.Status.TheVariants.{TooLong, ReadFault}
+use Rattle.smps_cli.specs.Answers.{MayAnswer, MayAnswerFor, MayCome, SaysReadFault, SaysTooLong, ComesToThis, RefusesWords}
+use Rattle.smps_cli.specs.Built.{running, files_of}
+use Rattle.smps_cli.specs.Lines.{status_line}
 
-gives_bytes : (content : Option Files) (name : List ℕ) (limit : ℕ) (text : Vec ℕ Global) → GivesFile content name limit (Ok text) → IfSome content (λ files. text.items ≡ bytes_of files name)
-gives_bytes None name limit text g = tt
-gives_bytes (Some files) name limit text g = g.0
+module _ (content : Option Files) (words : List (List ℕ)) (asked : Asked) (status : Status) (output : List ℕ) (e : Some asked ≡ running words) where
+  answers_for : MayAnswerFor (Some asked) content status output → MayAnswer content words status output
+  answers_for h = subst (λ (command : Option Asked). MayAnswerFor command content status output) e h
 
-may_solve : (content : Option Files) (name text output : List ℕ) (status : Status) → length text ≤ file_limit → IfSome content (λ files. text ≡ bytes_of files name) → MayBeSolved text status output
-    → MaySolve (option_map (λ files. bytes_of files name) content) status output
-may_solve None name text output status n g h = inr tt
-may_solve (Some files) name text output status n g h = inr (inr (subst (λ (bytes : List ℕ). (length bytes ≤ file_limit) × MayBeSolved bytes status output) g (n, h)))
+  pub comes : (texts : Texts) → AreGiven content (files_of asked) texts → MayCome asked texts status output → MayAnswer content words status output
+  comes texts g h = answers_for (inr (inr (texts, g, h)))
 
-pub may_answer : (content : Option Files) (words : List (List ℕ)) (name output : List ℕ) (limit : ℕ) (text : Vec ℕ Global) (status : Status) → Some name ≡ core_name words → length text.items ≤ file_limit
-    → GivesFile content name limit (Ok text) → MayBeSolved text.items status output → MayAnswer content words status output
-may_answer content words name output limit text status e n g h =
-    subst (λ (named : Option (List ℕ)). MayAnswerFor named content status output) e (may_solve content name text.items output status n (gives_bytes content name limit text g) h)
+  pub not_read : (kind : FileKind) → IsNamed (files_of asked) kind → (status ≡ ReadFault kind) × (output ≡ status_line (ReadFault kind)) → MayAnswer content words status output
+  not_read kind n h = answers_for (inl (kind, n, h.0, h.1))
+
+  pub too_long : (kind : FileKind) → IsLong content (files_of asked) kind → (status ≡ TooLong kind) × (output ≡ status_line (TooLong kind)) → MayAnswer content words status output
+  too_long kind n h = answers_for (inr (inl (kind, n, h.0, h.1)))
+
+pub no_command : (content : Option Files) (words : List (List ℕ)) (status : Status) (output : List ℕ) → None ≡ running words → RefusesWords status output → MayAnswer content words status output
+no_command content words status output e h = subst (λ (command : Option Asked). MayAnswerFor command content status output) e h

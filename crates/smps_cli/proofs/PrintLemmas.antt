@@ -13,27 +13,27 @@ use Rattle.smps_cli.specs.Lines.{status_line}
 use Rattle.smps_cli.specs.Printed.{PrintsReportOf, PrintsTrueReport, RefusesEnd, IsPassing}
 use Rattle.smps_cli.specs.Answers.{MayBeSolved}
 
-by_finding : (bytes output : List ℕ) (finding : Finding) → PrintsTrueReport bytes output (command_status finding) → MayBeSolved bytes (command_status finding) output
-by_finding bytes output Optimal h = h
-by_finding bytes output Infeasible h = h
-by_finding bytes output Unbounded h = h
-by_finding bytes output (OpenSolves n) h = h
-by_finding bytes output (OpenPivots k) h = h
-by_finding bytes output (OpenPassed place p) h = h
+by_finding : (pivots : ℕ) (bytes output : List ℕ) (finding : Finding) → PrintsTrueReport pivots bytes output (command_status finding) → MayBeSolved pivots bytes (command_status finding) output
+by_finding pivots bytes output Optimal h = h
+by_finding pivots bytes output Infeasible h = h
+by_finding pivots bytes output Unbounded h = h
+by_finding pivots bytes output (OpenSolves n) h = h
+by_finding pivots bytes output (OpenPivots k) h = h
+by_finding pivots bytes output (OpenPassed place p) h = h
 
 -- a report of the core that the bytes mean may be printed
-may_be_printed : (bytes output : List ℕ) (status : Status) (core : Core) → IsCoreFile (reading_of 0 bytes).lines → TextMeans bytes core → PrintsReportOf core output status → MayBeSolved bytes status output
-may_be_printed bytes output status core read means h =
-    let whole : PrintsTrueReport bytes output status = record { read = read; core = core; means = means; prints = h } in
-    subst (λ (s : Status). MayBeSolved bytes s output) (sym h.told)
-    (by_finding bytes output h.report.finding (subst (λ (s : Status). PrintsTrueReport bytes output s) h.told whole))
+may_be_printed : (pivots : ℕ) (bytes output : List ℕ) (status : Status) (core : Core) → IsCoreFile (reading_of 0 bytes).lines → TextMeans bytes core → PrintsReportOf pivots core output status → MayBeSolved pivots bytes status output
+may_be_printed pivots bytes output status core read means h =
+    let whole : PrintsTrueReport pivots bytes output status = record { read = read; core = core; means = means; prints = h } in
+    subst (λ (s : Status). MayBeSolved pivots bytes s output) (sym h.told)
+    (by_finding pivots bytes output h.report.finding (subst (λ (s : Status). PrintsTrueReport pivots bytes output s) h.told whole))
 
 -- and so may the refusal of an end
-may_be_refused : (bytes output : List ℕ) (status : Status) (core : Core) → IsCoreFile (reading_of 0 bytes).lines → TextMeans bytes core → RefusesEnd core output status → MayBeSolved bytes status output
-may_be_refused bytes output status core read means h =
+may_be_refused : (pivots : ℕ) (bytes output : List ℕ) (status : Status) (core : Core) → IsCoreFile (reading_of 0 bytes).lines → TextMeans bytes core → RefusesEnd core output status → MayBeSolved pivots bytes status output
+may_be_refused pivots bytes output status core read means h =
     let passing : IsPassing bytes 0 (Passes h.operation) = record { read = read; core = core; means = means; operation = h.operation; passes = h.passes; line_is = refl; cause_is = refl } in
-    subst (λ (s : Status). MayBeSolved bytes s output) (sym h.told) (refl, inr passing, h.text ∙ ap status_line h.told)
+    subst (λ (s : Status). MayBeSolved pivots bytes s output) (sym h.told) (refl, inr passing, h.text ∙ ap status_line h.told)
 
-pub may_be_answered : (bytes output : List ℕ) (status : Status) (core : Core) → IsCoreFile (reading_of 0 bytes).lines → TextMeans bytes core → PrintsReportOf core output status ⊎ RefusesEnd core output status → MayBeSolved bytes status output
-may_be_answered bytes output status core read means (inl h) = may_be_printed bytes output status core read means h
-may_be_answered bytes output status core read means (inr h) = may_be_refused bytes output status core read means h
+pub may_be_answered : (pivots : ℕ) (bytes output : List ℕ) (status : Status) (core : Core) → IsCoreFile (reading_of 0 bytes).lines → TextMeans bytes core → PrintsReportOf pivots core output status ⊎ RefusesEnd core output status → MayBeSolved pivots bytes status output
+may_be_answered pivots bytes output status core read means (inl h) = may_be_printed pivots bytes output status core read means h
+may_be_answered pivots bytes output status core read means (inr h) = may_be_refused pivots bytes output status core read means h

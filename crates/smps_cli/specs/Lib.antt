@@ -1,5 +1,5 @@
 pub mod Lines
-pub mod Words
+pub mod Built
 pub mod Findings
 pub mod Printed
 pub mod Answers

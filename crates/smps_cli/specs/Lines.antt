@@ -5,8 +5,8 @@ use Rattle.core_defs.specs.declared.cause.Cause.{Cause}
 use Rattle.core_defs.specs.declared.cause.Cause.TheVariants as cause
 use Rattle.core_defs.specs.Cause.{number_of_cause}
 use Rattle.report_text.specs.Text.{operation_text}
-use Rattle.smps_cli.specs.declared.status.FileKind.{FileKind}
-use Rattle.smps_cli.specs.declared.status.FileKind.TheVariants.{Core, Time, Stoch, Edits, Report, Trace}
+use Rattle.input_files.specs.declared.kind.FileKind.{FileKind}
+use Rattle.input_files.specs.declared.kind.FileKind.TheVariants.{Core, Time, Stoch, Edits, Report, Trace}
 use Rattle.smps_cli.specs.declared.status.Status.{Status}
 use Rattle.smps_cli.specs.declared.status.Status.TheVariants.{Done, SomeOpen, Words, Refused, TooLong, ReadFault, WriteFault, Memory}
 

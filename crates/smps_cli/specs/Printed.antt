@@ -13,18 +13,14 @@ use Rattle.scen_defs.specs.declared.report.Report.{Report}
 use Rattle.smps_build.specs.Single.{single_walk}
 use Rattle.one_period.specs.Truth.{SolvesProgram}
 use Rattle.report_text.specs.Text.{report_text}
-use Rattle.smps_cli.specs.declared.status.FileKind.TheVariants as FileKind
+use Rattle.input_files.specs.declared.kind.FileKind.TheVariants as FileKind
 use Rattle.smps_cli.specs.declared.status.Status.{Status}
 use Rattle.smps_cli.specs.declared.status.Status.TheVariants.{Refused}
 use Rattle.smps_cli.specs.Lines.{status_line}
 use Rattle.smps_cli.specs.Findings.{command_status}
 
--- so many pivots are allowed for a solve
-abbrev pub pivot_limit : ℕ
-pivot_limit = 100000
-
--- The output is the text of a report that is true of the core's program. Its finding gives the status.
-pub record PrintsReportOf (core : Core) (output : List ℕ) (status : Status) : Type 0 where
+-- The output is the text of a report that is true of the core's program, solved in so many pivots at most. Its finding gives the status.
+pub record PrintsReportOf (pivots : ℕ) (core : Core) (output : List ℕ) (status : Status) : Type 0 where
   -- the program of one period that the core states
   pub program : Program
   pub states : single_walk core ≡ Ok (content program)
@@ -33,7 +29,7 @@ pub record PrintsReportOf (core : Core) (output : List ℕ) (status : Status) : 
   pub text : output ≡ report_text program report
   pub told : status ≡ command_status report.finding
   -- its ends are shown by its lists, its finding by its reason
-  pub truth : SolvesProgram program pivot_limit report
+  pub truth : SolvesProgram program pivots report
 
 -- An end of the core's rows passes 128 bits: the line of the refusal says so.
 pub record RefusesEnd (core : Core) (output : List ℕ) (status : Status) : Type 0 where
@@ -44,12 +40,12 @@ pub record RefusesEnd (core : Core) (output : List ℕ) (status : Status) : Type
   pub text : output ≡ status_line status
 
 -- The output of `solve` on these bytes of a core file, and its status.
-pub record PrintsTrueReport (bytes output : List ℕ) (status : Status) : Type 0 where
+pub record PrintsTrueReport (pivots : ℕ) (bytes output : List ℕ) (status : Status) : Type 0 where
   -- no line is at fault and no section is missing, and the bytes mean this core
   pub read : IsCoreFile (reading_of 0 bytes).lines
   pub core : Core
   pub means : TextMeans bytes core
-  pub prints : PrintsReportOf core output status
+  pub prints : PrintsReportOf pivots core output status
 
 -- The bytes mean no core: this is the first line at fault, or the one behind the last where a section is missing.
 pub record IsUnread (bytes : List ℕ) (line : ℕ) (cause : Cause) : Type 0 where

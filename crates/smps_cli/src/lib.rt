@@ -7,7 +7,7 @@ mod status;
 #[cfg(test)]
 mod tests;
 mod top_call;
-mod words;
 
-pub use status::{FileKind, Status};
+pub use input_files::FileKind;
+pub use status::Status;
 pub use top_call::run;

@@ -5,14 +5,16 @@ ghost use Rattle.scen_defs.specs.Fits.{ListsHaveNames};
 ghost use Rattle.scen_defs.specs.Program.{content};
 ghost use Rattle.smps_build.specs.Single.{single_walk, BuildFaultOf};
 ghost use Rattle.smps_cli.specs.Printed.{PrintsReportOf, RefusesEnd};
-ghost use Rattle.smps_cli.specs.Answers.{MayBeSolved, file_limit};
+ghost use Rattle.input_files.specs.Fetched.{file_limit};
+ghost use Rattle.smps_cli.specs.Answers.{MayBeSolved};
 ghost use Rattle.report_text.specs.Text.{report_text};
 ghost use Rattle.smps_cli.specs.Findings.{command_status};
 ghost use Rattle.smps_cli.specs.Lines.{status_line};
 
 use crate::answer::{Answer, one_line};
-use crate::status::{FileKind, Status};
+use crate::status::Status;
 use frac128::Memory;
+use input_files::FileKind;
 use mps_core::{Cause, Core, ReadFail, read_core};
 use one_period::solve_program;
 use report_text::print_report;
@@ -20,28 +22,25 @@ use scen_defs::{Finding, Program, Report};
 use smps_build::{BuildFault, single};
 use std::alloc::Global;
 
-/// So many pivots are allowed for a solve.
-const PIVOTS: u64 = 100_000;
-
 /// The answer for the text of a core file.
-pub(crate) fn solved(alloc: Global, text: &[u8]) -> Result<Answer, Memory>
+pub(crate) fn solved(alloc: Global, text: &[u8], pivots: u64) -> Result<Answer, Memory>
     requires { length text.now ≤ file_limit }
-    ensures { IfOk result (λ answer. MayBeSolved text.now answer.status answer.output.items) }
+    ensures { IfOk result (λ answer. MayBeSolved pivots text.now answer.status answer.output.items) }
 {
     match read_core(alloc, text) {
-        Ok(core) => solved_core(alloc, &core),
+        Ok(core) => solved_core(alloc, &core, pivots),
         Err(ReadFail::Refused(refusal)) => refused(alloc, refusal.line, refusal.cause),
         Err(ReadFail::Memory) => Err(Memory),
     }
 }
 
 /// The answer for a core.
-fn solved_core(alloc: Global, core: &Core) -> Result<Answer, Memory>
+fn solved_core(alloc: Global, core: &Core, pivots: u64) -> Result<Answer, Memory>
     requires { IsCore core.now }
-    ensures { IfOk result (λ answer. PrintsReportOf core.now answer.output.items answer.status ⊎ RefusesEnd core.now answer.output.items answer.status) }
+    ensures { IfOk result (λ answer. PrintsReportOf pivots core.now answer.output.items answer.status ⊎ RefusesEnd core.now answer.output.items answer.status) }
 {
     match single(alloc, core) {
-        Ok(program) => solved_program(alloc, core, &program),
+        Ok(program) => solved_program(alloc, core, &program, pivots),
         Err(fault) => unbuilt(alloc, core, fault),
     }
 }
@@ -60,13 +59,18 @@ fn unbuilt(alloc: Global, core: &Core, fault: BuildFault) -> Result<Answer, Memo
 }
 
 /// The answer for the program of a core.
-fn solved_program(alloc: Global, core: &Core, program: &Program) -> Result<Answer, Memory>
+fn solved_program(
+    alloc: Global,
+    core: &Core,
+    program: &Program,
+    pivots: u64,
+) -> Result<Answer, Memory>
     requires kept { IsCore core.now }
     requires states { single_walk core.now ≡ Ok (content program.now) }
-    ensures { IfOk result (λ answer. PrintsReportOf core.now answer.output.items answer.status) }
+    ensures { IfOk result (λ answer. PrintsReportOf pivots core.now answer.output.items answer.status) }
 {
     let _rows = core.rows.len();
-    let report = solve_program(alloc, program, PIVOTS)?;
+    let report = solve_program(alloc, program, pivots)?;
     printed(alloc, program, &report)
 }
 

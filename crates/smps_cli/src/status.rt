@@ -3,34 +3,22 @@ ghost use Rattle.std.specs.Prelude.{◌≡◌, ◌++◌, IfOk, OnOk};
 ghost use Rattle.smps_cli.specs.Lines.{file_word, numbered_text, values_text, status_line, status_number};
 
 use frac128::Memory;
+use input_files::FileKind;
 use mps_core::Cause;
 use report_text::print_operation;
 use std::alloc::Global;
 
-/// Which of the files a status speaks of.
-#[derive(Clone, Copy, Debug, PartialEq, Eq)]
-pub enum FileKind {
-    Core,
-    Time,
-    Stoch,
-    Edits,
-    Report,
-    Trace,
-}
-
-impl FileKind {
-    /// The word by which the file is named in the lines of a run.
-    pub fn word(self) -> &'static str
-        ensures { result.now ≡ file_word self }
-    {
-        match self {
-            FileKind::Core => "core",
-            FileKind::Time => "time",
-            FileKind::Stoch => "stoch",
-            FileKind::Edits => "edits",
-            FileKind::Report => "report",
-            FileKind::Trace => "trace",
-        }
+/// The word by which a file is named in the lines of a run.
+pub fn file_word(file: FileKind) -> &'static str
+    ensures { result.now ≡ file_word file }
+{
+    match file {
+        FileKind::Core => "core",
+        FileKind::Time => "time",
+        FileKind::Stoch => "stoch",
+        FileKind::Edits => "edits",
+        FileKind::Report => "report",
+        FileKind::Trace => "trace",
     }
 }
 
@@ -97,7 +85,7 @@ fn line_of(alloc: Global, text: &str) -> Result<Vec<u8>, Memory>
 fn refused_line(alloc: Global, file: FileKind, line: u32, cause: Cause) -> Result<Vec<u8>, Memory>
     ensures { IfOk result (λ text. text.items ≡ status_line (Status.Refused file line cause)) }
 {
-    let mut text = numbered(alloc, file.word(), line, cause.number())?;
+    let mut text = numbered(alloc, file_word(file), line, cause.number())?;
     put_values(alloc, &mut text, cause)?;
     text.extend_from_slice(b"\n")?;
     Ok(text)
@@ -132,7 +120,7 @@ fn put_values(alloc: Global, text: &mut Vec<u8>, cause: Cause) -> Result<(), Mem
 fn too_long_line(alloc: Global, file: FileKind) -> Result<Vec<u8>, Memory>
     ensures { IfOk result (λ text. text.items ≡ status_line (Status.TooLong file)) }
 {
-    let word = file.word();
+    let word = file_word(file);
     let text = format!(in alloc; "refused {word}: too long\n")?;
     line_of(alloc, text.as_str())
 }
@@ -140,7 +128,7 @@ fn too_long_line(alloc: Global, file: FileKind) -> Result<Vec<u8>, Memory>
 fn failed_line(alloc: Global, file: FileKind) -> Result<Vec<u8>, Memory>
     ensures { IfOk result (λ text. text.items ≡ status_line (Status.ReadFault file)) }
 {
-    let word = file.word();
+    let word = file_word(file);
     let text = format!(in alloc; "read failed: {word}\n")?;
     line_of(alloc, text.as_str())
 }

@@ -32,7 +32,7 @@ use std::test::Fail;
 /// - right-hand sides of 0: B comes in by LIM2, then A by LIM1, and both are 0. The costs are then
 ///   S1: -1 + 2 = 1 and S2: 2, so the multipliers are -1 and -2.
 /// - the first that passes: the quotient of the only row is (2^127 - 1) / (1/2). In the program behind it
-///   A comes in by LIM, with A = 2^127 - 1, and then the cost of A, -2, times this passes.
+///   A comes in by LIM, with A = 2^127 - 1, and in the cost of the policy -2 times this passes.
 /// - of the direction: B comes in by LIM2, then C by LIM1, and A has the cost -L + L - L, row by row, with
 ///   L = 2^127 - 1. No row bounds A, and the direction is A = B = C = 1, whose cost is, column by column,
 ///   -L - L + L, and -L - L passes.
@@ -189,7 +189,7 @@ RHS
  RHS LIM 170141183460469231731687303715884105727
 ENDATA
 |REPORT 1 NODES 1 SCENARIOS 1
-STATUS OPEN PASSED SOLVE 1 MUL -2 170141183460469231731687303715884105727
+STATUS OPEN PASSED COST 1 MUL -2 170141183460469231731687303715884105727
 LOWER none
 UPPER none
 END

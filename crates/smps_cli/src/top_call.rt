@@ -1,21 +1,23 @@
 //! The top call.
-ghost use Rattle.std.specs.Prelude.{◌≡◌, ℕ, List, None, map, string_bytes};
-ghost use Rattle.smps_io.specs.Faults.{Rose};
-ghost use Rattle.smps_cli.specs.Words.{core_name};
-ghost use Rattle.smps_cli.specs.Answers.{Answers};
+ghost use Rattle.std.specs.Prelude.{◌≡◌, ◌<◌, ℕ, List, None, Some, map, string_bytes};
+ghost use Rattle.smps_io.specs.Faults.{Rose, RoseBy};
+ghost use Rattle.input_files.specs.Fetched.{file_limit, file_count};
+ghost use Rattle.command_words.specs.Words.{Asked};
+ghost use Rattle.smps_cli.specs.Built.{running, files_of};
+ghost use Rattle.smps_cli.specs.Answers.{Answers, HasTexts};
 ghost use Rattle.smps_cli.specs.Completes.{AsksForReport, EndsOrWantsMemory};
-ghost use Rattle.smps_cli.specs.declared.status.FileKind.{FileKind};
+ghost use Rattle.input_files.specs.declared.kind.FileKind.{FileKind};
 
 use crate::answer::answered;
-use crate::status::{FileKind, Status};
+use crate::status::Status;
 use frac128::Memory;
 use smps_io::{Shelf, Sink, SinkFault, write_all};
 use std::alloc::Global;
 use std::rt::Runtime;
 
 /// Runs the command that the words name: reads its file from the shelf, writes its output to the sink,
-/// and says how it ended. The words don't hold the program's own name; they are `solve`, `--core` and the
-/// name of a core file. Everything is computed before the first byte is written.
+/// and says how it ended. The words don't hold the program's own name. Everything is computed before the first byte is
+/// written.
 ///
 /// A core file within the limit whose rows' ends fit into 128 bits ends with a report where neither the shelf
 /// nor the sink fails, unless memory is wanting.
@@ -26,14 +28,18 @@ pub fn run<R: Runtime, H: Shelf, K: Sink>(
     shelf: &mut H,
     sink: &mut K,
 ) -> Status
-    ensures words { result ≡ Status.Words → core_name (map string_bytes words.now) ≡ None }
+    ensures words { result ≡ Status.Words → running (map string_bytes words.now) ≡ None }
     ensures read { (kind : FileKind) → result ≡ Status.ReadFault kind → Rose (H.faults shelf.old) (H.faults shelf.new) }
+    ensures long { (kind : FileKind) → result ≡ Status.TooLong kind → file_limit < H.given shelf.new }
+    ensures none_fetched { running (map string_bytes words.now) ≡ None → H.fetches shelf.new ≡ H.fetches shelf.old }
+    ensures fetched { HasTexts result → (command : Asked) → running (map string_bytes words.now) ≡ Some command
+        → RoseBy (H.fetches shelf.old) (file_count (files_of command)) (H.fetches shelf.new) }
     ensures write { result ≡ Status.WriteFault → Rose (K.faults sink.old) (K.faults sink.new) }
     ensures completes { AsksForReport (H.content shelf.old) (map string_bytes words.now)
         → (¬ Rose (H.faults shelf.old) (H.faults shelf.new))
         → (¬ Rose (K.faults sink.old) (K.faults sink.new))
         → EndsOrWantsMemory result }
-    ensures answers { Answers (H.content shelf.old) (map string_bytes words.now) (K.written sink.old) (K.written sink.new) result }
+    ensures answers { Answers (H.content shelf.old) (map string_bytes words.now) (K.written sink.old) (K.written sink.new) (K.taken sink.old) (K.taken sink.new) result }
 {
     let answer = match answered(rt, alloc, words, shelf) {
         Ok(answer) => answer,

@@ -9,4 +9,4 @@ abbrev pub new_shelf : Vec (String Global × Vec ℕ Global) Global → Vec ℕ 
 new_shelf files fails = record { files = files; fails = fails; calls = 0; faults = 0; given = 0 }
 
 abbrev pub sure_shelf : Vec (String Global × Vec ℕ Global) Global → NeverFails
-sure_shelf files = record { files = files; given = 0 }
+sure_shelf files = record { files = files; calls = 0; given = 0 }

@@ -1,7 +1,8 @@
 //! Shelves in memory.
 ghost use Rattle.std.specs.Prelude.{◌≡◌, ◌≤◌, ◌+◌, ◌↔◌, Some, IfOk, IfNone, IfSome, IsErrOf, length};
 ghost use Rattle.smps_io.specs.Files.{bytes_of, file_of};
-ghost use Rattle.smps_io.specs.Memory.{files_of, Fails, saturated};
+ghost use Rattle.smps_io.specs.Faults.{counted, RoseBy};
+ghost use Rattle.smps_io.specs.Memory.{files_of, Fails};
 ghost use Rattle.smps_io.specs.Fetches.{GivesFile, FetchHasCause, IsTooLong};
 ghost use Rattle.smps_io.specs.declared.shelf.ShelfFault.TheVariants.{Failed};
 
@@ -43,6 +44,8 @@ impl Shelf for MemoryShelf {
 
     ghost faults = { λ s. s.faults };
 
+    ghost fetches = { λ s. s.calls };
+
     ghost given = { λ s. s.given };
 
     fn fetch<R: Runtime>(
@@ -55,10 +58,12 @@ impl Shelf for MemoryShelf {
         ensures gives { GivesFile (Some (files_of self.old.files.items)) name.now limit result }
         ensures within { IfOk result (λ bytes. length bytes.items ≤ limit) }
         ensures too_long { IsTooLong limit self.new.given result }
+        ensures bytes { IfOk result (λ bytes. length bytes.items ≡ self.new.given) }
+        ensures counts { RoseBy self.old.calls 1 self.new.calls }
+        ensures calls { self.new.calls ≡ counted self.old.calls 1 }
         ensures same { Some (files_of self.new.files.items) ≡ Some (files_of self.old.files.items) }
         ensures cause { FetchHasCause self.old.faults self.new.faults result }
-        ensures failed { IsErrOf result Failed ↔ Fails (files_of self.old.files.items) self.old.fails.items (saturated self.old.calls) name.now }
-        ensures counted { self.new.calls ≡ saturated self.old.calls }
+        ensures failed { IsErrOf result Failed ↔ Fails (files_of self.old.files.items) self.old.fails.items (counted self.old.calls 1) name.now }
         ensures stays { self.new.fails.items ≡ self.old.fails.items }
     {
         self.calls = self.calls.saturating_add(1);
@@ -80,6 +85,7 @@ impl Shelf for MemoryShelf {
 #[derive(Drop)]
 pub struct NeverFails {
     files: Vec<(String, Vec<u8>)>,
+    calls: u64,
     given: u64,
 }
 
@@ -91,7 +97,11 @@ impl NeverFails {
     pub fn new(files: Vec<(String, Vec<u8>)>) -> NeverFails
         ensures { result ≡ sure_shelf files }
     {
-        NeverFails { files, given: 0 }
+        NeverFails {
+            files,
+            calls: 0,
+            given: 0,
+        }
     }
 }
 
@@ -99,6 +109,8 @@ impl Shelf for NeverFails {
     ghost content = { λ s. Some (files_of s.files.items) };
 
     ghost faults = { λ s. 0 };
+
+    ghost fetches = { λ s. s.calls };
 
     ghost given = { λ s. s.given };
 
@@ -109,6 +121,7 @@ impl Shelf for NeverFails {
         name: &str,
         limit: u64,
     ) -> Result<Vec<u8>, ShelfFault> {
+        self.calls = self.calls.saturating_add(1);
         let bytes = found_or_empty(&self.files, name);
         self.given = bytes.len() as u64;
         copied(alloc, bytes, limit)

@@ -12,6 +12,7 @@ use std::rt::Runtime;
 #[derive(Drop)]
 pub struct RealShelf {
     faults: u64,
+    fetches: u64,
     given: u64,
 }
 
@@ -25,6 +26,7 @@ impl RealShelf {
     {
         RealShelf {
             faults: 0,
+            fetches: 0,
             given: 0,
         }
     }
@@ -35,6 +37,8 @@ impl Shelf for RealShelf {
 
     ghost faults = { λ s. s.faults };
 
+    ghost fetches = { λ s. s.fetches };
+
     ghost given = { λ s. s.given };
 
     fn fetch<R: Runtime>(
@@ -44,6 +48,7 @@ impl Shelf for RealShelf {
         name: &str,
         limit: u64,
     ) -> Result<Vec<u8>, ShelfFault> {
+        self.fetches = self.fetches.saturating_add(1);
         self.given = 0;
         let Ok(mut file) = fs::open(rt, name) else {
             self.faults = self.faults.saturating_add(1);
@@ -76,6 +81,7 @@ impl Shelf for RealShelf {
 #[derive(Drop)]
 pub struct RealSink {
     faults: u64,
+    taken: u64,
 }
 
 impl RealSink {
@@ -86,7 +92,10 @@ impl RealSink {
     pub fn new() -> RealSink
         ensures { put_faults result ≡ 0 }
     {
-        RealSink { faults: 0 }
+        RealSink {
+            faults: 0,
+            taken: 0,
+        }
     }
 }
 
@@ -95,10 +104,15 @@ impl Sink for RealSink {
 
     ghost faults = { λ s. s.faults };
 
+    ghost taken = { λ s. s.taken };
+
     // A put that takes nothing counts as failed.
     fn put<R: Runtime>(&mut self, rt: &R, bytes: &[u8]) -> Result<u64, SinkFault> {
         match rt.write_some(bytes) {
-            Ok(count) if count > 0 => Ok(count as u64),
+            Ok(count) if count > 0 => {
+                self.taken = self.taken.saturating_add(count as u64);
+                Ok(count as u64)
+            }
             _ => {
                 self.faults = self.faults.saturating_add(1);
                 Err(SinkFault::Failed)

@@ -1,5 +1,6 @@
 //! A shelf of files, and how often a fetch from it has failed.
 ghost use Rattle.std.specs.Prelude.{◌≡◌, ◌≤◌, ℕ, Option, IfOk, length};
+ghost use Rattle.smps_io.specs.Faults.{RoseBy};
 ghost use Rattle.smps_io.specs.Files.{Files};
 ghost use Rattle.smps_io.specs.Fetches.{GivesFile, FetchHasCause, IsTooLong};
 
@@ -29,6 +30,9 @@ pub trait Shelf {
     /// How often it has failed. The count never falls; at 2^64 - 1 it stays.
     ghost faults: { Self → ℕ };
 
+    /// How many fetches there were. At 2^64 - 1 the count stays.
+    ghost fetches: { Self → ℕ };
+
     /// How many bytes the source gave at the last fetch.
     ghost given: { Self → ℕ };
 
@@ -44,6 +48,8 @@ pub trait Shelf {
         ensures gives { GivesFile (content self.old) name.now limit result }
         ensures within { IfOk result (λ bytes. length bytes.items ≤ limit) }
         ensures too_long { IsTooLong limit (given self.new) result }
+        ensures bytes { IfOk result (λ bytes. length bytes.items ≡ given self.new) }
+        ensures counts { RoseBy (fetches self.old) 1 (fetches self.new) }
         ensures same { content self.new ≡ content self.old }
         ensures cause { FetchHasCause (faults self.old) (faults self.new) result };
 }

@@ -4,9 +4,8 @@
 //!
 //! - an infeasible core: X comes in, and its bound leaves at 3; a sum of 2 is left.
 //! - without end behind phase one: X - Y = 1 and X at least 2 end phase one at X = 2, Y = 1.
-//! - in the value of the dual: NEED's multiplier is 1E19, times 2E19. The objective row of phase two adds
-//!   the rows' costs 1E38, -1E38 and 1E38 in the order NEED, LIM, bound of X1, and the policy's cost adds
-//!   the columns' in the same order. In the program behind it the columns stand in another order.
+//! - in the value of the dual: NEED's multiplier is 1E19, times 2E19. The policy's cost adds the columns'
+//!   costs 1E38, -1E38 and 1E38. In the program behind it the columns stand in another order.
 
 /// In the form of the runs.
 pub(super) const PROGRAMS: &str = "\
@@ -454,7 +453,7 @@ LOWER none
 UPPER none
 END
 #solve --core F|whole|SomeOpen
-* passes in phase two
+* passes in the cost behind phase two
 ROWS
  N COST
  G NEED
@@ -464,7 +463,7 @@ RHS
  RHS NEED 1E20
 ENDATA
 |REPORT 1 NODES 1 SCENARIOS 1
-STATUS OPEN PASSED SOLVE 1 MUL 100000000000000000000 100000000000000000000
+STATUS OPEN PASSED COST 1 MUL 100000000000000000000 100000000000000000000
 LOWER none
 UPPER none
 END

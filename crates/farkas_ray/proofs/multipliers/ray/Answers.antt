@@ -1,5 +1,4 @@
-use Rattle.std.proofs.Common.{rules, ◌≡◌, Bool, Ok, true, false, length, sym, ap, ◌∙◌, subst}
-use Rattle.rationals.specs.Rational.{ℚ}
+use Rattle.std.proofs.Common.{rules, ◌≡◌, Bool, Ok, true, sym, ap, ◌∙◌, subst}
 use Rattle.lp_defs.specs.Certificates.{IsInfeasible}
 use Rattle.farkas_ray.specs.Sums.{ray_walk}
 use Rattle.farkas_ray.proofs.Exact.{ray_shows, none_shows}

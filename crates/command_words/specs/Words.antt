@@ -1,0 +1,168 @@
+-- The words of a command.
+use Rattle.std.specs.Prelude.{ℕ, ◌+◌, ◌*◌, ◌-◌, Bool, true, false, List, [], ◌∷◌, ◌++◌, length, Option, Some, None, is_none, if◌then◌else◌, nat_eq, leb, ltb, ◌==◌, not, ◌&&◌, codes}
+use Rattle.std.specs.Cmp.Lexicographic.{pointwise}
+use Rattle.std.specs.List.{position_or_len, before_first, after_first}
+use Rattle.command_words.specs.declared.flag.Flag.{Flag}
+use Rattle.command_words.specs.declared.flag.Flag.TheVariants.{Core, Time, Stoch, Pivots}
+use Rattle.command_words.specs.declared.command.Verb.{Verb}
+use Rattle.command_words.specs.declared.command.Verb.TheVariants.{Solve, Show}
+
+-- ---- values
+
+-- a value isn't empty, and doesn't begin with a minus (45)
+abbrev pub is_value : List ℕ → Bool
+is_value [] = false
+is_value (byte ∷ _) = not (nat_eq byte 45)
+
+-- a digit stands from 48 on
+abbrev pub is_digit : ℕ → Bool
+is_digit byte = leb 48 byte && leb byte 57
+
+abbrev pub are_digits : List ℕ → Bool
+are_digits [] = true
+are_digits (byte ∷ bytes) = is_digit byte && are_digits bytes
+
+-- the number of some digits behind those that are read
+abbrev pub number_from : ℕ → List ℕ → ℕ
+number_from read [] = read
+number_from read (byte ∷ bytes) = number_from (read * 10 + (byte - 48)) bytes
+
+-- a number has 1 to 10 decimal digits
+abbrev pub number_of : List ℕ → Option ℕ
+number_of word = if (not (nat_eq (length word) 0) && leb (length word) 10) && are_digits word then Some (number_from 0 word) else None
+
+abbrev pub kept_within : ℕ → ℕ → Option ℕ → Option ℕ
+kept_within least most None = None
+kept_within least most (Some number) = if leb least number && leb number most then Some number else None
+
+abbrev pub number_within : List ℕ → ℕ → ℕ → Option ℕ
+number_within word least most = kept_within least most (number_of word)
+
+-- ---- options
+
+abbrev pub same_text : List ℕ → List ℕ → Bool
+same_text = pointwise nat_eq
+
+abbrev pub flag_named : List ℕ → Option Flag
+flag_named name =
+    if same_text name (codes "--core") then Some Core
+    else (if same_text name (codes "--time") then Some Time
+    else (if same_text name (codes "--stoch") then Some Stoch
+    else (if same_text name (codes "--pivots") then Some Pivots else None)))
+
+-- an option with its value
+pub record Given : Type 0 where
+  pub flag : Flag
+  pub value : List ℕ
+
+abbrev pub valued : Option Flag → List ℕ → Option Given
+valued None value = None
+valued (Some flag) value = if is_value value then Some (record { flag = flag; value = value }) else None
+
+abbrev pub setting_of : List ℕ → List ℕ → Option Given
+setting_of name value = valued (flag_named name) value
+
+abbrev pub is_equals : ℕ → Bool
+is_equals byte = byte == 61
+
+abbrev pub has_equals : List ℕ → Bool
+has_equals word = ltb (position_or_len is_equals word) (length word)
+
+abbrev pub then_some : {A B : Type 0} → Option A → (A → Option B) → Option B
+then_some None f = None
+then_some (Some a) f = f a
+
+-- a word cut at its first `=`, where it has one
+abbrev pub cut : List ℕ → Option (List ℕ × List ℕ)
+cut word = if has_equals word then Some (before_first is_equals word, after_first is_equals word) else None
+
+-- the setting of a word that was cut, and what comes of it; else the other
+abbrev pub after_cut : {X : Type 0} → Option (List ℕ × List ℕ) → Option X → (Given → Option X) → Option X
+after_cut None other f = other
+after_cut (Some parts) other f = then_some (setting_of parts.0 parts.1) f
+
+-- the options behind those that are read: `--name=value` is one word, cut at its first `=`, and `--name value` two
+abbrev pub settings_from : List Given → List (List ℕ) → Option (List Given)
+settings_from done [] = Some done
+settings_from done (word ∷ []) = after_cut (cut word) None (λ s. Some (done ++ s ∷ []))
+settings_from done (word ∷ next ∷ words) =
+    after_cut (cut word) (then_some (setting_of word next) (λ s. settings_from (done ++ s ∷ []) words)) (λ s. settings_from (done ++ s ∷ []) (next ∷ words))
+
+abbrev pub settings_of : List (List ℕ) → Option (List Given)
+settings_of = settings_from []
+
+abbrev pub same_flag : Flag → Flag → Bool
+same_flag Core Core = true
+same_flag Time Time = true
+same_flag Stoch Stoch = true
+same_flag Pivots Pivots = true
+same_flag _ _ = false
+
+-- the value of the first setting of this option
+abbrev pub value_with : Flag → List Given → Option (List ℕ)
+value_with flag [] = None
+value_with flag (s ∷ settings) = if same_flag s.flag flag then Some s.value else value_with flag settings
+
+-- no option stands twice
+abbrev pub are_once : List Given → Bool
+are_once [] = true
+are_once (s ∷ settings) = is_none (value_with s.flag settings) && are_once settings
+
+-- ---- commands
+
+abbrev pub verb_named : List ℕ → Option Verb
+verb_named word = if same_text word (codes "solve") then Some Solve else (if same_text word (codes "show") then Some Show else None)
+
+-- a command takes the names of the files; `solve` also takes the number of pivots
+abbrev pub allows : Verb → Flag → Bool
+allows verb Core = true
+allows verb Time = true
+allows verb Stoch = true
+allows Solve Pivots = true
+allows Show Pivots = false
+
+abbrev pub all_allowed : Verb → List Given → Bool
+all_allowed verb [] = true
+all_allowed verb (s ∷ settings) = allows verb s.flag && all_allowed verb settings
+
+-- the names of the files that state a program
+pub record FileNames : Type 0 where
+  pub core : List ℕ
+  pub time : Option (List ℕ)
+  pub stoch : Option (List ℕ)
+
+-- a core is needed, and a stoch file goes with a time file alone
+abbrev pub sources_by : Option (List ℕ) → Option (List ℕ) → Option (List ℕ) → Option FileNames
+sources_by None time stoch = None
+sources_by (Some core) None (Some stoch) = None
+sources_by (Some core) None None = Some (record { core = core; time = None; stoch = None })
+sources_by (Some core) (Some time) stoch = Some (record { core = core; time = Some time; stoch = stoch })
+
+abbrev pub sources_of : List Given → Option FileNames
+sources_of settings = sources_by (value_with Core settings) (value_with Time settings) (value_with Stoch settings)
+
+-- 100,000 where the words don't say how many, and 1,000,000,000 at most
+abbrev pub pivots_by : Option (List ℕ) → Option ℕ
+pivots_by None = Some 100000
+pivots_by (Some value) = number_within value 1 1000000000
+
+abbrev pub pivots_of : List Given → Option ℕ
+pivots_of settings = pivots_by (value_with Pivots settings)
+
+-- what the words ask for
+pub data Asked : Type 0 where
+  -- of these files, with so many pivots at most
+  SolveThese : FileNames → ℕ → Asked
+  ShowThese : FileNames → Asked
+
+abbrev pub ask : Verb → List Given → FileNames → Option Asked
+ask Solve settings names = then_some (pivots_of settings) (λ pivots. Some (SolveThese names pivots))
+ask Show settings names = Some (ShowThese names)
+
+abbrev pub command_with : Verb → List Given → Option Asked
+command_with verb settings = if all_allowed verb settings && are_once settings then then_some (sources_of settings) (ask verb settings) else None
+
+-- The command that the words are: the first is its name, and options follow in any order, each at most once.
+abbrev pub command_of : List (List ℕ) → Option Asked
+command_of [] = None
+command_of (word ∷ words) = then_some (verb_named word) (λ verb. then_some (settings_of words) (command_with verb))

@@ -1,0 +1,13 @@
+//! The words of a command, read exactly.
+#![tactic(auto)]
+
+mod command;
+mod flag;
+mod settings;
+#[cfg(test)]
+mod tests;
+mod value;
+
+pub use command::{Command, Sources, Verb, read_words};
+pub use flag::Flag;
+pub use settings::Setting;

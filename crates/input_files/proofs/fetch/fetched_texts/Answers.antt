@@ -1,0 +1,20 @@
+use Rattle.std.proofs.Common.{refl, sym, ◌∙◌, subst, Option}
+use Rattle.smps_io.specs.Files.{Files}
+use Rattle.command_words.specs.Views.{sources_view}
+use Rattle.input_files.specs.Unfetched.{IsCause}
+use Rattle.input_files.specs.declared.kind.FileKind.TheVariants as kind
+use Rattle.input_files.proofs.CauseLemmas.{cause_of, cause_if}
+use Rattle.input_files.proofs.fetch.fetched_texts.Goals as goal
+
+pub returns-in-Err-clause-cause : goal.returns-in-Err-clause-cause
+returns-in-Err-clause-cause g c = cause_of (g.H.Shelf.content c.args.shelf.now) (sources_view c.args.sources.now) kind.Core (sources_view c.args.sources.now).core refl c.in-Err.fault c.in-Err.ensures.cause
+
+pub returns-in-Err-fetched_if-clause-cause : goal.returns-in-Err-fetched_if-clause-cause
+returns-in-Err-fetched_if-clause-cause g c =
+    subst (λ (content : Option Files). IsCause content (sources_view c.args.sources.now) c.in-Err-fetched_if.fault) c.in-Ok.ensures.same
+    (cause_if (g.H.Shelf.content c.fetched.new.shelf) (sources_view c.args.sources.now) kind.Time (sources_view c.args.sources.now).time refl c.in-Err-fetched_if.fault c.in-Err-fetched_if.ensures.cause)
+
+pub returns-in-Err-fetched_if-2-clause-cause : goal.returns-in-Err-fetched_if-2-clause-cause
+returns-in-Err-fetched_if-2-clause-cause g c =
+    subst (λ (content : Option Files). IsCause content (sources_view c.args.sources.now) c.in-Err-fetched_if-2.fault) (c.in-Ok-fetched_if.ensures.same ∙ c.in-Ok.ensures.same)
+    (cause_if (g.H.Shelf.content c.fetched_if.new.shelf) (sources_view c.args.sources.now) kind.Stoch (sources_view c.args.sources.now).stoch refl c.in-Err-fetched_if-2.fault c.in-Err-fetched_if-2.ensures.cause)

@@ -1,0 +1,111 @@
+//! The files that the words name, fetched in their order.
+ghost use Rattle.std.specs.Prelude.{◌≡◌, ◌<◌, ◌≤◌, Err, IfOk, IfErr, OnOk};
+ghost use Rattle.smps_io.specs.Faults.{Rose, RoseBy};
+ghost use Rattle.command_words.specs.Views.{sources_view};
+ghost use Rattle.input_files.specs.Fetched.{IsGiven, IsGivenIf, AreGiven, file_limit, file_count, count_of};
+ghost use Rattle.input_files.specs.declared.kind.FileKind.{FileKind};
+ghost use Rattle.input_files.specs.Unfetched.{texts_view, given_name, given_bytes, IsCause, IsCauseOf, IsCauseIf};
+
+use crate::kind::FileKind;
+use command_words::Sources;
+use smps_io::{Shelf, ShelfFault};
+use std::alloc::Global;
+use std::rt::Runtime;
+
+/// A file has at most so many bytes.
+const FILE_LIMIT: u64 = 8_388_608;
+
+/// The bytes of the files that state a program.
+#[derive(Drop)]
+pub struct Texts {
+    pub core: Vec<u8>,
+    pub time: Option<Vec<u8>>,
+    pub stoch: Option<Vec<u8>>,
+}
+
+/// Why a file wasn't fetched.
+#[derive(Clone, Copy, Drop)]
+pub enum Unfetched {
+    /// The shelf failed.
+    Failed(FileKind),
+    /// The file has more bytes than a file may have.
+    TooLong(FileKind),
+    /// Memory was wanting.
+    Memory,
+}
+
+/// The bytes of the file of this kind.
+fn fetched<R: Runtime, H: Shelf>(
+    rt: &R,
+    alloc: Global,
+    shelf: &mut H,
+    kind: FileKind,
+    name: &str,
+) -> Result<Vec<u8>, Unfetched>
+    ensures given { IfOk result (λ bytes. IsGiven (H.content shelf.old) name.now bytes.items) }
+    ensures cause { IfErr result (IsCauseOf (H.content shelf.old) name.now kind) }
+    ensures failed { result ≡ Err (Unfetched.Failed kind) → Rose (H.faults shelf.old) (H.faults shelf.new) }
+    ensures long { result ≡ Err (Unfetched.TooLong kind) → file_limit < H.given shelf.new }
+    ensures later { H.faults shelf.old ≤ H.faults shelf.new }
+    ensures counts { RoseBy (H.fetches shelf.old) 1 (H.fetches shelf.new) }
+    ensures same { H.content shelf.new ≡ H.content shelf.old }
+{
+    match shelf.fetch(rt, alloc, name, FILE_LIMIT) {
+        Ok(bytes) => Ok(bytes),
+        Err(ShelfFault::Failed) => Err(Unfetched::Failed(kind)),
+        Err(ShelfFault::TooLong) => Err(Unfetched::TooLong(kind)),
+        Err(ShelfFault::Memory) => Err(Unfetched::Memory),
+    }
+}
+
+/// The bytes of a file that need not be named.
+fn fetched_if<R: Runtime, H: Shelf>(
+    rt: &R,
+    alloc: Global,
+    shelf: &mut H,
+    kind: FileKind,
+    name: Option<&str>,
+) -> Result<Option<Vec<u8>>, Unfetched>
+    ensures given { IfOk result (λ bytes. IsGivenIf (H.content shelf.old) (given_name name.entry) (given_bytes bytes)) }
+    ensures cause { IfErr result (IsCauseIf (H.content shelf.old) (given_name name.entry) kind) }
+    ensures failed { result ≡ Err (Unfetched.Failed kind) → Rose (H.faults shelf.old) (H.faults shelf.new) }
+    ensures long { result ≡ Err (Unfetched.TooLong kind) → file_limit < H.given shelf.new }
+    ensures later { H.faults shelf.old ≤ H.faults shelf.new }
+    ensures counts { OnOk result (RoseBy (H.fetches shelf.old) (count_of (given_name name.entry)) (H.fetches shelf.new)) }
+    ensures same { H.content shelf.new ≡ H.content shelf.old }
+{
+    match name {
+        None => Ok(None),
+        Some(name) => {
+            let bytes = fetched(rt, alloc, shelf, kind, name)?;
+            Ok(Some(bytes))
+        }
+    }
+}
+
+/// The bytes of all files that are named, in the order core, time, stoch: each is fetched once, up to the first that isn't given.
+pub fn fetched_texts<R: Runtime, H: Shelf>(
+    rt: &R,
+    alloc: Global,
+    shelf: &mut H,
+    sources: &Sources<'_>,
+) -> Result<Texts, Unfetched>
+    ensures given { IfOk result (λ texts. AreGiven (H.content shelf.old) (sources_view sources.now) (texts_view texts)) }
+    ensures cause { IfErr result (IsCause (H.content shelf.old) (sources_view sources.now)) }
+    ensures failed { (kind : FileKind) → result ≡ Err (Unfetched.Failed kind) → Rose (H.faults shelf.old) (H.faults shelf.new) }
+    ensures long { (kind : FileKind) → result ≡ Err (Unfetched.TooLong kind) → file_limit < H.given shelf.new }
+    ensures counts { OnOk result (RoseBy (H.fetches shelf.old) (file_count (sources_view sources.now)) (H.fetches shelf.new)) }
+{
+    let core = match fetched(rt, alloc, shelf, FileKind::Core, sources.core) {
+        Ok(bytes) => bytes,
+        Err(fault) => return Err(fault),
+    };
+    let time = match fetched_if(rt, alloc, shelf, FileKind::Time, sources.time) {
+        Ok(bytes) => bytes,
+        Err(fault) => return Err(fault),
+    };
+    match fetched_if(rt, alloc, shelf, FileKind::Stoch, sources.stoch) {
+        Ok(stoch) => Ok(Texts { core, time, stoch }),
+        Err(fault) => Err(fault),
+    }
+}

@@ -1,7 +1,0 @@
-use Rattle.std.proofs.Common.{◌≡◌, drop, take, []}
-use Rattle.rationals.specs.Sparse.{Ascending}
-use Rattle.lp_defs.specs.Lines.{divided_entries}
-use Rattle.simplex_core.proofs.line.divide_all.Given as goal
-
-abbrev pub invariant-loop-i : goal.invariant-loop-i
-invariant-loop-i l = record { gives : divided_entries l.by (drop l.i l.entries) (take l.i l.entries) ≡ divided_entries l.by l.initial.entries []; rise : Ascending 0 l.entries }

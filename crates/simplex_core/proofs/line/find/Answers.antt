@@ -1,6 +1,0 @@
-use Rattle.std.proofs.Common.{◌∙◌}
-use Rattle.simplex_core.proofs.Rises.{entry_is}
-use Rattle.simplex_core.proofs.line.find.Goals as goal
-
-pub returns : goal.returns
-returns c = c.value_in.ensures ∙ entry_is c.args.entries.now c.args.column c.requires

@@ -1,0 +1,7 @@
+-- It fits.
+use Rattle.std.proofs.Common.{◌∙◌, sym}
+use Rattle.smps_stoch.proofs.FinishLemmas.{least_fits}
+use Rattle.smps_stoch.proofs.finish.least_sum.Goals as goal
+
+pub returns-in-None : goal.returns-in-None
+returns-in-None c = absurd (least_fits (sym c.new.ensures ∙ c.in-None.is))

@@ -1,0 +1,362 @@
+//! Time files.
+//!
+//! In their order:
+//!
+//! - read: starts, with the objective and with the first constraint; the word behind PERIODS; one period; two
+//! - read: explicit periods in any order; a period without rows and columns
+//! - 10: a header that isn't one of the file; ROWS and COLUMNS where the form isn't explicit
+//! - 11: a section or a data line out of order
+//! - 12: PERIODS, ROWS, COLUMNS or ENDATA is missing
+//! - 18: the number of fields
+//! - 30: a column or a row that isn't known, before 31; the objective from the second line on; a skipped row
+//! - 31: a start out of order
+//! - 32: a period's name was there
+//! - 33: an entry above the triangle, with the numbers of its row and column
+//! - 34: the seventeenth period; no period; before 36
+//! - 35: a period that isn't known
+//! - 36: a row or a column without a period, rows first, the first in core order; before 33
+//! - 37: a row or a column twice; before 35
+
+/// In the form of the table.
+pub(super) const TIMES: &str = "\
+P1 P2 P3 columns 0 1 2 rows 0 1 2
+TIME W
+PERIODS
+ X COST P1
+ Y DEM P2
+ Z LAST P3
+ENDATA
+#P1 P2 P3 columns 0 1 2 rows 0 1 2
+PERIODS LP
+ X CAP P1
+ Y DEM P2
+ Z LAST P3
+ENDATA
+ Q Q Q
+#P columns 0 0 0 rows 0 0 0
+PERIODS
+ X COST P
+ENDATA
+#A C columns 0 0 1 rows 0 0 1
+PERIODS
+ X CAP A
+ Z LAST C
+ENDATA
+#P1 P2 columns 0 1 1 rows 0 1 1
+PERIODS EXPLICIT
+ P1
+ P2
+ROWS
+ LAST P2
+ DEM P2
+ CAP P1
+COLUMNS
+ Z P2
+ X P1
+ Y P2
+ENDATA
+#P1 P2 P3 columns 0 0 0 rows 2 2 2
+TIME W
+PERIODS EXPLICIT
+ P1
+ P2
+ P3
+ROWS
+ CAP P3
+ DEM P3
+ LAST P3
+COLUMNS
+ X P1
+ Y P1
+ Z P1
+ENDATA
+#1: 10
+NAME W
+ENDATA
+#3: 10
+PERIODS
+ X COST P1
+ROWS
+ENDATA
+#1: 10
+ROWS
+ENDATA
+#2: 10
+TIME
+COLUMNS
+ENDATA
+#2: 11
+TIME W
+ X COST P1
+ENDATA
+#1: 11
+ X COST P1
+ENDATA
+#3: 11
+PERIODS
+ X COST P1
+PERIODS
+ENDATA
+#3: 11
+PERIODS
+ X COST P1
+TIME W
+ENDATA
+#4: 11
+PERIODS EXPLICIT
+ P1
+COLUMNS
+ROWS
+ENDATA
+#3: 12
+TIME W
+ENDATA
+#3: 12
+PERIODS
+ X COST P1
+#5: 12
+PERIODS EXPLICIT
+ P1
+ROWS
+ENDATA
+#4: 12
+PERIODS EXPLICIT
+ P1
+ENDATA
+#1: 12
+#2: 18
+PERIODS
+ X COST
+ENDATA
+#2: 18
+PERIODS
+ X COST P1 P2
+ENDATA
+#2: 18
+PERIODS
+ X
+ENDATA
+#2: 18
+PERIODS EXPLICIT
+ P1 P2
+ENDATA
+#4: 18
+PERIODS EXPLICIT
+ P1
+ROWS
+ CAP
+ENDATA
+#5: 18
+PERIODS EXPLICIT
+ P1
+ROWS
+COLUMNS
+ X P1 P1
+ENDATA
+#2: 30
+PERIODS
+ Q COST P1
+ENDATA
+#2: 30
+PERIODS
+ X NONE P1
+ENDATA
+#3: 30
+PERIODS
+ X COST P1
+ Y COST P2
+ENDATA
+#2: 30
+PERIODS
+ X FREE P1
+ENDATA
+#4: 30
+PERIODS EXPLICIT
+ P1
+ROWS
+ COST P1
+ENDATA
+#5: 30
+PERIODS EXPLICIT
+ P1
+ROWS
+COLUMNS
+ Q P1
+ENDATA
+#2: 31
+PERIODS
+ Y COST P1
+ENDATA
+#2: 31
+PERIODS
+ X DEM P1
+ENDATA
+#3: 31
+PERIODS
+ X COST P1
+ X DEM P2
+ENDATA
+#3: 31
+PERIODS
+ X CAP P1
+ Y CAP P2
+ENDATA
+#4: 31
+PERIODS
+ X COST P1
+ Z LAST P2
+ Y DEM P3
+ENDATA
+#3: 32
+PERIODS
+ X COST P1
+ Y DEM P1
+ENDATA
+#3: 32
+PERIODS EXPLICIT
+ P1
+ P1
+ENDATA
+#4: 32
+PERIODS
+ X COST P1
+ Y DEM P2
+ Z LAST P1
+ENDATA
+#4: 33 1 1
+PERIODS
+ X COST P1
+ Y LAST P2
+ENDATA
+#12: 33 0 0
+PERIODS EXPLICIT
+ P1
+ P2
+ROWS
+ CAP P1
+ DEM P2
+ LAST P2
+COLUMNS
+ X P2
+ Y P2
+ Z P2
+ENDATA
+#12: 33 2 2
+PERIODS EXPLICIT
+ P1
+ P2
+ROWS
+ CAP P1
+ DEM P1
+ LAST P1
+COLUMNS
+ X P1
+ Y P1
+ Z P2
+ENDATA
+#18: 34
+PERIODS EXPLICIT
+ P1
+ P2
+ P3
+ P4
+ P5
+ P6
+ P7
+ P8
+ P9
+ P10
+ P11
+ P12
+ P13
+ P14
+ P15
+ P16
+ P17
+ROWS
+COLUMNS
+ENDATA
+#2: 34
+PERIODS
+ENDATA
+#4: 34
+PERIODS EXPLICIT
+ROWS
+COLUMNS
+ENDATA
+#4: 35
+PERIODS EXPLICIT
+ P1
+ROWS
+ CAP P2
+ENDATA
+#5: 35
+PERIODS EXPLICIT
+ P1
+ROWS
+COLUMNS
+ X P9
+ENDATA
+#5: 35
+PERIODS EXPLICIT
+ P1
+ROWS
+ CAP P1
+ DEM CAP
+ENDATA
+#9: 36 row 1
+PERIODS EXPLICIT
+ P1
+ROWS
+ LAST P1
+ CAP P1
+COLUMNS
+ X P1
+ Y P1
+ENDATA
+#9: 36 column 0
+PERIODS EXPLICIT
+ P1
+ROWS
+ LAST P1
+ CAP P1
+ DEM P1
+COLUMNS
+ Y P1
+ENDATA
+#11: 36 column 2
+PERIODS EXPLICIT
+ P1
+ P2
+ROWS
+ LAST P1
+ CAP P1
+ DEM P1
+COLUMNS
+ Y P2
+ X P2
+ENDATA
+#5: 37
+PERIODS EXPLICIT
+ P1
+ROWS
+ CAP P1
+ CAP P9
+ENDATA
+#6: 37
+PERIODS EXPLICIT
+ P1
+ROWS
+COLUMNS
+ X P1
+ X P1
+ENDATA
+#6: 37
+PERIODS EXPLICIT
+ P1
+ROWS
+ CAP P1
+ DEM P1
+ CAP P1
+ENDATA
+";
