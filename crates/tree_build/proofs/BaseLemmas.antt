@@ -1,19 +1,19 @@
 -- What a core states of the nodes of a stage.
-use Rattle.std.proofs.Common.{◌≡◌, ◌∙◌, ap, ap₂, sym, refl, subst, ℕ, zero, suc, ◌+◌, ◌<◌, ◌≤◌, Bool, true, false, ◌&&◌, List, [], ◌∷◌, ◌++◌, length, get_or, map, nat_eq, nat_lt, arith, add-one}
+use Rattle.std.proofs.Common.{◌≡◌, ◌∙◌, ap, ap₂, refl, ℕ, zero, suc, ◌+◌, ◌<◌, ◌≤◌, Bool, true, false, ◌&&◌, List, [], ◌∷◌, ◌++◌, length, get_or, map, nat_eq, nat_lt, arith, add-one}
 use Rattle.std.proofs.lemmas.Bool.Decides.{nat_tests}
 use Rattle.rationals.specs.Rational.{ℚ}
 use Rattle.rationals.specs.Sparse.{Entry as Term, coefficient}
 use Rattle.rationals.specs.Forms.{put}
 use Rattle.scen_defs.specs.Lists.{pick, places}
-use Rattle.smps_words.specs.declared.entry.Entry.TheVariants.{Cost, Matrix, Rhs}
+use Rattle.smps_words.specs.declared.entry.Entry.TheVariants.{Cost, Matrix}
 use Rattle.core_defs.specs.declared.program.Core.{Core}
 use Rattle.core_defs.specs.declared.parts.ColumnDef.{ColumnDef}
 use Rattle.core_defs.specs.declared.parts.RowDef.{RowDef}
 use Rattle.time_defs.specs.Means.{Stages}
-use Rattle.stoch_defs.specs.Entries.{core_value, no_column, no_row}
+use Rattle.stoch_defs.specs.Entries.{no_column, no_row}
 use Rattle.smps_build.specs.Single.{entries_from}
 use Rattle.smps_build.specs.Gathered.{forms_from}
-use Rattle.build_defs.specs.Nodes.{value_in, form_at, costs_at, entries_at, rows_at}
+use Rattle.build_defs.specs.Nodes.{value_in, form_at}
 use Rattle.build_defs.specs.Scenarios.{stages_from}
 use Rattle.tree_build.specs.declared.parts.RowValues.{RowValues}
 use Rattle.tree_build.specs.declared.parts.Values.{Values as ValuesOf}

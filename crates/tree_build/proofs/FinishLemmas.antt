@@ -1,5 +1,5 @@
 -- Scenarios and nodes of a program, one by one.
-use Rattle.std.proofs.Common.{◌≡◌, ◌∙◌, ap, ap₂, sym, refl, subst, ℕ, suc, ◌+◌, List, [], ◌∷◌, ◌++◌, length, get_or, Option, Some, None, Result, Ok, Err, arith}
+use Rattle.std.proofs.Common.{◌≡◌, ap, sym, refl, subst, ℕ, suc, ◌+◌, List, [], ◌∷◌, ◌++◌, length, get_or, Option, Some, Result, Ok, Err}
 use Rattle.std.specs.Result.{MatchResult, IsErrAnd}
 use Rattle.rationals.specs.Rational.{ℚ, one_ℚ}
 use Rattle.rationals.specs.Passes.{Operation, mul_walk, then_walk}
@@ -7,7 +7,7 @@ use Rattle.core_defs.specs.declared.parts.RowDef.{RowDef}
 use Rattle.scen_defs.specs.declared.program.Node.{Node as NodeOf}
 use Rattle.scen_defs.specs.declared.program.NodeRow.{NodeRow}
 use Rattle.scen_defs.specs.declared.program.Scenario.{Scenario as ScenarioOf}
-use Rattle.scen_defs.specs.Program.{Node, Scenario, scenario_content, scenarios_content, node_content, place_content, nodes_content}
+use Rattle.scen_defs.specs.Program.{Node, Scenario, scenario_content, scenarios_content, place_content, nodes_content}
 use Rattle.scen_tree.specs.declared.position.Position.{Position}
 use Rattle.scen_tree.specs.declared.position.Position.TheVariants.{Root}
 use Rattle.stoch_defs.specs.Random.{Block, Branch}
@@ -19,10 +19,7 @@ use Rattle.build_defs.specs.Scenarios.{no_branch}
 use Rattle.build_defs.specs.Built.{product_from}
 use Rattle.tree_build.specs.declared.wheels.Wheel.{Wheel}
 use Rattle.tree_build.specs.declared.numbering.Debut.{Debut}
-use Rattle.tree_build.specs.declared.numbering.Path.{Path}
-use Rattle.tree_build.specs.declared.parts.Values.{Values as ValuesOf}
-use Rattle.tree_build.specs.Values.{Values, values_content, all_content}
-use Rattle.tree_build.specs.Numbering.{paths_content}
+use Rattle.tree_build.specs.Values.{Values}
 use Rattle.tree_build.specs.Wheels.{sizes_of}
 use Rattle.tree_build.specs.Choices.{chances_of}
 use Rattle.tree_build.specs.Nodes.{digits_at}

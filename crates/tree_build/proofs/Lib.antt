@@ -9,3 +9,4 @@ pub mod ChoiceLemmas
 pub mod NodeLemmas
 pub mod DigitLemmas
 pub mod FinishLemmas
+pub mod BuildLemmas

@@ -1,5 +1,5 @@
 -- Numbers of nodes, step by step.
-use Rattle.std.proofs.Common.{◌≡◌, ◌∙◌, ap, ap₂, sym, refl, subst, ℕ, zero, suc, ◌+◌, ◌<◌, ◌≤◌, Bool, true, false, List, [], ◌∷◌, ◌++◌, length, get_or, drop, Result, Ok, Err, arith, append_assoc, add-one, if◌then◌else◌}
+use Rattle.std.proofs.Common.{◌≡◌, ◌∙◌, ap, sym, refl, subst, ℕ, suc, ◌+◌, ◌<◌, ◌≤◌, Bool, true, false, List, [], ◌∷◌, ◌++◌, length, get_or, drop, Result, Ok, Err, arith, add-one, if◌then◌else◌}
 use Rattle.std.proofs.lemmas.List.{length_push, at_drop_more}
 use Rattle.std.specs.Result.{IfErr, IsErrAnd}
 use Rattle.scen_defs.proofs.NodeReads.{drop_read}
@@ -8,7 +8,7 @@ use Rattle.smps_build.specs.declared.fault.BuildFault.TheVariants.{Limit, Passed
 use Rattle.tree_build.specs.declared.numbering.Debut.{Debut}
 use Rattle.tree_build.specs.declared.numbering.Keys.{Keys}
 use Rattle.tree_build.specs.declared.numbering.Path.{Path}
-use Rattle.tree_build.specs.Numbering.{has_key, number_of, key_of, keys_of, with_debut, debuts_from, numbers_from, row_debuts, all_debuts, paths_from, rows_content, paths_content, IsOver}
+use Rattle.tree_build.specs.Numbering.{has_key, key_of, keys_of, with_debut, debuts_from, row_debuts, paths_from, rows_content, paths_content, IsOver}
 
 pub over_more : (n m : ℕ) (fault : BuildFault) → n ≤ m → IsOver n fault → IsOver m fault
 over_more n m Limit h over = omega (arith, h, over)

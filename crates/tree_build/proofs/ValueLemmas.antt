@@ -15,7 +15,7 @@ use Rattle.stoch_defs.specs.Random.{Sets}
 use Rattle.build_defs.specs.Nodes.{last_value, value_in, form_at, costs_at, entries_at, rows_at}
 use Rattle.tree_build.specs.declared.parts.RowValues.{RowValues}
 use Rattle.tree_build.specs.Values.{put_at, Values, row_values, values_of, RowsFrom, at_row, with_entry, with_rhs, with_set, with_sets}
-use Rattle.tree_build.proofs.TermLemmas.{put_before, put_here, put_apart, put_behind}
+use Rattle.tree_build.proofs.TermLemmas.{put_before, put_here, put_behind}
 
 last_more : (e x : Entry) (v w : ℚ) (sets : Sets) → last_value e v (sets ++ (x, w) ∷ []) ≡ (if same_entry e x then w else last_value e v sets)
 last_more e x v w [] = refl

@@ -1,10 +1,10 @@
 -- Digits and the numbers that they make.
-use Rattle.std.proofs.Common.{◌≡◌, ◌∙◌, ap, ap₂, sym, refl, subst, ℕ, zero, suc, ◌+◌, ◌*◌, ◌/◌, ◌%◌, ◌<◌, ◌≤◌, ◌-◌, ◌^◌, min, Bool, true, false, List, [], ◌∷◌, ◌++◌, length, get_or, map, drop, length-drop, nat_le, arith, if◌then◌else◌}
-use Rattle.std.proofs.Math.Nat.{mul-div_cancel_left, mul_comm, mul_assoc, mul-le-mul_left, mul-le-mul_right}
+use Rattle.std.proofs.Common.{◌≡◌, ◌∙◌, ap, sym, refl, subst, ℕ, zero, suc, ◌+◌, ◌*◌, ◌/◌, ◌%◌, ◌<◌, ◌≤◌, min, Bool, true, false, List, [], ◌∷◌, length, get_or, drop, length-drop, nat_le, arith}
+use Rattle.std.proofs.Math.Nat.{div-lt_iff_lt-mul, mul-div_cancel_left, mul_assoc, mul-le-mul_left, mul-le-mul_right}
 use Rattle.std.proofs.lemmas.List.{drop_more}
 use Rattle.std.proofs.lemmas.Bool.Decides.{nat_tests}
 use Rattle.tree_build.specs.declared.wheels.Wheel.{Wheel}
-use Rattle.tree_build.specs.Wheels.{product, sizes_of, digits_of, IsWithin, key_to}
+use Rattle.tree_build.specs.Wheels.{product, sizes_of, digits_of, IsWithin}
 
 -- each size is above its digit, so their product is above 0
 pub within_some : (sizes digits : List ℕ) → IsWithin sizes digits → 0 < product sizes
@@ -23,6 +23,13 @@ some_size (suc s) p rest h = omega arith
 some_rest : (s p rest : ℕ) → rest < s * p → 0 < p
 some_rest s zero rest h = absurd (let none : s * zero ≡ 0 = omega arith in omega (arith, h, none))
 some_rest s (suc p) rest h = omega arith
+
+-- the digits of a number are below their sizes
+pub digits_within : (sizes : List ℕ) (number : ℕ) → number < product sizes → IsWithin sizes (digits_of sizes number)
+digits_within [] number below = tt
+digits_within (s ∷ sizes) number below =
+    let some : 0 < product sizes = some_rest s (product sizes) number below in
+    ((div-lt_iff_lt-mul some).1 below, digits_within sizes (number % product sizes) (omega (arith, some)))
 
 pub behind_is : (total s p rest : ℕ) → total ≡ s * p → rest < total → total / s ≡ p
 behind_is total s p rest e h = ap (λ t. t / s) e ∙ mul-div_cancel_left p (some_size s p rest (subst (λ (t : ℕ). rest < t) e h))

@@ -1,5 +1,5 @@
 -- What a core states of the nodes of a stage, gathered column by column and row by row.
-use Rattle.std.specs.Prelude.{ℕ, suc, ◌+◌, List, [], ◌∷◌, get_or, length, nat_eq, nat_lt, ◌&&◌}
+use Rattle.std.specs.Prelude.{ℕ, suc, List, [], ◌∷◌, get_or, length, nat_eq, nat_lt, ◌&&◌}
 use Rattle.rationals.specs.Sparse.{Entry as Term}
 use Rattle.rationals.specs.Forms.{put}
 use Rattle.core_defs.specs.declared.parts.ColumnDef.{ColumnDef}

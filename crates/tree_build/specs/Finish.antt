@@ -1,5 +1,5 @@
 -- The nodes of a program, from their values.
-use Rattle.std.specs.Prelude.{ℕ, suc, ◌-◌, List, [], ◌∷◌, ◌++◌, Option, Some, None, Result, Ok, Err, get_or, map, length, ◌+◌, ◌<◌, ◌^◌, ◌≡◌, IsOk, ⊤, nat_eq, if◌then◌else◌}
+use Rattle.std.specs.Prelude.{ℕ, ◌-◌, List, [], ◌∷◌, ◌++◌, Option, Some, None, Result, Ok, Err, get_or, length, ◌+◌, ◌<◌, ◌^◌, ◌≡◌, IsOk, ⊤, nat_eq, if◌then◌else◌}
 use Rattle.rationals.specs.Passes.{Operation, then_walk}
 use Rattle.core_defs.specs.declared.parts.RowDef.{RowDef}
 use Rattle.scen_defs.specs.declared.program.NodeRow.{NodeRow}

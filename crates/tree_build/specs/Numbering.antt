@@ -1,5 +1,5 @@
 -- The numbers of nodes, given what tells the nodes of a stage apart.
-use Rattle.std.specs.Prelude.{◌≡◌, ℕ, suc, ◌<◌, Bool, true, false, ◌&&◌, List, [], ◌∷◌, ◌++◌, map, nat_eq, if◌then◌else◌, ⊤}
+use Rattle.std.specs.Prelude.{ℕ, suc, ◌<◌, Bool, ◌&&◌, List, [], ◌∷◌, ◌++◌, map, nat_eq, if◌then◌else◌, ⊤}
 use Rattle.std.specs.List.{list_any, position_or_len}
 use Rattle.smps_build.specs.declared.fault.BuildFault.{BuildFault}
 use Rattle.smps_build.specs.declared.fault.BuildFault.TheVariants.{Limit, Passed, Memory}

@@ -1,9 +1,9 @@
 -- The program as it is computed: numbers of nodes, values of nodes, products, totals and shares, intervals.
-use Rattle.std.specs.Prelude.{◌≡◌, ℕ, ◌≤◌, ◌<◌, Bool, true, false, ◌||◌, List, [], map, length, nat_lt, Result, Ok, Err, MatchResult, ⊤}
+use Rattle.std.specs.Prelude.{◌≡◌, ℕ, ◌≤◌, Bool, true, false, ◌||◌, List, [], map, length, nat_lt, Result, Ok, Err, MatchResult, ⊤}
 use Rattle.rationals.specs.Passes.{Operation, then_walk}
 use Rattle.core_defs.specs.declared.program.Core.{Core}
 use Rattle.time_defs.specs.Means.{Stages}
-use Rattle.stoch_defs.specs.Random.{Block, Branch}
+use Rattle.stoch_defs.specs.Random.{Block, Branch, Random, Blocks, Branches}
 use Rattle.scen_defs.specs.declared.program.Program.{Program as ProgramOf}
 use Rattle.scen_defs.specs.Program.{Program, content}
 use Rattle.smps_build.specs.declared.fault.BuildFault.{BuildFault}
@@ -86,3 +86,17 @@ branches_over core p branches = branches_over_by core p branches (branch_rows (l
 
 abbrev pub branches_walk : Core → Stages → List Branch → Result Program Operation
 branches_walk core p branches = branches_walk_by core p branches (branch_rows (length p.names) [] branches)
+
+-- ---- what a stoch file states
+
+-- there are more scenarios, nodes, entries, rows or costs than there may be
+abbrev pub build_over : Core → Stages → Random → Bool
+build_over core p (Blocks blocks) = blocks_over core p blocks
+build_over core p (Branches branches) = branches_over core p branches
+
+-- The scenarios; their nodes, numbered by first appearance (scenario by scenario, along each by stage); the values of each
+-- node. Then what may pass: the products that are the scenarios' probabilities, the totals of the nodes, their shares, and
+-- the intervals of the rows, node by node.
+abbrev pub build_walk : Core → Stages → Random → Result Program Operation
+build_walk core p (Blocks blocks) = blocks_walk core p blocks
+build_walk core p (Branches branches) = branches_walk core p branches

@@ -1,5 +1,5 @@
 -- The cases of blocks that a scenario chooses, like the digits of a number.
-use Rattle.std.specs.Prelude.{◌≡◌, ℕ, zero, suc, ◌<◌, ◌≤◌, ◌+◌, ◌*◌, ◌/◌, ◌%◌, List, [], ◌∷◌, ◌++◌, map, flat_map, length, nat_eq, nat_le, if◌then◌else◌}
+use Rattle.std.specs.Prelude.{ℕ, suc, ◌<◌, ◌+◌, ◌*◌, ◌/◌, ◌%◌, List, [], ◌∷◌, map, flat_map, length, nat_eq, nat_le, if◌then◌else◌}
 use Rattle.scen_defs.specs.Lists.{pick}
 use Rattle.stoch_defs.specs.Random.{Block}
 use Rattle.build_defs.specs.Scenarios.{stages_from}

@@ -3,7 +3,6 @@
 
 mod base;
 mod branches;
-mod build;
 mod choices;
 mod finish;
 mod limits;
@@ -11,9 +10,12 @@ mod names;
 mod nodes;
 mod numbering;
 mod parts;
+mod program;
 mod rows;
 mod scenarios;
 mod seen;
 mod terms;
 mod values;
 mod wheels;
+
+pub use program::build;

@@ -1,5 +1,6 @@
 //! The numbers of nodes, by first appearance.
-ghost use Rattle.std.specs.Prelude.{◌≡◌, [], length, IfOk, OnOk, IfErr, MatchResult};
+ghost use Rattle.std.specs.Prelude.{◌≡◌, ◌≤◌, [], length, IfOk, OnOk, IfErr, MatchResult};
+ghost use Rattle.build_defs.specs.Built.{most_nodes};
 ghost use Rattle.tree_build.specs.Numbering.{key_of, keys_of, number_of, with_debut, debuts_from, numbers_from, row_debuts, all_debuts, paths_from, rows_content, paths_content, IsOver};
 
 use crate::seen::Seen;
@@ -47,6 +48,7 @@ fn visit(seen: &mut Seen, debuts: &mut Vec<Debut>, debut: Debut) -> Result<u32, 
     ensures number { IfOk result (λ n. n ≡ number_of (keys_of debuts.old.items) (key_of debut)) }
     ensures debuts { OnOk result (debuts.new.items ≡ with_debut debuts.old.items debut) }
     ensures tied { OnOk result (seen.new ≡ keys_of debuts.new.items) }
+    ensures few { OnOk result (length debuts.new.items ≤ most_nodes) }
     ensures err { IfErr result (IsOver (length (with_debut debuts.old.items debut))) }
 {
     let (number, new) = seen.add(debut.stage, debut.key)?;
@@ -67,10 +69,12 @@ fn number_row(
     scenario: usize,
     row: &[u64],
 ) -> Result<Vec<u32>, BuildFault>
-    requires { seen.old ≡ keys_of debuts.old.items }
+    requires tied { seen.old ≡ keys_of debuts.old.items }
+    requires few { length debuts.old.items ≤ most_nodes }
     ensures path { IfOk result (λ path. path.items ≡ numbers_from debuts.old.items (row_debuts scenario 0 row.now)) }
     ensures debuts { OnOk result (debuts.new.items ≡ debuts_from debuts.old.items (row_debuts scenario 0 row.now)) }
     ensures tied { OnOk result (seen.new ≡ keys_of debuts.new.items) }
+    ensures few { OnOk result (length debuts.new.items ≤ most_nodes) }
     ensures err { IfErr result (IsOver (length (debuts_from debuts.old.items (row_debuts scenario 0 row.now)))) }
 {
     let mut path = Vec::new(alloc);
@@ -90,6 +94,7 @@ fn number_row(
 pub(crate) fn number_all(alloc: Global, rows: &[Keys]) -> Result<Outline, BuildFault>
     ensures debuts { IfOk result (λ outline. outline.debuts.items ≡ debuts_from [] (all_debuts 0 (rows_content rows.now))) }
     ensures paths { IfOk result (λ outline. paths_content outline.paths.items ≡ paths_from [] 0 (rows_content rows.now)) }
+    ensures few { IfOk result (λ outline. length outline.debuts.items ≤ most_nodes) }
     ensures err { IfErr result (IsOver (length (debuts_from [] (all_debuts 0 (rows_content rows.now))))) }
 {
     let mut seen = Seen::empty(alloc);

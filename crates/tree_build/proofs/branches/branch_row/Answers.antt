@@ -1,4 +1,4 @@
-use Rattle.std.proofs.Common.{◌≡◌, ◌∙◌, ◌++◌, ◌∷◌, [], ap₂, sym, List, ℕ}
+use Rattle.std.proofs.Common.{◌∙◌, ◌++◌, ◌∷◌, [], ap₂, sym, List, ℕ}
 use Rattle.stoch_defs.specs.Random.{branch_content}
 use Rattle.tree_build.specs.Numbering.{rows_content}
 use Rattle.tree_build.specs.Branches.{branch_key}

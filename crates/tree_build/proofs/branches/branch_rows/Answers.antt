@@ -5,7 +5,7 @@ use Rattle.stoch_defs.specs.Random.{branch_content}
 use Rattle.build_defs.specs.Scenarios.{stages_from}
 use Rattle.tree_build.specs.Numbering.{rows_content}
 use Rattle.tree_build.specs.Branches.{branch_key, branch_rows}
-use Rattle.tree_build.proofs.RangeLemmas.{keys_push, keys_length}
+use Rattle.tree_build.proofs.RangeLemmas.{keys_push}
 use Rattle.tree_build.proofs.branches.branch_rows.Goals as goal
 
 pub loop-number-preserved : goal.loop-number-preserved

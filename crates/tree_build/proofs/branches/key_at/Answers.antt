@@ -1,6 +1,5 @@
-use Rattle.std.proofs.Common.{◌≡◌, ◌∙◌, ◌≤◌, ap, sym, subst, get_or, length, List, ℕ, arith}
+use Rattle.std.proofs.Common.{◌∙◌, ap, sym, get_or}
 use Rattle.tree_build.specs.declared.numbering.Keys.{Keys}
-use Rattle.tree_build.specs.Numbering.{rows_content}
 use Rattle.tree_build.proofs.RangeLemmas.{keys_at, keys_past, past_end}
 use Rattle.tree_build.proofs.branches.key_at.Goals as goal
 

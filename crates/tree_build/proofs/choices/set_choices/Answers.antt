@@ -1,4 +1,4 @@
-use Rattle.std.proofs.Common.{◌≡◌, ◌∙◌, ◌+◌, ◌++◌, ap, sym, map, drop, get_or}
+use Rattle.std.proofs.Common.{◌∙◌, ◌+◌, ◌++◌, ap, sym, map, drop, get_or}
 use Rattle.stoch_defs.specs.Random.{block_content}
 use Rattle.tree_build.specs.Values.{stages, values_content, with_sets}
 use Rattle.tree_build.specs.Choices.{case_at, sets_of}

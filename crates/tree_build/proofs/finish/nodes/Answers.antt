@@ -1,6 +1,6 @@
-use Rattle.std.proofs.Common.{arith, ◌≡◌, ◌∙◌, ◌++◌, ◌∷◌, [], ap, ap₂, sym, length, get_or, List, ℕ, Option, Some, Ok}
+use Rattle.std.proofs.Common.{arith, ◌≡◌, ◌∙◌, ◌++◌, ◌∷◌, [], ap, ap₂, sym, length, get_or, ℕ, Option, Some}
 use Rattle.std.specs.Vec.Iter.{into_iter_items}
-use Rattle.scen_defs.specs.Program.{Node, nodes_content}
+use Rattle.scen_defs.specs.Program.{nodes_content}
 use Rattle.scen_tree.specs.declared.position.Position.TheVariants.{Root}
 use Rattle.tree_build.specs.Values.{values_content, all_content}
 use Rattle.tree_build.specs.Finish.{value_nodes, no_debut, parent_in}

@@ -1,4 +1,4 @@
-use Rattle.std.proofs.Common.{◌≡◌, ◌∙◌, ◌+◌, ◌-◌, ◌/◌, ◌%◌, ◌++◌, ◌∷◌, [], ap, sym, List, ℕ, append_assoc, arith}
+use Rattle.std.proofs.Common.{◌∙◌, ◌+◌, ◌-◌, ◌/◌, ◌%◌, ◌++◌, ◌∷◌, [], ap, sym, List, ℕ, append_assoc}
 use Rattle.build_defs.specs.Digits.{digits_in}
 use Rattle.tree_build.proofs.DigitLemmas.{digits_step}
 use Rattle.tree_build.proofs.names.+push_digits.Goals as goal

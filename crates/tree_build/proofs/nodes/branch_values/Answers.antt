@@ -1,14 +1,14 @@
-use Rattle.std.proofs.Common.{◌≡◌, ◌∙◌, ◌+◌, ◌++◌, ◌∷◌, ◌≤◌, [], ap, sym, subst, map, drop, get_or, sum_by, List, ℕ, append_assoc, arith}
+use Rattle.std.proofs.Common.{◌≡◌, ◌∙◌, ◌+◌, ◌++◌, ◌∷◌, ◌≤◌, [], ap, sym, subst, map, drop, get_or, sum_by, List}
 use Rattle.std.proofs.lemmas.List.{drop_more}
-use Rattle.stoch_defs.specs.Random.{block_content, branch_content}
+use Rattle.stoch_defs.specs.Random.{branch_content}
 use Rattle.tree_build.specs.declared.parts.Values.{Values as ValuesOf}
 use Rattle.tree_build.specs.declared.limits.Counts.{Counts}
 use Rattle.tree_build.specs.Values.{Values, stages, values_content, all_content}
 use Rattle.tree_build.specs.Numbering.{paths_content}
 use Rattle.tree_build.specs.Limits.{entries_in, rows_in, costs_in}
-use Rattle.tree_build.specs.Nodes.{block_node, branch_node, branch_nodes}
+use Rattle.tree_build.specs.Nodes.{branch_node, branch_nodes}
 use Rattle.tree_build.proofs.BaseLemmas.{content_push}
-use Rattle.tree_build.proofs.NodeLemmas.{no_debut, counted, over_whole, block_more, branch_more}
+use Rattle.tree_build.proofs.NodeLemmas.{no_debut, counted, over_whole, branch_more}
 use Rattle.tree_build.proofs.nodes.branch_values.Goals as goal
 
 pub returns-in-None-clause-err : goal.returns-in-None-clause-err

@@ -1,9 +1,9 @@
-use Rattle.std.proofs.Common.{◌≡◌, ◌++◌, [], map, drop, sum_by}
-use Rattle.stoch_defs.specs.Random.{block_content, branch_content}
+use Rattle.std.proofs.Common.{◌≡◌, [], map, drop, sum_by}
+use Rattle.stoch_defs.specs.Random.{branch_content}
 use Rattle.tree_build.specs.Values.{stages, all_content}
 use Rattle.tree_build.specs.Numbering.{paths_content}
 use Rattle.tree_build.specs.Limits.{entries_in, rows_in, costs_in, AreSmall}
-use Rattle.tree_build.specs.Nodes.{block_node, branch_nodes}
+use Rattle.tree_build.specs.Nodes.{branch_nodes}
 use Rattle.tree_build.proofs.nodes.branch_values.Given as goal
 
 abbrev pub invariant-loop-debut : goal.invariant-loop-debut

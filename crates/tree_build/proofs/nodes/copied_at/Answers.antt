@@ -1,10 +1,8 @@
-use Rattle.std.proofs.Common.{◌≡◌, ◌∙◌, ap, ap₂, sym, subst, get_or, List, rules}
+use Rattle.std.proofs.Common.{◌≡◌, ◌∙◌, ap₂, sym, subst, List}
 use Rattle.std.specs.Result.{IfOk}
 use Rattle.rationals.specs.Sparse.{Entry}
 use Rattle.tree_build.specs.declared.parts.RowValues.{RowValues}
-use Rattle.tree_build.specs.declared.parts.Values.{Values as ValuesOf}
-use Rattle.tree_build.specs.Values.{Values, values_content, all_content}
-use Rattle.tree_build.specs.Nodes.{no_values}
+use Rattle.tree_build.specs.Values.{Values, values_content}
 use Rattle.tree_build.proofs.NodeLemmas.{content_at, content_past}
 use Rattle.tree_build.proofs.nodes.copied_at.Goals as goal
 

@@ -1,4 +1,4 @@
-use Rattle.std.proofs.Common.{◌≡◌, ◌∙◌, ap, sym, get_or}
+use Rattle.std.proofs.Common.{◌∙◌, ap, sym, get_or}
 use Rattle.tree_build.specs.declared.numbering.Path.{Path}
 use Rattle.tree_build.proofs.RangeLemmas.{past_end}
 use Rattle.tree_build.proofs.NodeLemmas.{path_at, path_past}

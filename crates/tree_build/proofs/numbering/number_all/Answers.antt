@@ -1,4 +1,4 @@
-use Rattle.std.proofs.Common.{◌≡◌, ◌∙◌, ◌+◌, ◌++◌, ◌∷◌, ◌≤◌, [], ap, ap₂, sym, suc, drop, length, ℕ, List, append_assoc, add-one, arith}
+use Rattle.std.proofs.Common.{◌≡◌, ◌∙◌, ◌+◌, ◌++◌, ◌∷◌, [], ap, ap₂, sym, suc, drop, length, ℕ, List, append_assoc, add-one, arith}
 use Rattle.tree_build.specs.declared.numbering.Debut.{Debut}
 use Rattle.tree_build.specs.Numbering.{debuts_from, numbers_from, row_debuts, all_debuts, paths_from, rows_content, paths_content}
 use Rattle.tree_build.proofs.NumberLemmas.{handed, grows, debuts_append, rows_read, paths_push}
@@ -43,4 +43,5 @@ loop-scenario-preserved c =
           ∙ sym (debuts_append old (row_debuts i 0 row.by_stage.items) (all_debuts (suc i) rest))
           ∙ sym (ap (λ rows. debuts_from old (all_debuts i rows)) read) ∙ c.loop-scenario.invariant.debuts;
       tied = c.in_ok-nodes.ensures.tied;
+      few = c.in_ok-nodes.ensures.few;
     }

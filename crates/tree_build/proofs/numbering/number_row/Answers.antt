@@ -1,5 +1,5 @@
-use Rattle.std.proofs.Common.{◌≡◌, ◌∙◌, ◌+◌, ◌++◌, ◌∷◌, ◌≤◌, [], ap, ap₂, sym, suc, drop, length, ℕ, List, append_assoc, arith}
-use Rattle.tree_build.specs.Numbering.{key_of, keys_of, number_of, with_debut, debuts_from, numbers_from, row_debuts}
+use Rattle.std.proofs.Common.{◌≡◌, ◌∙◌, ◌+◌, ◌++◌, ◌∷◌, [], ap, ap₂, sym, drop, length, ℕ, List, append_assoc, arith}
+use Rattle.tree_build.specs.Numbering.{with_debut, debuts_from, numbers_from, row_debuts}
 use Rattle.tree_build.proofs.NumberLemmas.{handed, grows, debut_at, row_read}
 use Rattle.tree_build.proofs.numbering.number_row.Goals as goal
 
@@ -32,4 +32,5 @@ loop-stage-preserved c =
           ∙ sym (ap (λ all. path ++ numbers_from old all) read) ∙ c.loop-stage.invariant.path;
       debuts = ap (λ all. debuts_from all rest) c.in_ok-number.ensures.debuts ∙ sym (ap (debuts_from old) read) ∙ c.loop-stage.invariant.debuts;
       tied = c.in_ok-number.ensures.tied;
+      few = c.in_ok-number.ensures.few;
     }

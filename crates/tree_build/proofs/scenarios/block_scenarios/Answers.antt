@@ -1,7 +1,7 @@
-use Rattle.std.proofs.Common.{arith, ◌≡◌, ◌∙◌, ◌+◌, ◌++◌, ◌∷◌, [], ap, ap₂, sym, subst, map, length, get_or, List, ℕ, Ok, Err}
+use Rattle.std.proofs.Common.{arith, ◌≡◌, ◌∙◌, ◌+◌, ◌++◌, ◌∷◌, [], ap, sym, map, length, List, ℕ, Ok}
 use Rattle.std.specs.Vec.Iter.{into_iter_items}
-use Rattle.rationals.specs.Rational.{ℚ, one_ℚ}
-use Rattle.scen_defs.specs.Program.{Scenario, scenario_content, scenarios_content}
+use Rattle.rationals.specs.Rational.{one_ℚ}
+use Rattle.scen_defs.specs.Program.{scenarios_content}
 use Rattle.stoch_defs.specs.Random.{block_content}
 use Rattle.build_defs.specs.Digits.{digits}
 use Rattle.build_defs.specs.Built.{product_from}

@@ -1,8 +1,8 @@
-use Rattle.std.proofs.Common.{arith, ◌≡◌, ◌∙◌, ◌++◌, ◌∷◌, [], ap, ap₂, sym, subst, map, length, get_or, List, ℕ, Ok, Err}
+use Rattle.std.proofs.Common.{arith, ◌≡◌, ◌∙◌, ◌++◌, ◌∷◌, [], ap, ap₂, sym, map, length, get_or, List, ℕ, Ok, Err}
 use Rattle.std.specs.Vec.Iter.{into_iter_items}
 use Rattle.rationals.specs.Rational.{ℚ, one_ℚ}
 use Rattle.rationals.specs.Passes.{mul_walk}
-use Rattle.scen_defs.specs.Program.{Scenario, scenario_content, scenarios_content}
+use Rattle.scen_defs.specs.Program.{scenarios_content}
 use Rattle.stoch_defs.specs.Random.{branch_content}
 use Rattle.build_defs.specs.Scenarios.{no_branch}
 use Rattle.tree_build.specs.Numbering.{paths_content}

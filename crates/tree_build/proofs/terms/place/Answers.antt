@@ -1,4 +1,4 @@
-use Rattle.std.proofs.Common.{◌+◌, ◌-◌, ◌/◌, ◌<◌, List, length, drop, take, sym, subst, arith, add-one, suc, ℕ}
+use Rattle.std.proofs.Common.{◌+◌, ◌-◌, ◌/◌, ◌<◌, List, length, drop, take, sym, subst, arith, add-one, ℕ}
 use Rattle.rationals.specs.Sparse.{Entry, Ascending}
 use Rattle.rationals.specs.Forms.{EndsBelow}
 use Rattle.frac128.proofs.FormLemmas.{term_read, rises_drop}

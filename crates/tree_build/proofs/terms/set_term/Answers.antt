@@ -1,4 +1,4 @@
-use Rattle.std.proofs.Common.{◌≡◌, ◌∙◌, ap, sym, subst, take, drop, true, false, refl, List}
+use Rattle.std.proofs.Common.{◌≡◌, ◌∙◌, sym, subst, take, drop, true, false, List}
 use Rattle.rationals.specs.Sparse.{Entry, Ascending}
 use Rattle.rationals.specs.Forms.{EndsBelow}
 use Rattle.rationals.specs.Rational.{zero_ℚ}

@@ -1,4 +1,4 @@
-use Rattle.std.proofs.Common.{ap, ◌+◌, ◌-◌, ◌/◌, ◌<◌, List, length, drop, take, sym, subst, arith, add-one, suc, ℕ, rules}
+use Rattle.std.proofs.Common.{ap, ◌+◌, ◌-◌, ◌/◌, ◌<◌, List, length, drop, take, sym, subst, arith, add-one, ℕ}
 use Rattle.scen_defs.proofs.NodeReads.{drop_read}
 use Rattle.tree_build.specs.declared.parts.RowValues.{RowValues}
 use Rattle.tree_build.specs.Values.{RowsFrom, RowsBelow}

@@ -1,6 +1,6 @@
-use Rattle.std.proofs.Common.{◌≡◌, ◌∙◌, ap, sym, subst, take, drop, true, false, refl, List}
+use Rattle.std.proofs.Common.{◌≡◌, ◌∙◌, sym, subst, take, drop, true, false, refl, List}
 use Rattle.tree_build.specs.declared.parts.RowValues.{RowValues}
-use Rattle.tree_build.specs.Values.{RowsFrom, RowsBelow, IsRowAt, at_row, with_entry, with_rhs}
+use Rattle.tree_build.specs.Values.{RowsFrom, RowsBelow, IsRowAt, with_rhs}
 use Rattle.tree_build.proofs.RowLemmas.{row_there, row_missing, rows_rise}
 use Rattle.tree_build.proofs.values.set_rhs.Goals as goal
 

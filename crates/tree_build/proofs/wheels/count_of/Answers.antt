@@ -1,4 +1,4 @@
-use Rattle.std.proofs.Common.{◌≡◌, ◌∙◌, ◌≤◌, ◌*◌, ◌-◌, ◌^◌, ◌+◌, ap, sym, min, drop, get_or, drop_of_length-le, arith}
+use Rattle.std.proofs.Common.{◌≡◌, ◌∙◌, ◌*◌, ◌-◌, ◌^◌, ◌+◌, ap, sym, min, drop, get_or, drop_of_length-le, arith}
 use Rattle.tree_build.specs.Wheels.{product, sizes_of}
 use Rattle.tree_build.proofs.WheelLemmas.{capped, no_wheel, product_read}
 use Rattle.tree_build.proofs.wheels.count_of.Goals as goal

@@ -1,5 +1,4 @@
-use Rattle.std.proofs.Common.{◌≡◌, ◌∙◌, ◌++◌, ◌∷◌, ◌+◌, ◌/◌, ◌%◌, ◌*◌, ◌<◌, [], ap, ap₂, sym, subst, suc, List, ℕ, drop, get_or, append_assoc, arith}
-use Rattle.std.proofs.lemmas.List.{at_drop_more}
+use Rattle.std.proofs.Common.{◌≡◌, ◌∙◌, ◌++◌, ◌∷◌, ◌+◌, ◌/◌, ◌%◌, ◌*◌, ◌<◌, [], ap, sym, subst, ℕ, drop, get_or, append_assoc, arith}
 use Rattle.tree_build.specs.Wheels.{product, sizes_of, digits_of}
 use Rattle.tree_build.proofs.WheelLemmas.{behind_is, behind_some, no_wheel, product_read, read_wheel}
 use Rattle.tree_build.proofs.wheels.digits_of.Goals as goal

@@ -1,4 +1,4 @@
-use Rattle.std.proofs.Common.{◌≡◌, ◌∙◌, ◌++◌, ◌∷◌, [], ap₂, sym, List, ℕ}
+use Rattle.std.proofs.Common.{◌∙◌, ◌++◌, ◌∷◌, [], ap₂, sym, List, ℕ}
 use Rattle.tree_build.specs.Wheels.{key_to}
 use Rattle.tree_build.proofs.RangeLemmas.{range_push}
 use Rattle.tree_build.proofs.wheels.key_row.Goals as goal

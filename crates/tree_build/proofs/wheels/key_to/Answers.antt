@@ -1,4 +1,4 @@
-use Rattle.std.proofs.Common.{◌≡◌, ◌∙◌, ◌+◌, ◌*◌, ◌<◌, ◌≤◌, ◌∷◌, List, ℕ, ap, ap₂, sym, subst, true, false, drop, get_or, nat_le, arith, if◌then◌else◌}
+use Rattle.std.proofs.Common.{◌≡◌, ◌∙◌, ◌+◌, ◌*◌, ◌≤◌, List, ℕ, ap, ap₂, sym, subst, true, false, drop, get_or, nat_le, arith, if◌then◌else◌}
 use Rattle.std.proofs.lemmas.Bool.Decides.{nat_tests}
 use Rattle.tree_build.specs.declared.wheels.Wheel.{Wheel}
 use Rattle.tree_build.specs.Wheels.{product, sizes_of, key_to}

@@ -1,4 +1,4 @@
-use Rattle.std.proofs.Common.{◌≡◌, ◌∙◌, ◌++◌, ap, sym, map, List}
+use Rattle.std.proofs.Common.{◌∙◌, ◌++◌, ap, sym, map, List}
 use Rattle.stoch_defs.specs.Random.{block_content}
 use Rattle.tree_build.specs.declared.wheels.Wheel.{Wheel}
 use Rattle.tree_build.specs.Wheels.{wheels_at}

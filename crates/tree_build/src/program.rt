@@ -1,11 +1,11 @@
 //! The program of a core, its periods and its scenarios.
 ghost use Rattle.std.specs.Prelude.{◌≡◌, ◌<◌, ◌≤◌, ◌^◌, [], map, length, IfOk};
-ghost use Rattle.stoch_defs.specs.Random.{block_content, branch_content};
+ghost use Rattle.stoch_defs.specs.Random.{block_content, branch_content, content};
 ghost use Rattle.build_defs.specs.Scenarios.{stages_from};
 ghost use Rattle.tree_build.specs.Values.{stages};
 ghost use Rattle.tree_build.specs.Numbering.{rows_content};
 ghost use Rattle.tree_build.specs.Wheels.{product, sizes_of, digits_of, key_row};
-ghost use Rattle.tree_build.specs.Walks.{Fits, IsBuilt, block_rows, blocks_over, blocks_walk, branches_over, branches_walk};
+ghost use Rattle.tree_build.specs.Walks.{Fits, IsBuilt, block_rows, blocks_over, blocks_walk, branches_over, branches_walk, build_over, build_walk};
 
 use crate::base::base;
 use crate::branches::branch_rows;
@@ -18,7 +18,7 @@ use core_defs::Core;
 use scen_defs::Program;
 use smps_build::BuildFault;
 use std::alloc::{AllocError, Global};
-use stoch_defs::{Block, Branch};
+use stoch_defs::{Block, Branch, Stoch};
 use time_defs::Periods;
 
 /// So many scenarios a program has at most.
@@ -89,4 +89,24 @@ fn build_branches(
     let positions = positions(alloc, &paths, &debuts)?;
     let scenarios = branch_scenarios(alloc, branches, paths)?;
     finish(alloc, core, periods, &debuts, &positions, scenarios, values)
+}
+
+/// The program on a tree that a core, its periods and its scenarios mean.
+///
+/// `Limit` where it has more than 10,000 scenarios, 20,000 nodes, or 10,000,000 entries, rows or costs over all
+/// nodes, each by itself; otherwise the first operation that passes: the probabilities of the scenarios, the totals
+/// and then the shares of the nodes, the intervals node by node and row by row. `Memory` where memory is wanting.
+pub fn build(
+    alloc: Global,
+    core: &Core,
+    periods: &Periods,
+    stoch: &Stoch,
+) -> Result<Program, BuildFault>
+    requires { Fits core.now (stages periods.now) }
+    ensures { IsBuilt (build_over core.now (stages periods.now) (content stoch.now)) (build_walk core.now (stages periods.now) (content stoch.now)) result }
+{
+    match stoch {
+        Stoch::Blocks(blocks) => build_blocks(alloc, core, periods, blocks),
+        Stoch::Scenarios(branches) => build_branches(alloc, core, periods, branches),
+    }
 }
