@@ -12,11 +12,10 @@ use Rattle.time_defs.specs.Means.{Stages}
 use Rattle.stoch_defs.specs.Random.{Random}
 use Rattle.smps_build.specs.declared.fault.BuildFault.{BuildFault}
 use Rattle.smps_build.specs.declared.fault.BuildFault.TheVariants as build_fault
-use Rattle.build_defs.specs.Built.{built, exceeds}
+use Rattle.tree_build.specs.Walks.{build_over, build_walk, IsBuildFault}
 use Rattle.input_files.specs.declared.kind.FileKind.TheVariants as kind
 use Rattle.input_files.specs.declared.fetch.Texts.{Texts as TextsOf}
 use Rattle.input_files.specs.Unfetched.{texts_view}
-use Rattle.program_files.specs.Stub.{IsBuildFault}
 use Rattle.program_files.specs.Meant.{MeansCore, MeansPeriods, MeansRandom}
 use Rattle.program_files.specs.Refused.{RefusesProgram, IsUnbuilt, build_file}
 use Rattle.program_files.specs.Views.{text_of, GivesPeriods, GivesRandom, MeansOrRefused, unread_of, unbuilt_of}
@@ -44,7 +43,7 @@ module _ (texts : TextsOf) (core : Core) (means : MeansCore texts.core.items cor
       refuses : (refusal : Refusal) → IsUnbuilt core p random refusal → RefusesProgram (texts_view texts) (build_file (text_of texts.stoch)) refusal (Some core)
       refuses refusal h = inr (inr (inr (record { file_is = refl; core = core; known_is = refl; core_means = means; periods = p; periods_mean = mean; random = random; random_means = cases; fault = h })))
 
-      pub stops_build : (fault : BuildFault) → IsBuildFault (exceeds core p random) (built core p random) fault → MeansOrRefused (texts_view texts) (Err (unbuilt_of (build_file (text_of texts.stoch)) fault core))
+      pub stops_build : (fault : BuildFault) → IsBuildFault (build_over core p random) (build_walk core p random) fault → MeansOrRefused (texts_view texts) (Err (unbuilt_of (build_file (text_of texts.stoch)) fault core))
       stops_build build_fault.Limit h = refuses (record { line = 0; cause = ScenarioLimit }) (inl (h, refl))
       stops_build (build_fault.Passed o) h = refuses (record { line = 0; cause = Passes o }) (inr (h.0, (o, h.1, refl)))
       stops_build build_fault.Memory h = tt

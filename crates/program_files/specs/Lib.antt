@@ -1,4 +1,3 @@
 pub mod Meant
 pub mod Refused
 pub mod Views
-pub mod Stub

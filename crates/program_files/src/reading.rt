@@ -2,11 +2,10 @@
 ghost use Rattle.std.specs.Prelude.{◌≡◌, ◌≤◌, Some, IfOk, IfSome, length};
 ghost use Rattle.core_defs.specs.declared.cause.Cause.{Cause};
 ghost use Rattle.stoch_defs.specs.Random.{content as content_of};
-ghost use Rattle.build_defs.specs.Built.{built, exceeds};
 ghost use Rattle.smps_time.specs.View.{stages_view};
 ghost use Rattle.input_files.specs.Fetched.{file_limit};
 ghost use Rattle.input_files.specs.Unfetched.{texts_view};
-ghost use Rattle.program_files.specs.Stub.{Fits, IsBuilt};
+ghost use Rattle.tree_build.specs.Walks.{Fits};
 ghost use Rattle.program_files.specs.Meant.{AreWithin, MeansCore, MeansPeriods, MeansRandom};
 ghost use Rattle.program_files.specs.Refused.{build_file};
 ghost use Rattle.program_files.specs.Views.{text_of, GivesPeriods, GivesRandom, MeansOrRefused, unread_of, unbuilt_of};
@@ -21,6 +20,7 @@ use smps_stoch::read_stoch;
 use smps_time::{Periods, read_time};
 use std::alloc::Global;
 use stoch_defs::Stoch;
+use tree_build::build;
 
 /// Why the texts give no program.
 #[derive(Drop)]
@@ -60,18 +60,6 @@ fn read_cases(
         Some(text) => read_stoch(alloc, text, core, periods),
         None => Ok(Stoch::Blocks(Vec::new(alloc))),
     }
-}
-
-fn build(
-    _alloc: Global,
-    _core: &Core,
-    _periods: &Periods,
-    _stoch: &Stoch,
-) -> Result<Program, BuildFault>
-    requires { Fits _core.now (stages_view _periods.now) }
-    ensures { IsBuilt (exceeds _core.now (stages_view _periods.now) (content_of _stoch.now)) (built _core.now (stages_view _periods.now) (content_of _stoch.now)) result }
-{
-    Err(BuildFault::Memory)
 }
 
 /// What stops the reading of this file.

@@ -11,7 +11,7 @@ use frac128::{Form, Frac, Memory, Term};
 use std::alloc::{AllocError, Global};
 
 /// Adds a value in a column above all others, unless it is 0.
-fn put(form: &mut Form, column: u64, value: Frac) -> Result<(), Memory>
+pub fn put(form: &mut Form, column: u64, value: Frac) -> Result<(), Memory>
     requires { EndsBelow column form.old }
     ensures ok { OnOk result (form.new ≡ form.old ++ put column value []) }
     ensures below { OnOk result (EndsBelow (suc column) form.new) }
@@ -60,11 +60,7 @@ fn add_column(forms: &mut Vec<Form>, column: u64, entries: &[Term]) -> Result<()
 }
 
 /// The entries of each row by column. Each entry of a column is looked at once.
-pub(crate) fn row_forms(
-    alloc: Global,
-    columns: &[ColumnDef],
-    rows: &[RowDef],
-) -> Result<Vec<Form>, Memory>
+pub fn row_forms(alloc: Global, columns: &[ColumnDef], rows: &[RowDef]) -> Result<Vec<Form>, Memory>
     ensures { IfOk result (λ forms. forms.items ≡ forms_from columns.now 0 rows.now) }
 {
     let mut forms = empty_forms(alloc, rows)?;

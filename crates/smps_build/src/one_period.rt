@@ -3,16 +3,17 @@ ghost use Rattle.std.specs.Prelude.{◌≡◌, ◌<◌, ◌^◌, [], length, Ok,
 ghost use Rattle.scen_defs.specs.Program.{content};
 ghost use Rattle.smps_build.specs.Single.{column_of, row_of, rows_from, single_walk, BuildFaultOf};
 
+use crate::ends::interval;
 use crate::fault::BuildFault;
 use crate::forms::{costs_of, row_forms};
-use crate::interval::interval;
 use core_defs::{ColumnDef, Core, RowDef};
 use frac128::Frac;
 use scen_defs::{Column, Node, NodeRow, Program, Row, Scenario};
 use smps_words::Name;
 use std::alloc::{AllocError, Global};
 
-fn copied(alloc: Global, name: &Name) -> Result<Name, AllocError>
+/// An equal name in memory of its own.
+pub fn copied(alloc: Global, name: &Name) -> Result<Name, AllocError>
     ensures { IfOk result (λ copy. copy ≡ name.now) }
 {
     Name::new(alloc, name.as_bytes())

@@ -24,7 +24,7 @@ fn size(number: Frac) -> Frac
 }
 
 /// The low and the high end of a row's interval, by its kind, right-hand side and range.
-pub(crate) fn interval(
+pub fn interval(
     kind: RowKind,
     rhs: Frac,
     range: Option<Frac>,

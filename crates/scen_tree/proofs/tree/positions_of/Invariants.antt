@@ -1,0 +1,7 @@
+use Rattle.std.proofs.Common.{◌≡◌, ◌++◌, drop, map}
+use Rattle.scen_defs.specs.Program.{nodes_content}
+use Rattle.scen_tree.specs.Trees.{position_of}
+use Rattle.scen_tree.proofs.tree.positions_of.Given as goal
+
+abbrev pub invariant-loop-place : goal.invariant-loop-place
+invariant-loop-place l = l.positions.items ++ map position_of (nodes_content (drop l.place-index l.nodes)) ≡ map position_of (nodes_content l.nodes)

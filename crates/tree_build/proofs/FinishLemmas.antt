@@ -1,0 +1,90 @@
+-- Scenarios and nodes of a program, one by one.
+use Rattle.std.proofs.Common.{◌≡◌, ap, sym, refl, subst, ℕ, suc, ◌+◌, List, [], ◌∷◌, ◌++◌, length, get_or, Option, Some, Result, Ok, Err}
+use Rattle.std.specs.Result.{MatchResult, IsErrAnd}
+use Rattle.rationals.specs.Rational.{ℚ, one_ℚ}
+use Rattle.rationals.specs.Passes.{Operation, mul_walk, then_walk}
+use Rattle.core_defs.specs.declared.parts.RowDef.{RowDef}
+use Rattle.scen_defs.specs.declared.program.Node.{Node as NodeOf}
+use Rattle.scen_defs.specs.declared.program.NodeRow.{NodeRow}
+use Rattle.scen_defs.specs.declared.program.Scenario.{Scenario as ScenarioOf}
+use Rattle.scen_defs.specs.Program.{Node, Scenario, scenario_content, scenarios_content, place_content, nodes_content}
+use Rattle.scen_tree.specs.declared.position.Position.{Position}
+use Rattle.scen_tree.specs.declared.position.Position.TheVariants.{Root}
+use Rattle.stoch_defs.specs.Random.{Block, Branch}
+use Rattle.smps_build.specs.declared.fault.BuildFault.{BuildFault}
+use Rattle.smps_build.specs.declared.fault.BuildFault.TheVariants.{Limit, Passed, Memory}
+use Rattle.smps_build.specs.Single.{BuildFaultOf}
+use Rattle.build_defs.specs.Digits.{digits}
+use Rattle.build_defs.specs.Scenarios.{no_branch}
+use Rattle.build_defs.specs.Built.{product_from}
+use Rattle.tree_build.specs.declared.wheels.Wheel.{Wheel}
+use Rattle.tree_build.specs.declared.numbering.Debut.{Debut}
+use Rattle.tree_build.specs.Values.{Values}
+use Rattle.tree_build.specs.Wheels.{sizes_of}
+use Rattle.tree_build.specs.Choices.{chances_of}
+use Rattle.tree_build.specs.Nodes.{digits_at}
+use Rattle.tree_build.specs.Finish.{value_rows, value_node, value_nodes, no_debut, block_paths, branch_paths}
+
+pub scenarios_push : (all : List ScenarioOf) (s : ScenarioOf) → scenarios_content (all ++ s ∷ []) ≡ scenarios_content all ++ scenario_content s ∷ []
+scenarios_push [] s = refl
+scenarios_push (first ∷ all) s = ap (λ (rest : List Scenario). scenario_content first ∷ rest) (scenarios_push all s)
+
+pub scenarios_length : (all : List ScenarioOf) → length (scenarios_content all) ≡ length all
+scenarios_length [] = refl
+scenarios_length (s ∷ all) = ap suc (scenarios_length all)
+
+pub nodes_push : (all : List (Option NodeOf)) (n : Option NodeOf) → nodes_content (all ++ n ∷ []) ≡ nodes_content all ++ place_content n ∷ []
+nodes_push [] n = refl
+nodes_push (first ∷ all) n = ap (λ (rest : List (Option Node)). place_content first ∷ rest) (nodes_push all n)
+
+pub nodes_length : (all : List (Option NodeOf)) → length (nodes_content all) ≡ length all
+nodes_length [] = refl
+nodes_length (n ∷ all) = ap suc (nodes_length all)
+
+-- a call that hands on why another one failed
+pub handed_build : {X Y Z : Type 0} (result : Result X BuildFault) (one : Result Y Operation) (whole : Result Z Operation) (fault : BuildFault) (Q : X → Type 0) → IsErrAnd result (λ e. e ≡ fault) → BuildFaultOf one fault →
+    ((p : Operation) → one ≡ Err p → whole ≡ Err p) → MatchResult result Q (BuildFaultOf whole)
+handed_build (Ok x) one whole fault Q is fails ends = absurd is
+handed_build (Err e) one whole Limit Q is fails ends = absurd fails
+handed_build (Err e) one whole (Passed p) Q is fails ends = subst (BuildFaultOf whole) (sym is) (ends p fails)
+handed_build (Err e) one whole Memory Q is fails ends = subst (BuildFaultOf whole) (sym is) tt
+
+then_ok : {X Y : Type 0} (w : Result X Operation) (x : X) (f : X → Result Y Operation) → w ≡ Ok x → then_walk w f ≡ f x
+then_ok w x f e = ap (λ v. then_walk v f) e
+
+then_err : {X Y : Type 0} (w : Result X Operation) (p : Operation) (f : X → Result Y Operation) → w ≡ Err p → then_walk w f ≡ Err p
+then_err w p f e = ap (λ v. then_walk v f) e
+
+branch_chance : (b : Branch) (chance : ℚ) → mul_walk one_ℚ b.probability ≡ Ok chance → product_from one_ℚ (b.probability ∷ []) ≡ Ok chance
+branch_chance b chance e = then_ok (mul_walk one_ℚ b.probability) chance (λ n. Ok n) e
+
+pub branch_step : (branches : List Branch) (built : List Scenario) (path : List ℕ) (rest : List (List ℕ)) (chance : ℚ) → mul_walk one_ℚ (get_or branches (length built) no_branch).probability ≡ Ok chance →
+    branch_paths branches built (path ∷ rest) ≡ branch_paths branches (built ++ record { name = (get_or branches (length built) no_branch).name; probability = chance; path = path } ∷ []) rest
+branch_step branches built path rest chance e =
+    then_ok (product_from one_ℚ ((get_or branches (length built) no_branch).probability ∷ [])) chance
+    (λ chance. branch_paths branches (built ++ record { name = (get_or branches (length built) no_branch).name; probability = chance; path = path } ∷ []) rest) (branch_chance (get_or branches (length built) no_branch) chance e)
+
+pub branch_ends : (branches : List Branch) (built : List Scenario) (path : List ℕ) (rest : List (List ℕ)) (p : Operation) → mul_walk one_ℚ (get_or branches (length built) no_branch).probability ≡ Err p → branch_paths branches built (path ∷ rest) ≡ Err p
+branch_ends branches built path rest p e =
+    then_err (product_from one_ℚ ((get_or branches (length built) no_branch).probability ∷ [])) p
+    (λ chance. branch_paths branches (built ++ record { name = (get_or branches (length built) no_branch).name; probability = chance; path = path } ∷ []) rest)
+    (then_err (mul_walk one_ℚ (get_or branches (length built) no_branch).probability) p (λ n. Ok n) e)
+
+pub block_step : (blocks : List Block) (wheels : List Wheel) (built : List Scenario) (path : List ℕ) (rest : List (List ℕ)) (chance : ℚ) →
+    product_from one_ℚ (chances_of blocks wheels (digits_at (sizes_of wheels) (length built))) ≡ Ok chance →
+    block_paths blocks wheels built (path ∷ rest) ≡ block_paths blocks wheels (built ++ record { name = 83 ∷ digits (length built + 1); probability = chance; path = path } ∷ []) rest
+block_step blocks wheels built path rest chance e =
+    then_ok (product_from one_ℚ (chances_of blocks wheels (digits_at (sizes_of wheels) (length built)))) chance
+    (λ chance. block_paths blocks wheels (built ++ record { name = 83 ∷ digits (length built + 1); probability = chance; path = path } ∷ []) rest) e
+
+pub block_ends : (blocks : List Block) (wheels : List Wheel) (built : List Scenario) (path : List ℕ) (rest : List (List ℕ)) (p : Operation) →
+    product_from one_ℚ (chances_of blocks wheels (digits_at (sizes_of wheels) (length built))) ≡ Err p → block_paths blocks wheels built (path ∷ rest) ≡ Err p
+block_ends blocks wheels built path rest p e =
+    then_err (product_from one_ℚ (chances_of blocks wheels (digits_at (sizes_of wheels) (length built)))) p
+    (λ chance. block_paths blocks wheels (built ++ record { name = 83 ∷ digits (length built + 1); probability = chance; path = path } ∷ []) rest) e
+
+pub node_step : (defs : List RowDef) (debuts : List Debut) (positions : List Position) (built : List (Option Node)) (d : Values) (rest : List Values) (rows : List NodeRow) → value_rows defs [] d.rows ≡ Ok rows →
+    value_nodes defs debuts positions built (d ∷ rest)
+    ≡ value_nodes defs debuts positions (built ++ Some (value_node (get_or debuts (length built) no_debut) (get_or positions (length built) Root) d rows) ∷ []) rest
+node_step defs debuts positions built d rest rows e =
+    then_ok (value_rows defs [] d.rows) rows (λ rows. value_nodes defs debuts positions (built ++ Some (value_node (get_or debuts (length built) no_debut) (get_or positions (length built) Root) d rows) ∷ []) rest) e

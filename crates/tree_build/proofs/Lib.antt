@@ -1,0 +1,12 @@
+pub mod TermLemmas
+pub mod RowLemmas
+pub mod ValueLemmas
+pub mod BaseLemmas
+pub mod NumberLemmas
+pub mod RangeLemmas
+pub mod WheelLemmas
+pub mod ChoiceLemmas
+pub mod NodeLemmas
+pub mod DigitLemmas
+pub mod FinishLemmas
+pub mod BuildLemmas

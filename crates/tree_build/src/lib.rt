@@ -1,0 +1,21 @@
+//! The program on a tree that a core, its periods and its scenarios mean.
+#![tactic(auto)]
+
+mod base;
+mod branches;
+mod choices;
+mod finish;
+mod limits;
+mod names;
+mod nodes;
+mod numbering;
+mod parts;
+mod program;
+mod rows;
+mod scenarios;
+mod seen;
+mod terms;
+mod values;
+mod wheels;
+
+pub use program::build;

@@ -1,0 +1,315 @@
+//! Core, time and stoch files, and the program that they mean.
+//!
+//! In their order:
+//!
+//! - a demand of two cases in the second period; a block of three yields, whose probabilities are divided by their sum; three
+//!   blocks in two periods
+//! - no case: one scenario of probability 1
+//! - cases of INDEP that multiply, down to an entry of 0, and cases that add
+//! - a block of a later period stated first; a case that keeps what the first case of its block sets
+//! - scenarios: one that branches from another and keeps what it sets before; one from the core's path
+
+/// Each text ends at a `%`; the last one, at a `#` behind it, is the program: its text, and then for each node the stage, the
+/// parent, the costs by column, and for each row the entries by column and the interval.
+pub(super) const PROGRAMS: &str = "\
+NAME COVER
+ROWS
+ N COST
+ G DEMAND
+COLUMNS
+ X COST 1 DEMAND 1
+ Y COST 3/2 DEMAND 1
+RHS
+ RHS DEMAND 2
+ENDATA
+%TIME COVER
+PERIODS
+ X COST P1
+ Y DEMAND P2
+ENDATA
+%STOCH COVER
+INDEP DISCRETE
+ RHS DEMAND 2 P2 0.5
+ RHS DEMAND 6 P2 0.5
+ENDATA
+%PERIODS 2 COLUMNS 2 ROWS 1 NODES 3 SCENARIOS 2
+SCENARIO S1 1/2 0 1
+SCENARIO S2 1/2 0 2
+END
+0 - c0=1
+1 0 c1=3/2 r0 0=1 1=1 [2,*]
+1 0 c1=3/2 r0 0=1 1=1 [6,*]
+#NAME FARMER
+ROWS
+ N COST
+ L LAND
+ G REQW
+ G REQC
+ L SUPB
+COLUMNS
+ WHEAT COST 150 LAND 1
+ WHEAT REQW 2.5
+ CORN COST 230 LAND 1
+ CORN REQC 3
+ BEETS COST 260 LAND 1
+ BEETS SUPB -20
+ WBUY COST 238 REQW 1
+ WSELL COST -170 REQW -1
+ CBUY COST 210 REQC 1
+ CSELL COST -150 REQC -1
+ BSELL COST -36 SUPB 1
+ BLOW COST -10 SUPB 1
+RHS
+ RHS LAND 500 REQW 200
+ RHS REQC 240
+BOUNDS
+ UP BND BSELL 6000
+ENDATA
+%TIME FARMER
+PERIODS LP
+ WHEAT LAND P1
+ WBUY REQW P2
+ENDATA
+%STOCH FARMER
+BLOCKS DISCRETE
+ BL YIELD P2 .333333
+ WHEAT REQW 3.0
+ CORN REQC 3.6
+ BEETS SUPB -24
+ BL YIELD P2 .333333
+ WHEAT REQW 2.5
+ CORN REQC 3.0
+ BEETS SUPB -20
+ BL YIELD P2 .333333
+ WHEAT REQW 2.0
+ CORN REQC 2.4
+ BEETS SUPB -16
+ENDATA
+%PERIODS 2 COLUMNS 9 ROWS 4 NODES 4 SCENARIOS 3
+SCENARIO S1 1/3 0 1
+SCENARIO S2 1/3 0 2
+SCENARIO S3 1/3 0 3
+END
+0 - c0=150 c1=230 c2=260 r0 0=1 1=1 2=1 [*,500]
+1 0 c3=238 c4=-170 c5=210 c6=-150 c7=-36 c8=-10 r1 0=3 3=1 4=-1 [200,*] r2 1=18/5 5=1 6=-1 [240,*] r3 2=-24 7=1 8=1 [*,0]
+1 0 c3=238 c4=-170 c5=210 c6=-150 c7=-36 c8=-10 r1 0=5/2 3=1 4=-1 [200,*] r2 1=3 5=1 6=-1 [240,*] r3 2=-20 7=1 8=1 [*,0]
+1 0 c3=238 c4=-170 c5=210 c6=-150 c7=-36 c8=-10 r1 0=2 3=1 4=-1 [200,*] r2 1=12/5 5=1 6=-1 [240,*] r3 2=-16 7=1 8=1 [*,0]
+#NAME THREE
+ROWS
+ N COST
+ G R2
+ G R3
+ G R4
+COLUMNS
+ X COST 1.875 R2 1
+ X R3 1
+ Y COST 2 R2 1
+ Y R3 1
+ V COST 3 R3 1
+ W COST 1 R4 1
+ENDATA
+%TIME THREE
+PERIODS
+ X COST P1
+ Y R2 P2
+ V R3 P3
+ENDATA
+%STOCH THREE
+BLOCKS DISCRETE
+ BL A P2 0.5
+ RHS R2 2
+ BL A P2 0.5
+ RHS R2 4
+ BL B P3 0.5
+ RHS R3 3
+ BL B P3 0.5
+ RHS R3 6
+ BL C P3 0.5
+ RHS R4 0
+ BL C P3 0.5
+ RHS R4 1
+ENDATA
+%PERIODS 3 COLUMNS 4 ROWS 3 NODES 11 SCENARIOS 8
+SCENARIO S1 1/8 0 1 2
+SCENARIO S2 1/8 0 1 3
+SCENARIO S3 1/8 0 1 4
+SCENARIO S4 1/8 0 1 5
+SCENARIO S5 1/8 0 6 7
+SCENARIO S6 1/8 0 6 8
+SCENARIO S7 1/8 0 6 9
+SCENARIO S8 1/8 0 6 10
+END
+0 - c0=15/8
+1 0 c1=2 r0 0=1 1=1 [2,*]
+2 1 c2=3 c3=1 r1 0=1 1=1 2=1 [3,*] r2 3=1 [0,*]
+2 1 c2=3 c3=1 r1 0=1 1=1 2=1 [3,*] r2 3=1 [1,*]
+2 1 c2=3 c3=1 r1 0=1 1=1 2=1 [6,*] r2 3=1 [0,*]
+2 1 c2=3 c3=1 r1 0=1 1=1 2=1 [6,*] r2 3=1 [1,*]
+1 0 c1=2 r0 0=1 1=1 [4,*]
+2 6 c2=3 c3=1 r1 0=1 1=1 2=1 [3,*] r2 3=1 [0,*]
+2 6 c2=3 c3=1 r1 0=1 1=1 2=1 [3,*] r2 3=1 [1,*]
+2 6 c2=3 c3=1 r1 0=1 1=1 2=1 [6,*] r2 3=1 [0,*]
+2 6 c2=3 c3=1 r1 0=1 1=1 2=1 [6,*] r2 3=1 [1,*]
+#NAME W
+ROWS
+ N COST
+ N FREE
+ L CAP
+ G DEM
+ G LAST
+COLUMNS
+ X COST 1 CAP 1
+ X DEM 1
+ Y COST 3/2 DEM 1
+ Y LAST 2
+ Z COST 4 LAST 1
+RHS
+ B CAP 10 DEM 2
+ B LAST 3
+ENDATA
+%TIME W
+PERIODS
+ X COST P1
+ Y DEM P2
+ Z LAST P3
+ENDATA
+%ENDATA
+%PERIODS 3 COLUMNS 3 ROWS 3 NODES 3 SCENARIOS 1
+SCENARIO S1 1 0 1 2
+END
+0 - c0=1 r0 0=1 [*,10]
+1 0 c1=3/2 r1 0=1 1=1 [2,*]
+2 1 c2=4 r2 1=2 2=1 [3,*]
+#NAME W
+ROWS
+ N COST
+ N FREE
+ L CAP
+ G DEM
+ G LAST
+COLUMNS
+ X COST 1 CAP 1
+ X DEM 1
+ Y COST 3/2 DEM 1
+ Y LAST 2
+ Z COST 4 LAST 1
+RHS
+ B CAP 10 DEM 2
+ B LAST 3
+ENDATA
+%TIME W
+PERIODS
+ X COST P1
+ Y DEM P2
+ Z LAST P3
+ENDATA
+%INDEP DISCRETE MULTIPLY
+ X DEM 3 P2 1/4
+ X DEM 0 P2 3/4
+INDEP DISCRETE ADD
+ RHS LAST 1 P3 1/2
+ RHS LAST -3 P3 1/2
+ENDATA
+%PERIODS 3 COLUMNS 3 ROWS 3 NODES 7 SCENARIOS 4
+SCENARIO S1 1/8 0 1 2
+SCENARIO S2 1/8 0 1 3
+SCENARIO S3 3/8 0 4 5
+SCENARIO S4 3/8 0 4 6
+END
+0 - c0=1 r0 0=1 [*,10]
+1 0 c1=3/2 r1 0=3 1=1 [2,*]
+2 1 c2=4 r2 1=2 2=1 [4,*]
+2 1 c2=4 r2 1=2 2=1 [0,*]
+1 0 c1=3/2 r1 1=1 [2,*]
+2 4 c2=4 r2 1=2 2=1 [4,*]
+2 4 c2=4 r2 1=2 2=1 [0,*]
+#NAME W
+ROWS
+ N COST
+ N FREE
+ L CAP
+ G DEM
+ G LAST
+COLUMNS
+ X COST 1 CAP 1
+ X DEM 1
+ Y COST 3/2 DEM 1
+ Y LAST 2
+ Z COST 4 LAST 1
+RHS
+ B CAP 10 DEM 2
+ B LAST 3
+ENDATA
+%TIME W
+PERIODS
+ X COST P1
+ Y DEM P2
+ Z LAST P3
+ENDATA
+%BLOCKS DISCRETE
+ BL L P3 .5
+ RHS LAST 1
+ BL L P3 .5
+ Z COST 8
+ BL K P2 .5
+ RHS DEM 6
+ BL K P2 .5
+ RHS DEM 7
+ENDATA
+%PERIODS 3 COLUMNS 3 ROWS 3 NODES 7 SCENARIOS 4
+SCENARIO S1 1/4 0 1 2
+SCENARIO S2 1/4 0 1 3
+SCENARIO S3 1/4 0 4 5
+SCENARIO S4 1/4 0 4 6
+END
+0 - c0=1 r0 0=1 [*,10]
+1 0 c1=3/2 r1 0=1 1=1 [6,*]
+2 1 c2=4 r2 1=2 2=1 [1,*]
+2 1 c2=8 r2 1=2 2=1 [1,*]
+1 0 c1=3/2 r1 0=1 1=1 [7,*]
+2 4 c2=4 r2 1=2 2=1 [1,*]
+2 4 c2=8 r2 1=2 2=1 [1,*]
+#NAME W
+ROWS
+ N COST
+ N FREE
+ L CAP
+ G DEM
+ G LAST
+COLUMNS
+ X COST 1 CAP 1
+ X DEM 1
+ Y COST 3/2 DEM 1
+ Y LAST 2
+ Z COST 4 LAST 1
+RHS
+ B CAP 10 DEM 2
+ B LAST 3
+ENDATA
+%TIME W
+PERIODS
+ X COST P1
+ Y DEM P2
+ Z LAST P3
+ENDATA
+%SCENARIOS DISCRETE
+ SC A ROOT .5 P2
+ RHS DEM 5
+ SC B A .25 P3
+ RHS LAST 7
+ Y LAST 0
+ SC C ROOT .25 P3
+ Z COST 9
+ENDATA
+%PERIODS 3 COLUMNS 3 ROWS 3 NODES 6 SCENARIOS 3
+SCENARIO A 1/2 0 1 2
+SCENARIO B 1/4 0 1 3
+SCENARIO C 1/4 0 4 5
+END
+0 - c0=1 r0 0=1 [*,10]
+1 0 c1=3/2 r1 0=1 1=1 [5,*]
+2 1 c2=4 r2 1=2 2=1 [3,*]
+2 1 c2=4 r2 2=1 [7,*]
+1 0 c1=3/2 r1 0=1 1=1 [2,*]
+2 4 c2=9 r2 1=2 2=1 [3,*]
+";
