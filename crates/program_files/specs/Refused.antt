@@ -52,7 +52,7 @@ build_file (Some text) = kind.Stoch
 
 -- A limit is exceeded, or an operation passes 128 bits: the first one.
 abbrev pub IsUnbuilt : Core → Stages → Random → Refusal → Type 0
-IsUnbuild_walk core p random refusal = ((build_over core p random ≡ true) × (refusal ≡ record { line = 0; cause = ScenarioLimit }))
+IsUnbuilt core p random refusal = ((build_over core p random ≡ true) × (refusal ≡ record { line = 0; cause = ScenarioLimit }))
     ⊎ ((build_over core p random ≡ false) × ((operation : Operation) × (build_walk core p random ≡ Err operation) × (refusal ≡ record { line = 0; cause = Passes operation })))
 
 -- All three are read, and the program isn't built.
