@@ -1,3 +1,4 @@
+pub mod LongNumbers
 pub mod NumberRows
 pub mod LineRows
 pub mod SectionRows

@@ -1,7 +1,8 @@
 -- The rows of NumberValues, computed.
-use Rattle.std.proofs.Common.{refl, ap, pos, arith, Ok}
-use Rattle.std.specs.Prelude.{neg_ℤ}
+use Rattle.std.proofs.Common.{refl, ap, pos, negsuc, arith, Ok}
+use Rattle.std.specs.Prelude.{neg_ℤ, codes}
 use Rattle.rationals.specs.Rational.{frac_same, zero_ℚ}
+use Rattle.worked_values.proofs.LongNumbers.{reads_long, reads_shortened}
 use Rattle.worked_values.specs.NumberValues.{NumbersAreRead, WideNumbersAreTold}
 
 pub numbers : NumbersAreRead
@@ -80,9 +81,10 @@ wide_numbers = record {
   zeros_wide = refl;
   zero_high = refl;
   zero_low = refl;
-  digits_read = refl;
-  digits_fit = refl;
-  digits_wide = refl;
-  tenths_fit = refl;
-  tenths_wide = refl;
+  digits_fit = reads_long (codes "170141183460469231731687303715884105727") 170141183460469231731687303715884105726 (pos 0) _ refl refl refl;
+  digits_wide = reads_long (codes "-170141183460469231731687303715884105728") 170141183460469231731687303715884105727 (pos 0) _ refl refl refl;
+  tenths_fit = reads_long (codes "17014118346046923173168730371588410572.7") 170141183460469231731687303715884105726 (negsuc 0) _ refl refl refl;
+  tenths_wide = reads_long (codes "17014118346046923173168730371588410572.8") 170141183460469231731687303715884105727 (negsuc 0) _ refl refl refl;
+  last_zero_trimmed = reads_shortened (codes "17014118346046923173168730371588410572.70") 1701411834604692317316873037158841057268 (negsuc 1) _ refl refl refl refl;
+  long_product_wide = reads_shortened (codes "1701411834604692317316873037158841057270") 1701411834604692317316873037158841057268 (pos 0) _ refl refl refl refl;
 }

@@ -1,10 +1,9 @@
 -- Numbers as texts: each form, those that are wide, and those that are none.
 use Prim.Native.String.{String}
-use Rattle.std.specs.Prelude.{◌≡◌, ℕ, pos, neg_ℤ, ◌^◌, ◌*◌, ◌-◌, false, Ok, Err, codes}
+use Rattle.std.specs.Prelude.{◌≡◌, ℕ, pos, neg_ℤ, ◌^◌, ◌*◌, ◌-◌, Ok, Err, codes}
 use Rattle.rationals.specs.Rational.{ℚ, ◌÷◌}
 use Rattle.frac128.specs.declared.text.NumFault.TheVariants.{Bad, Wide}
-use Rattle.frac128.specs.Numbers.{literal, power_value, read_number}
-use Rattle.frac128.specs.Numbers.Literal.{decimal}
+use Rattle.frac128.specs.Numbers.{read_number}
 use Rattle.worked_values.specs.Told.{whole_ℚ, minus_ℚ}
 
 -- the largest size of a numerator and of a denominator
@@ -104,9 +103,10 @@ pub record WideNumbersAreTold : Type 0 where
   -- 0 is 0 with any exponent
   pub zero_high : Reads "0E9999" (whole_ℚ 0)
   pub zero_low : Reads "-0.0E-9999" (whole_ℚ 0)
-  -- by the whole number
-  pub digits_read : literal (codes "170141183460469231731687303715884105727") ≡ decimal largest (pos 0)
-  pub digits_fit : power_value false largest (pos 0) ≡ Ok (whole_ℚ largest)
-  pub digits_wide : power_value false 170141183460469231731687303715884105728 (pos 0) ≡ Err Wide
-  pub tenths_fit : power_value false largest (neg_ℤ (pos 1)) ≡ Ok (pos largest ÷ 10)
-  pub tenths_wide : power_value false 170141183460469231731687303715884105729 (neg_ℤ (pos 1)) ≡ Err Wide
+  -- by the whole number, of any length, that doesn't end in the digit 0
+  pub digits_fit : Reads "170141183460469231731687303715884105727" (whole_ℚ largest)
+  pub digits_wide : IsWide "-170141183460469231731687303715884105728"
+  pub tenths_fit : Reads "17014118346046923173168730371588410572.7" (pos largest ÷ 10)
+  pub tenths_wide : IsWide "17014118346046923173168730371588410572.8"
+  pub last_zero_trimmed : Reads "17014118346046923173168730371588410572.70" (pos largest ÷ 10)
+  pub long_product_wide : IsWide "1701411834604692317316873037158841057270"
