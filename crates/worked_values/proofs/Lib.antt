@@ -9,3 +9,4 @@ pub mod IntervalRows
 pub mod BoundRows
 pub mod PairRows
 pub mod FaultRows
+pub mod FileRows

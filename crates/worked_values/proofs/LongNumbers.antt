@@ -3,7 +3,7 @@ use Rattle.std.proofs.Common.{◌≡◌, ℕ, suc, ℤ, pos, Bool, true, false, 
 use Rattle.std.specs.Prelude.{◌%◌, ◌/◌, ◌==◌, ◌+ℤ◌}
 use Rattle.rationals.specs.Rational.{ℚ}
 use Rattle.frac128.specs.declared.text.NumFault.{NumFault}
-use Rattle.frac128.specs.Numbers.{literal, literal_value, decimal_value, power_value, trim, is_negative, after_sign, read_number}
+use Rattle.frac128.specs.Numbers.{literal, literal_value, power_value, trim, is_negative, after_sign, read_number}
 use Rattle.frac128.specs.Numbers.Literal.{decimal}
 
 stops : (k n : ℕ) (e : ℤ) → (n % 10 == 0) ≡ false → trim (suc k) n e ≡ (n, e)

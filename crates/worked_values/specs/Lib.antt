@@ -9,3 +9,4 @@ pub mod IntervalValues
 pub mod BoundValues
 pub mod BoundPairs
 pub mod FaultOrder
+pub mod FileValues

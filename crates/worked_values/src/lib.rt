@@ -12,6 +12,7 @@ ghost use Rattle.worked_values.specs.IntervalValues.{IntervalsAreAsDocumented};
 ghost use Rattle.worked_values.specs.BoundValues.{BoundsAreAsDocumented};
 ghost use Rattle.worked_values.specs.BoundPairs.{BoundPairsAreAsDocumented};
 ghost use Rattle.worked_values.specs.FaultOrder.{FaultsAreInOrder};
+ghost use Rattle.worked_values.specs.FileValues.{TheFileSays, MissingSectionsAreTold};
 
 /// Each form of a number is read as its value, and nothing else is a number.
 pub fn numbers_are_read()
@@ -71,4 +72,14 @@ pub fn bound_pairs_are_as_documented()
 /// Which of two faults of a line is named.
 pub fn faults_are_in_order()
     ensures { FaultsAreInOrder }
+{}
+
+/// What the first whole file of the document says.
+pub fn the_file_says()
+    ensures { TheFileSays }
+{}
+
+/// Which line is at fault where a section is missing.
+pub fn missing_sections_are_told()
+    ensures { MissingSectionsAreTold }
 {}
