@@ -29,8 +29,8 @@ column_behind earlier line =
     unless_refused (refused_behind (before_bounds ++ codes earlier) line) (bounds_of_a (before_bounds ++ codes earlier ++ codes line))
 
 -- between the first and the second; at least or at most so much; no bounds; refused
-abbrev pub between : ℚ → ℚ → Result Interval ℕ
-between low high = Ok (Some low, Some high)
+abbrev pub bounded_by : ℚ → ℚ → Result Interval ℕ
+bounded_by low high = Ok (Some low, Some high)
 
 abbrev pub at_least : ℚ → Result Interval ℕ
 at_least low = Ok (Some low, None)
@@ -58,16 +58,16 @@ pub record BoundsAreAsDocumented : Type 0 where
   -- one line alone
   pub lo : column_behind "" " LO BND A 1" ≡ at_least (whole_ℚ 1)
   pub lo_none : column_behind "" " LO BND A -1E30" ≡ unbounded
-  pub up : column_behind "" " UP BND A 5" ≡ between (whole_ℚ 0) (whole_ℚ 5)
-  pub up_zero : column_behind "" " UP BND A 0" ≡ between (whole_ℚ 0) (whole_ℚ 0)
+  pub up : column_behind "" " UP BND A 5" ≡ bounded_by (whole_ℚ 0) (whole_ℚ 5)
+  pub up_zero : column_behind "" " UP BND A 0" ≡ bounded_by (whole_ℚ 0) (whole_ℚ 0)
   pub up_none : column_behind "" " UP BND A 1E30" ≡ at_least (whole_ℚ 0)
   pub up_negative : column_behind "" " UP BND A -1" ≡ Err 23
-  pub fx : column_behind "" " FX BND A 2" ≡ between (whole_ℚ 2) (whole_ℚ 2)
+  pub fx : column_behind "" " FX BND A 2" ≡ bounded_by (whole_ℚ 2) (whole_ℚ 2)
   pub fr : column_behind "" " FR BND A" ≡ unbounded
   pub mi : column_behind "" " MI BND A" ≡ unbounded
   pub pl : column_behind "" " PL BND A" ≡ at_least (whole_ℚ 0)
   -- behind another line, ` UP BND A -1`
-  pub behind_lo : column_behind " LO BND A -5\n" " UP BND A -1" ≡ between (minus_ℚ 5) (minus_ℚ 1)
+  pub behind_lo : column_behind " LO BND A -5\n" " UP BND A -1" ≡ bounded_by (minus_ℚ 5) (minus_ℚ 1)
   pub behind_lo_zero : column_behind " LO BND A 0\n" " UP BND A -1" ≡ Err 22
   pub behind_fx : column_behind " FX BND A 2\n" " UP BND A -1" ≡ Err 22
   pub behind_fr : column_behind " FR BND A\n" " UP BND A -1" ≡ up_to (minus_ℚ 1)
@@ -79,14 +79,14 @@ pub record BoundsAreAsDocumented : Type 0 where
   pub lo_within : column_behind "" " LO BND A -9.99E29" ≡ at_least (minus_ℚ (999 * 10 ^ 27))
   pub lo_high : column_behind "" " LO BND A 1E30" ≡ at_least (whole_ℚ (10 ^ 30))
   pub up_beyond : column_behind "" " UP BND A 2E30" ≡ at_least (whole_ℚ 0)
-  pub up_within : column_behind "" " UP BND A 9.99E29" ≡ between (whole_ℚ 0) (whole_ℚ (999 * 10 ^ 27))
+  pub up_within : column_behind "" " UP BND A 9.99E29" ≡ bounded_by (whole_ℚ 0) (whole_ℚ (999 * 10 ^ 27))
   pub up_low : column_behind " FR BND A\n" " UP BND A -1E30" ≡ up_to (minus_ℚ (10 ^ 30))
-  pub fx_high : column_behind "" " FX BND A 1E30" ≡ between (whole_ℚ (10 ^ 30)) (whole_ℚ (10 ^ 30))
-  pub fx_low : column_behind "" " FX BND A -1E30" ≡ between (minus_ℚ (10 ^ 30)) (minus_ℚ (10 ^ 30))
+  pub fx_high : column_behind "" " FX BND A 1E30" ≡ bounded_by (whole_ℚ (10 ^ 30)) (whole_ℚ (10 ^ 30))
+  pub fx_low : column_behind "" " FX BND A -1E30" ≡ bounded_by (minus_ℚ (10 ^ 30)) (minus_ℚ (10 ^ 30))
   -- without a set name
   pub lo_plain : column_behind "" " LO A 1" ≡ at_least (whole_ℚ 1)
-  pub up_plain : column_behind "" " UP A 5" ≡ between (whole_ℚ 0) (whole_ℚ 5)
-  pub fx_plain : column_behind "" " FX A 2" ≡ between (whole_ℚ 2) (whole_ℚ 2)
+  pub up_plain : column_behind "" " UP A 5" ≡ bounded_by (whole_ℚ 0) (whole_ℚ 5)
+  pub fx_plain : column_behind "" " FX A 2" ≡ bounded_by (whole_ℚ 2) (whole_ℚ 2)
   pub fr_plain : column_behind "" " FR A" ≡ unbounded
   pub mi_plain : column_behind " UP A 5\n" " MI A" ≡ up_to (whole_ℚ 5)
   pub pl_plain : column_behind " UP A 5\n" " PL A" ≡ at_least (whole_ℚ 0)
@@ -104,15 +104,15 @@ pub record BoundsAreAsDocumented : Type 0 where
   pub mi_one : column_behind "" " MI" ≡ Err 18
   pub pl_one : column_behind "" " PL" ≡ Err 18
   -- the set of the first line is used, and lines without a set name are a set of their own
-  pub other_set : column_behind " UP BND A 5\n" " UP OTHER A 7" ≡ between (whole_ℚ 0) (whole_ℚ 5)
-  pub other_unknown : column_behind " UP BND A 5\n" " UP OTHER Q x" ≡ between (whole_ℚ 0) (whole_ℚ 5)
-  pub set_without_name : column_behind " UP A 5\n" " UP BND A 7" ≡ between (whole_ℚ 0) (whole_ℚ 5)
-  pub name_left_out : column_behind " UP BND A 5\n" " UP A 7" ≡ between (whole_ℚ 0) (whole_ℚ 5)
+  pub other_set : column_behind " UP BND A 5\n" " UP OTHER A 7" ≡ bounded_by (whole_ℚ 0) (whole_ℚ 5)
+  pub other_unknown : column_behind " UP BND A 5\n" " UP OTHER Q x" ≡ bounded_by (whole_ℚ 0) (whole_ℚ 5)
+  pub set_without_name : column_behind " UP A 5\n" " UP BND A 7" ≡ bounded_by (whole_ℚ 0) (whole_ℚ 5)
+  pub name_left_out : column_behind " UP BND A 5\n" " UP A 7" ≡ bounded_by (whole_ℚ 0) (whole_ℚ 5)
   pub other_fields : column_behind " UP BND A 5\n" " UP OTHER A 7 8" ≡ Err 18
   pub other_kind : column_behind " UP BND A 5\n" " BV OTHER A" ≡ Err 21
   -- lines of another column set nothing of this one
-  pub other_column : column_behind " UP BND A 5\n" " FR BND B" ≡ between (whole_ℚ 0) (whole_ℚ 5)
+  pub other_column : column_behind " UP BND A 5\n" " FR BND B" ≡ bounded_by (whole_ℚ 0) (whole_ℚ 5)
   -- the lower bound is above the upper
   pub lo_crosses : column_behind " UP BND A 5\n" " LO BND A 6" ≡ Err 22
   pub up_crosses : column_behind " LO BND A 6\n" " UP BND A 5" ≡ Err 22
-  pub equal_fits : column_behind " UP BND A 5\n" " LO BND A 5" ≡ between (whole_ℚ 5) (whole_ℚ 5)
+  pub equal_fits : column_behind " UP BND A 5\n" " LO BND A 5" ≡ bounded_by (whole_ℚ 5) (whole_ℚ 5)

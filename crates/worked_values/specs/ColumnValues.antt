@@ -12,21 +12,21 @@ abbrev pub example_columns : List ℕ
 example_columns = example_rows ++ codes "COLUMNS\n A COST -3 LIM1 1\n A NEED 1\n B WEIGHT 20 SUM 2.5E1\n B NEED 0\n"
 
 -- the value of a column in a row
-abbrev pub value_at : String → String → ℚ
-value_at column row = entry_in (lines_told example_columns) (codes column) (codes row)
+abbrev pub value_stated : String → String → ℚ
+value_stated column row = entry_in (lines_told example_columns) (codes column) (codes row)
 
 pub record ColumnsAreAsDocumented : Type 0 where
   pub named : columns (lines_told example_columns) ≡ codes "A" ∷ codes "B" ∷ []
   -- A costs -3 and has the entry 1 in LIM1 and in NEED
-  pub a_cost : value_at "A" "COST" ≡ minus_ℚ 3
-  pub a_limit : value_at "A" "LIM1" ≡ whole_ℚ 1
-  pub a_need : value_at "A" "NEED" ≡ whole_ℚ 1
-  pub a_sum : value_at "A" "SUM" ≡ whole_ℚ 0
+  pub a_cost : value_stated "A" "COST" ≡ minus_ℚ 3
+  pub a_limit : value_stated "A" "LIM1" ≡ whole_ℚ 1
+  pub a_need : value_stated "A" "NEED" ≡ whole_ℚ 1
+  pub a_sum : value_stated "A" "SUM" ≡ whole_ℚ 0
   -- B costs 0 and has the entry 25 in SUM
-  pub b_cost : value_at "B" "COST" ≡ whole_ℚ 0
-  pub b_limit : value_at "B" "LIM1" ≡ whole_ℚ 0
-  pub b_need : value_at "B" "NEED" ≡ whole_ℚ 0
-  pub b_sum : value_at "B" "SUM" ≡ whole_ℚ 25
+  pub b_cost : value_stated "B" "COST" ≡ whole_ℚ 0
+  pub b_limit : value_stated "B" "LIM1" ≡ whole_ℚ 0
+  pub b_need : value_stated "B" "NEED" ≡ whole_ℚ 0
+  pub b_sum : value_stated "B" "SUM" ≡ whole_ℚ 25
   -- a value 0 is no entry, and one in an N row is none of a constraint
   pub entries : count_entries (constraints (lines_told example_columns)) (entry_pairs (lines_told example_columns)) ≡ 3
   -- a column is at least 0 and has no upper bound where BOUNDS says nothing else

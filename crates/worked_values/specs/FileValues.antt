@@ -21,15 +21,15 @@ whole_file =
     ++ codes "COLUMNS\n A COST -3 LIM1 1\n A LIM2 1 NEED 1\n B COST -2 LIM1 1\n B LIM2 3\n"
     ++ codes "RHS\n RHS LIM1 4 LIM2 6\n RHS NEED 1\nRANGES\n RNG LIM1 3\nBOUNDS\n UP BND B 5/2\nENDATA\n"
 
-abbrev pub entry_at : String → String → ℚ
-entry_at column row = entry_in (lines_told whole_file) (codes column) (codes row)
+abbrev pub entry_stated : String → String → ℚ
+entry_stated column row = entry_in (lines_told whole_file) (codes column) (codes row)
 
 -- the interval of a constraint of this kind
-abbrev pub ends_of : RowKind → String → Result Interval Operation
-ends_of kind row = interval_walk kind (rhs_in (lines_told whole_file) (codes row)) (range_in (lines_told whole_file) (codes row))
+abbrev pub interval_stated : RowKind → String → Result Interval Operation
+interval_stated kind row = interval_walk kind (rhs_in (lines_told whole_file) (codes row)) (range_in (lines_told whole_file) (codes row))
 
-abbrev pub bounds_of : String → Interval
-bounds_of column = both_bounds (bounds_in (lines_told whole_file) (codes column))
+abbrev pub bounds_stated : String → Interval
+bounds_stated column = both_bounds (bounds_in (lines_told whole_file) (codes column))
 
 -- what the file says
 pub record TheFileSays : Type 0 where
@@ -39,37 +39,37 @@ pub record TheFileSays : Type 0 where
   pub kinds : constraint_kinds (lines_told whole_file) ≡ Less ∷ Less ∷ Greater ∷ []
   pub named : columns (lines_told whole_file) ≡ codes "A" ∷ codes "B" ∷ []
   -- -3 A - 2 B is the cost
-  pub cost_a : entry_at "A" "COST" ≡ minus_ℚ 3
-  pub cost_b : entry_at "B" "COST" ≡ minus_ℚ 2
+  pub cost_a : entry_stated "A" "COST" ≡ minus_ℚ 3
+  pub cost_b : entry_stated "B" "COST" ≡ minus_ℚ 2
   -- A + B lies between 1 and 4
-  pub first_a : entry_at "A" "LIM1" ≡ whole_ℚ 1
-  pub first_b : entry_at "B" "LIM1" ≡ whole_ℚ 1
-  pub first_ends : ends_of Less "LIM1" ≡ Ok (Some (whole_ℚ 1), Some (whole_ℚ 4))
+  pub first_a : entry_stated "A" "LIM1" ≡ whole_ℚ 1
+  pub first_b : entry_stated "B" "LIM1" ≡ whole_ℚ 1
+  pub first_ends : interval_stated Less "LIM1" ≡ Ok (Some (whole_ℚ 1), Some (whole_ℚ 4))
   -- A + 3 B is at most 6
-  pub second_a : entry_at "A" "LIM2" ≡ whole_ℚ 1
-  pub second_b : entry_at "B" "LIM2" ≡ whole_ℚ 3
-  pub second_ends : ends_of Less "LIM2" ≡ Ok (None, Some (whole_ℚ 6))
+  pub second_a : entry_stated "A" "LIM2" ≡ whole_ℚ 1
+  pub second_b : entry_stated "B" "LIM2" ≡ whole_ℚ 3
+  pub second_ends : interval_stated Less "LIM2" ≡ Ok (None, Some (whole_ℚ 6))
   -- A is at least 1
-  pub third_a : entry_at "A" "NEED" ≡ whole_ℚ 1
-  pub third_b : entry_at "B" "NEED" ≡ whole_ℚ 0
-  pub third_ends : ends_of Greater "NEED" ≡ Ok (Some (whole_ℚ 1), None)
+  pub third_a : entry_stated "A" "NEED" ≡ whole_ℚ 1
+  pub third_b : entry_stated "B" "NEED" ≡ whole_ℚ 0
+  pub third_ends : interval_stated Greater "NEED" ≡ Ok (Some (whole_ℚ 1), None)
   -- A and B are at least 0, and B is at most 5/2
-  pub bounds_a : bounds_of "A" ≡ (Some (whole_ℚ 0), None)
-  pub bounds_b : bounds_of "B" ≡ (Some (whole_ℚ 0), Some (pos 5 ÷ 2))
+  pub bounds_a : bounds_stated "A" ≡ (Some (whole_ℚ 0), None)
+  pub bounds_b : bounds_stated "B" ≡ (Some (whole_ℚ 0), Some (pos 5 ÷ 2))
 
 -- the line with this number is at fault, for this cause
-abbrev pub IsRefusedAt : String → ℕ → Cause → Type 0
-IsRefusedAt text line why = IsFault (lines_told (codes text)) (reading_of 0 (codes text)).end_line (record { line = line; cause = why })
+abbrev pub IsAtFault : String → ℕ → Cause → Type 0
+IsAtFault text line why = IsFault (lines_told (codes text)) (reading_of 0 (codes text)).end_line (record { line = line; cause = why })
 
 -- A missing section is looked for last, and named at the line behind the last of the whole text.
 pub record MissingSectionsAreTold : Type 0 where
-  pub empty : IsRefusedAt "" 1 cause.SectionMissing
-  pub no_end : IsRefusedAt "NAME COVER\nROWS\n N COST\nCOLUMNS\n X COST 1\n" 6 cause.SectionMissing
+  pub empty : IsAtFault "" 1 cause.SectionMissing
+  pub no_end : IsAtFault "NAME COVER\nROWS\n N COST\nCOLUMNS\n X COST 1\n" 6 cause.SectionMissing
   -- also where text follows ENDATA
-  pub no_columns : IsRefusedAt "ROWS\n N COST\nENDATA\nSOUP\n" 5 cause.SectionMissing
+  pub no_columns : IsAtFault "ROWS\n N COST\nENDATA\nSOUP\n" 5 cause.SectionMissing
   -- where ENDATA is missing all lines are looked at first, and where COLUMNS is missing those of the later sections
-  pub line_first : IsRefusedAt "ROWS\n N COST\nCOLUMNS\n X COST x\n" 4 cause.NumberBad
-  pub later_section : IsRefusedAt "ROWS\n N COST\nRHS\n COST x\nENDATA\n" 4 cause.NumberBad
+  pub line_first : IsAtFault "ROWS\n N COST\nCOLUMNS\n X COST x\n" 4 cause.NumberBad
+  pub later_section : IsAtFault "ROWS\n N COST\nRHS\n COST x\nENDATA\n" 4 cause.NumberBad
   -- where ROWS is missing the line COLUMNS is at fault; where both are missing the cause is 12 again
-  pub no_rows : IsRefusedAt "NAME MIX\n\nCOLUMNS\n X COST 1\nENDATA\n" 3 cause.NoObjective
-  pub neither : IsRefusedAt "NAME MIX\nENDATA\n" 3 cause.SectionMissing
+  pub no_rows : IsAtFault "NAME MIX\n\nCOLUMNS\n X COST 1\nENDATA\n" 3 cause.NoObjective
+  pub neither : IsAtFault "NAME MIX\nENDATA\n" 3 cause.SectionMissing
