@@ -1,0 +1,12 @@
+pub mod LongNumbers
+pub mod NumberRows
+pub mod LineRows
+pub mod SectionRows
+pub mod RowRows
+pub mod ColumnRows
+pub mod SetRows
+pub mod IntervalRows
+pub mod BoundRows
+pub mod PairRows
+pub mod FaultRows
+pub mod FileRows

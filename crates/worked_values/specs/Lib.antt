@@ -1,0 +1,12 @@
+pub mod Told
+pub mod NumberValues
+pub mod LineValues
+pub mod SectionValues
+pub mod RowValues
+pub mod ColumnValues
+pub mod SetValues
+pub mod IntervalValues
+pub mod BoundValues
+pub mod BoundPairs
+pub mod FaultOrder
+pub mod FileValues
