@@ -1,4 +1,8 @@
 //! Texts and the programs that they mean. The table is one text, since each member of an array is a step of the proof.
+ghost use Rattle.std.specs.Prelude.{IfOk};
+ghost use Rattle.tree_build.specs.Values.{stages};
+ghost use Rattle.tree_build.specs.Walks.{Fits};
+
 mod outcome;
 mod programs;
 
@@ -14,13 +18,18 @@ use std::test::Fail;
 use tree_build::build;
 
 fn core_of(alloc: Global, text: &str) -> Result<Core, Fail> {
+    if text.len() > 8_000_000 {
+        return Err("a long text")?;
+    }
     match read_core(alloc, text.as_bytes()) {
         Ok(core) => Ok(core),
         Err(_) => Err("the core isn't read")?,
     }
 }
 
-fn periods_of(alloc: Global, core: &Core, text: &str) -> Result<Periods, Fail> {
+fn periods_of(alloc: Global, core: &Core, text: &str) -> Result<Periods, Fail>
+    ensures { IfOk result (λ periods. Fits core.now (stages periods)) }
+{
     if text.len() > 8_000_000 {
         return Err("a long text")?;
     }
