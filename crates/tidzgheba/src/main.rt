@@ -1,40 +1,70 @@
 //! The program `tidzgheba`: runs its words over the files of the system and standard output.
 #![tactic(auto)]
 
+mod causes;
 mod explain;
+mod files;
+mod lines;
+mod refusal;
+mod unused;
+mod unused_text;
+mod visible;
 
-use explain::explanation;
+use explain::{MEMORY, NOT_TEXT, UNEXPLAINED, explanation};
 use smps_cli::{Status, run};
 use smps_io::{RealShelf, RealSink};
 use std::alloc::{AllocError, Global};
 use std::process::ExitCode;
 use std::{env, io};
 
-/// Ends with the number of the status; a sentence on standard error says what a number from 2 on means.
+/// Ends with the number of the status.
 fn main(rt: HostRuntime) -> ExitCode {
-    let status = match words(&rt) {
-        Ok(words) => run(
-            &rt,
-            rt.alloc(),
-            &words,
-            &mut RealShelf::new(),
-            &mut RealSink::new(),
-        ),
-        Err(AllocError) => Status::Memory,
-    };
-    if let Some(sentence) = explanation(&status) {
-        let _ = rt.eprintln(sentence);
-    }
-    ExitCode::from(status.number())
+    ExitCode::from(outcome(&rt).number())
 }
 
-/// The words behind the program's own name. Where one of them isn't UTF-8 they are one empty word, which
-/// is no command.
-fn words(rt: &HostRuntime) -> Result<Vec<String>, AllocError> {
-    let alloc = rt.alloc();
+/// Runs the program's words; standard error says what their status means where the output doesn't say all.
+fn outcome(rt: &HostRuntime) -> Status {
+    match words(rt) {
+        Ok(Some(words)) => {
+            let status = status_of(rt, &words);
+            tell(rt, &words, &status);
+            status
+        }
+        Ok(None) => {
+            let _ = rt.eprint(NOT_TEXT);
+            status_of(rt, &[])
+        }
+        Err(AllocError) => {
+            let _ = rt.eprint(MEMORY);
+            Status::Memory
+        }
+    }
+}
+
+fn status_of(rt: &HostRuntime, words: &[String]) -> Status {
+    run(
+        rt,
+        rt.alloc(),
+        words,
+        &mut RealShelf::new(),
+        &mut RealSink::new(),
+    )
+}
+
+/// Writes the explanation of a status to standard error. That memory or standard error is wanting changes no status.
+fn tell(rt: &HostRuntime, words: &[String], status: &Status) {
+    let _ = match explanation(rt, rt.alloc(), words, status) {
+        Ok(text) => rt.eprint(text.as_str()),
+        Err(AllocError) if *status == Status::Memory => rt.eprint(MEMORY),
+        Err(AllocError) => rt.eprint(UNEXPLAINED),
+    };
+}
+
+/// The words behind the program's own name; none where one of them isn't UTF-8.
+fn words(rt: &HostRuntime) -> Result<Option<Vec<String>>, AllocError> {
     match env::args(rt) {
-        Ok(words) => words.skip(1).collect(alloc),
+        Ok(words) => Ok(Some(words.skip(1).collect(rt.alloc())?)),
         Err(error) if error.kind() == io::ErrorKind::OutOfMemory => Err(AllocError),
-        Err(_) => Ok(vec![in alloc; String::new(alloc)]?),
+        Err(_) => Ok(None),
     }
 }

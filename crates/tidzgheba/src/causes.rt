@@ -1,0 +1,61 @@
+//! What a cause of a refusal is, in one sentence.
+use mps_core::Cause;
+use smps_cli::FileKind;
+
+/// The sentence for a cause in a file. The numbers that some causes carry stand on standard output.
+pub fn sentence(file: FileKind, cause: Cause) -> &'static str {
+    match cause {
+        Cause::SectionUnknown => "that header isn't a section of the file",
+        Cause::SectionOrder => "that line stands out of order, or no section takes it",
+        Cause::SectionMissing => missing(file),
+        Cause::RowKind => "that row's kind isn't N, L, G or E",
+        Cause::RowTwice => "that row's name was there before",
+        Cause::RowUnknown => "that row isn't stated in ROWS",
+        Cause::ColumnSplit => "that column's lines don't stand together",
+        Cause::EntryTwice => "that row is named twice",
+        Cause::FieldCount => "that line has too many or too few fields",
+        Cause::NumberBad => "that field isn't a number",
+        Cause::NumberWide => "that number doesn't fit into 128 bits",
+        Cause::BoundKind => "that bound's kind isn't LO, UP, FX, FR, MI or PL",
+        Cause::BoundsCross => "that column's lower bound is above its upper bound",
+        Cause::UpperNegative =>
+            "that upper bound is below 0, and the column's lower bound isn't stated before it",
+        Cause::IntegerMarker => "integer columns aren't solved",
+        Cause::ObjectiveRhs => "the objective has a right-hand side other than 0",
+        Cause::NoObjective => "no N row stands before COLUMNS",
+        Cause::RangeOnFree => "that N row has no end for a range",
+        Cause::ColumnUnknown => "that column isn't stated in COLUMNS",
+        Cause::CoreLimit =>
+            "there are more than 4,000 constraints, 4,000 columns or 100,000 entries",
+        Cause::StartUnknown => "that line's column or row isn't one where a period can start",
+        Cause::PeriodOrder => "that period doesn't start behind the one before it",
+        Cause::PeriodTwice => "that period's name was there before",
+        Cause::NotTriangular { row: _, column: _ } =>
+            "a row has an entry of a column of a later period",
+        Cause::PeriodCount => "there are more than 16 periods, or none",
+        Cause::PeriodUnknown => "that row's or column's period isn't one of PERIODS",
+        Cause::RowMissing(_) => "a row of the core has no period",
+        Cause::ColumnMissing(_) => "a column of the core has no period",
+        Cause::PlaceTwice => "that row or column stands on an earlier line",
+        Cause::KindUnknown => "that section's words aren't known",
+        Cause::EntryUnknown => "that column and row name no entry",
+        Cause::EntryStage => "that entry's period doesn't fit",
+        Cause::ProbabilityRange => "that probability isn't above 0, or is above 1",
+        Cause::ProbabilitySum(_) => "the probabilities add up to a number too far from 1",
+        Cause::ParentUnknown => "that parent isn't ROOT or an earlier scenario",
+        Cause::BranchPeriod => "that period isn't known, or no scenario can branch there",
+        Cause::ScenarioTwice => "that scenario's name was there before",
+        Cause::ScenariosMixed => "SCENARIOS can't stand beside another kind of section",
+        Cause::ScenarioLimit => "there are too many scenarios, nodes or entries",
+        Cause::Passes(_) => "an end of a row doesn't fit into 128 bits",
+    }
+}
+
+/// Which sections a file can't do without.
+fn missing(file: FileKind) -> &'static str {
+    match file {
+        FileKind::Core => "COLUMNS or ENDATA is missing",
+        FileKind::Time => "PERIODS or ENDATA is missing",
+        _ => "a section or ENDATA is missing",
+    }
+}

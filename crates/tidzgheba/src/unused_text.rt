@@ -1,0 +1,63 @@
+//! What standard error says of lines that aren't used.
+use crate::files::read_again;
+use crate::refusal::put_file;
+use crate::unused::{Section, Set, Unused, unused_lines};
+use crate::visible::push_visible;
+use command_words::Sources;
+use smps_cli::FileKind;
+use std::alloc::{AllocError, Global};
+use std::fmt::Write;
+use std::rt::Runtime;
+
+/// Appends a sentence for each section of the core file that has lines of another set than the one used. A file that
+/// can't be read again gets none.
+pub fn put_unused<R: Runtime>(
+    rt: &R,
+    alloc: Global,
+    text: &mut String,
+    sources: &Sources<'_>,
+) -> Result<(), AllocError> {
+    let Some(bytes) = read_again(rt, alloc, sources.core) else {
+        return Ok(());
+    };
+    for section in [Section::Rhs, Section::Ranges, Section::Bounds] {
+        if let Some(unused) = unused_lines(&bytes, section) {
+            put_file(text, sources, FileKind::Core)?;
+            put_sentence(text, section, &unused)?;
+        }
+    }
+    Ok(())
+}
+
+fn put_sentence(
+    text: &mut String,
+    section: Section,
+    unused: &Unused<'_>,
+) -> Result<(), AllocError> {
+    let word = section.word();
+    let line = unused.line;
+    let count = unused.count;
+    write!(text, ", line {line}: ")?;
+    if count == 1 {
+        write!(text, "one line of {word} isn't used; it has ")?;
+    } else {
+        write!(
+            text,
+            "{count} lines of {word} aren't used; this one, the first, has "
+        )?;
+    }
+    put_set(text, unused.set)?;
+    text.push_str(", and only lines with ")?;
+    put_set(text, unused.used)?;
+    text.push_str(" are used\n")
+}
+
+fn put_set(text: &mut String, set: Set<'_>) -> Result<(), AllocError> {
+    match set.name {
+        Some(name) => {
+            text.push_str("the set ")?;
+            push_visible(text, name)
+        }
+        None => text.push_str("no set name"),
+    }
+}
