@@ -11,6 +11,45 @@ use std::rt::Runtime;
 /// The document has at most so many bytes.
 const LIMIT: u64 = 1_000_000;
 
+/// The core file `examples/cover.cor`.
+const COVER: &str = "\
+NAME COVER
+ROWS
+ N COST
+ G DEMAND
+COLUMNS
+ X COST 1 DEMAND 1
+ Y COST 3/2 DEMAND 1
+RHS
+ RHS DEMAND 2
+ENDATA
+";
+
+/// The time file `examples/cover.tim`.
+const TIMES: &str = "\
+TIME COVER
+PERIODS
+ X COST P1
+ Y DEMAND P2
+ENDATA
+";
+
+/// The stoch file `examples/cover.sto`, and what is printed for the three.
+const CASES: &str = "\
+STOCH COVER
+INDEP DISCRETE
+ RHS DEMAND 2 P2 0.5
+ RHS DEMAND 6 P2 0.5
+ENDATA
+";
+
+const SHOWN: &str = "\
+PERIODS 2 COLUMNS 2 ROWS 1 NODES 3 SCENARIOS 2
+SCENARIO S1 1/2 0 1
+SCENARIO S2 1/2 0 2
+END
+";
+
 /// What stands between a file and the line that is printed for it.
 const BEHIND: &str = "\nprints `";
 
@@ -54,6 +93,10 @@ fn ended(rt: &HostRuntime, counts: Result<(u64, u64), AllocError>) -> ExitCode {
 fn examined(rt: &HostRuntime, alloc: Global, text: &str) -> Result<(u64, u64), AllocError> {
     let mut right = 0u64;
     let mut wrong = 0u64;
+    let words = "show --core COVER --time TIMES --stoch F";
+    if !is_answered(rt, alloc, words, CASES.as_bytes(), SHOWN.as_bytes())? {
+        wrong = 1;
+    }
     let mut before: &[u8] = &[];
     for part in text.split("```\n") {
         if let Some(line) = printed_line(part) {
@@ -76,22 +119,49 @@ fn printed_line(part: &str) -> Option<&str> {
     Some(line)
 }
 
-/// Whether a file is answered with this line.
+/// Whether a file is answered with this line. A core file is solved; a time file is shown with the core of `cover`, and a
+/// stoch file with its core and its time file.
 fn is_refused<R: Runtime>(
     rt: &R,
     alloc: Global,
     file: &[u8],
     line: &str,
 ) -> Result<bool, AllocError> {
-    let words = vec![in alloc;
-        String::from_str(alloc, "solve")?,
-        String::from_str(alloc, "--core")?,
-        String::from_str(alloc, "F")?,
+    let words = if line.starts_with("refused time") {
+        "show --core COVER --time F"
+    } else if line.starts_with("refused stoch") {
+        "show --core COVER --time TIMES --stoch F"
+    } else {
+        "solve --core F"
+    };
+    let expected = format!(in alloc; "{line}\n")?;
+    is_answered(rt, alloc, words, file, expected.as_bytes())
+}
+
+/// Whether a run with these words, over this file F and the files of `cover`, writes just this.
+fn is_answered<R: Runtime>(
+    rt: &R,
+    alloc: Global,
+    text: &str,
+    file: &[u8],
+    expected: &[u8],
+) -> Result<bool, AllocError> {
+    let mut words = Vec::new(alloc);
+    for word in text.split_whitespace() {
+        words.push(String::from_str(alloc, word)?)?;
+    }
+    let files = vec![in alloc;
+        (String::from_str(alloc, "F")?, file.to_vec(alloc)?),
+        (
+            String::from_str(alloc, "COVER")?,
+            COVER.as_bytes().to_vec(alloc)?
+        ),
+        (
+            String::from_str(alloc, "TIMES")?,
+            TIMES.as_bytes().to_vec(alloc)?
+        ),
     ]?;
-    let bytes = file.to_vec(alloc)?;
-    let files = vec![in alloc; (String::from_str(alloc, "F")?, bytes)]?;
     let mut sink = MemorySink::new(alloc, 4096, Vec::new(alloc));
     let _ = run(rt, alloc, &words, &mut NeverFails::new(files), &mut sink);
-    let expected = format!(in alloc; "{line}\n")?;
-    Ok(sink.bytes() == expected.as_bytes())
+    Ok(sink.bytes() == expected)
 }
