@@ -1,1 +1,2 @@
 pub mod RefusedLemmas
+pub mod CaseLemmas

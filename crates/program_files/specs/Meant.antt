@@ -9,6 +9,7 @@ use Rattle.time_defs.specs.Laws.{IsTimeReading}
 use Rattle.stoch_defs.specs.Random.{Random}
 use Rattle.stoch_defs.specs.Random.Random.{Blocks}
 use Rattle.stoch_defs.specs.File.{IsStochReading}
+use Rattle.stoch_defs.specs.Means.{meant}
 use Rattle.tree_build.specs.Walks.{build_over, build_walk}
 use Rattle.scen_defs.specs.Program.{Program}
 use Rattle.input_files.specs.Fetched.{Texts, file_limit}
@@ -33,10 +34,10 @@ abbrev pub MeansPeriods : Core → Option (List ℕ) → Stages → Type 0
 MeansPeriods core None p = p ≡ single_stages core
 MeansPeriods core (Some text) p = IsTimeReading core text (Ok p) × Means core (reading_of 0 text).lines p
 
--- These are the cases: those of the stoch file, or none.
+-- These are the cases: those that the stoch file's lines mean, taken together, which is read to its end; or none.
 abbrev pub MeansRandom : Core → Stages → Option (List ℕ) → Random → Type 0
 MeansRandom core p None random = random ≡ Blocks []
-MeansRandom core p (Some text) random = IsStochReading core p text (Ok random)
+MeansRandom core p (Some text) random = IsStochReading core p text (Ok random) × (random ≡ meant core p (reading_of 0 text).lines)
 
 -- The texts mean this program.
 pub record MeansProgram (texts : Texts) (program : Program) : Type 0 where
