@@ -1,0 +1,76 @@
+//! Looks at sets that hold every node with some property, and others too: what hasn't the property is taken out on the
+//! way, so that each number that was put in is taken out once at most.
+ghost use Rattle.std.specs.Prelude.{◌≡◌, ℕ, ◌<◌, ◌↔◌, ◌⊎◌, Bool, true, false, IsTrue, length, slice_index_or, MatchOption};
+ghost use Rattle.pass_table.specs.Marks.{HasNone, IsLeast};
+ghost use Rattle.pass_table.specs.Walks.{IsRising, IsGoodAt, IsFreshAt, IsOpenAt, IsReachedAt, IsReadyAt, KeepsAll};
+
+use crate::Marks;
+use crate::table::Solve;
+use crate::walks::{is_fresh, is_good, is_open, is_reached};
+
+/// The least node of the set that may be begun.
+pub fn next_ready(
+    candidates: &mut Marks,
+    parents: &[u32],
+    solves: &[Solve],
+    flying: &[bool],
+) -> Option<u32>
+    requires sizes { (length solves.now ≡ length parents.now) × (length flying.now ≡ length parents.now)
+        × (length candidates.old ≡ length parents.now) }
+    requires rising { IsRising parents.now }
+    ensures keeps { KeepsAll (IsReadyAt parents.now solves.now flying.now) candidates.old candidates.new }
+    ensures first { MatchOption result (HasNone candidates.new) (λ n. IsLeast candidates.new n
+        × IsReadyAt parents.now solves.now flying.now n) }
+{
+    'look: while let Some(node) = candidates.least() {
+        if is_ready(parents, solves, flying, node) {
+            return Some(node);
+        }
+        candidates.remove(node);
+    }
+    None
+}
+
+/// Whether a node may be begun.
+fn is_ready(parents: &[u32], solves: &[Solve], flying: &[bool], node: u32) -> bool
+    requires sizes { (length solves.now ≡ length parents.now) × (length flying.now ≡ length parents.now) }
+    requires within { node < length parents.now }
+    requires rising { IsRising parents.now }
+    ensures { IsTrue result ↔ IsReadyAt parents.now solves.now flying.now node }
+{
+    !flying[node as usize] && !is_fresh(parents, solves, node) && is_reached(parents, solves, node)
+}
+
+/// Whether every node of the set is open; takes open ones out up to the first that isn't.
+pub fn are_open(nodes: &mut Marks, parents: &[u32], solves: &[Solve]) -> bool
+    requires sizes { (length solves.now ≡ length parents.now) × (length nodes.old ≡ length parents.now) }
+    requires rising { IsRising parents.now }
+    ensures keeps { KeepsAll (λ n. IsOpenAt parents.now solves.now n → ⊥) nodes.old nodes.new }
+    ensures all { result ≡ true → HasNone nodes.new }
+    ensures some { result ≡ false → (n : ℕ) × ((slice_index_or nodes.new n false ≡ true) × (IsOpenAt parents.now solves.now n → ⊥)) }
+{
+    'look: while let Some(node) = nodes.least() {
+        if !is_open(parents, solves, node) {
+            return false;
+        }
+        nodes.remove(node);
+    }
+    true
+}
+
+/// Whether every node of the set was made with its ancestors' present last solves and has a point.
+pub fn are_good(nodes: &mut Marks, parents: &[u32], solves: &[Solve]) -> bool
+    requires sizes { (length solves.now ≡ length parents.now) × (length nodes.old ≡ length parents.now) }
+    requires rising { IsRising parents.now }
+    ensures keeps { KeepsAll (λ n. IsGoodAt parents.now solves.now n → ⊥) nodes.old nodes.new }
+    ensures all { result ≡ true → HasNone nodes.new }
+    ensures some { result ≡ false → (n : ℕ) × ((slice_index_or nodes.new n false ≡ true) × (IsGoodAt parents.now solves.now n → ⊥)) }
+{
+    'look: while let Some(node) = nodes.least() {
+        if !is_good(parents, solves, node) {
+            return false;
+        }
+        nodes.remove(node);
+    }
+    true
+}

@@ -1,0 +1,301 @@
+//! What is fresh, closed and complete, and what may be begun, kept event by event.
+ghost use Rattle.std.specs.Prelude.{◌≡◌, ℕ, ◌+◌, ◌<◌, ◌^◌, ◌↔◌, IsTrue, Some, None, IfOk, length, replicate, slice_index_or};
+ghost use Rattle.pass_table.specs.Marks.{nothing};
+ghost use Rattle.pass_table.specs.Walks.{IsRising, blank};
+ghost use Rattle.pass_table.specs.Readings.{AreWithin};
+
+use crate::Marks;
+use crate::looks::{are_good, are_open, next_ready};
+use crate::readings::{are_present, insert_family};
+use std::alloc::{AllocError, Global};
+
+/// A node's last solve in the present run.
+#[derive(Clone, Copy, Debug, PartialEq, Eq)]
+pub struct Solve {
+    /// The number of its commit; 0 where there is none.
+    pub commit: u64,
+    /// How many commits there were at its Begin.
+    pub since: u64,
+    pub point: bool,
+    /// Whether the children's pools still have the numbers that it read.
+    pub low: bool,
+}
+
+/// What stands where a node has no last solve.
+const NO_SOLVE: Solve = Solve {
+    commit: 0,
+    since: 0,
+    point: false,
+    low: false,
+};
+
+/// A solve in flight.
+#[derive(Clone, Copy, Debug, PartialEq, Eq)]
+pub struct Underway {
+    pub node: u32,
+    pub run: u64,
+    /// How many commits there were at its Begin.
+    pub since: u64,
+}
+
+/// A child's pool as a solve read it.
+#[derive(Clone, Copy, Debug, PartialEq, Eq)]
+pub struct Reading {
+    pub child: u32,
+    pub number: u64,
+}
+
+/// What stands for the machine's nodes and flights. Nothing but making it takes memory.
+#[derive(Drop)]
+pub struct Table {
+    parents: Vec<u32>,
+    solves: Vec<Solve>,
+    flying: Vec<bool>,
+    flights: Vec<Option<Underway>>,
+    /// Has every node that may be begun.
+    candidates: Marks,
+    /// Has every uppermost node that isn't fresh with a point.
+    unopen: Marks,
+    /// Has every uppermost node that wasn't made with its ancestors' present last solves, with a point.
+    ungood: Marks,
+    commits: u64,
+    run: u64,
+    closed: bool,
+    complete: bool,
+    ghost solves_long: { length solves.items ≡ length parents.items },
+    ghost flying_long: { length flying.items ≡ length parents.items },
+    ghost candidates_long: { length candidates ≡ length parents.items },
+    ghost unopen_long: { length unopen ≡ length parents.items },
+    ghost ungood_long: { length ungood ≡ length parents.items },
+    ghost rising: { IsRising parents.items },
+}
+
+impl Table {
+    ghost use Rattle.std.specs.Prelude.{true};
+    ghost use Rattle.pass_table.specs.Machine.{Machine, Flight, IsValid, IsLive, IsClosed, IsComplete, IsFlown, dropped, committed};
+    ghost use Rattle.pass_table.specs.Machine.{raised, opened};
+    ghost use Rattle.pass_table.specs.Fits.{Fits, Agrees, lists_of, Begins, IsHeld, HasRead, IsStart};
+
+    /// The table before any event.
+    pub fn start(alloc: Global, parents: Vec<u32>, workers: u32) -> Result<Table, AllocError>
+        requires places { 0 < length parents.items }
+        requires few { length parents.items < nothing }
+        requires rising { IsRising parents.items }
+        ensures { IfOk result (λ t. (m : Machine) → IsStart parents.items m → Fits t m) }
+    {
+        let places = parents.len();
+        let mut candidates = Marks::new(alloc, places as u32)?;
+        candidates.insert(0);
+        let mut unopen = Marks::new(alloc, places as u32)?;
+        unopen.insert(0);
+        let mut ungood = Marks::new(alloc, places as u32)?;
+        ungood.insert(0);
+        Ok(Table {
+            parents,
+            solves: no_solves(alloc, places)?,
+            flying: vec![in alloc; false; places]?,
+            flights: no_flights(alloc, workers)?,
+            candidates,
+            unopen,
+            ungood,
+            commits: 0,
+            run: 1,
+            closed: false,
+            complete: false,
+        })
+    }
+
+    /// Whether every node is fresh with a point.
+    pub fn is_closed(&self) -> bool
+        ensures { (m : Machine) → Fits self.now m → IsTrue result ↔ IsClosed m }
+    {
+        self.closed
+    }
+
+    /// Whether every node has a point that was made with its ancestors' present last solves.
+    pub fn is_complete(&self) -> bool
+        ensures { (m : Machine) → Fits self.now m → IsTrue result ↔ IsComplete m }
+    {
+        self.complete
+    }
+
+    /// How many places there are for nodes.
+    pub fn places(&self) -> usize
+        ensures { result ≡ length self.now.parents.items }
+    {
+        self.parents.len()
+    }
+
+    /// How many workers there are.
+    pub fn workers(&self) -> usize
+        ensures { result ≡ length self.now.flights.items }
+    {
+        self.flights.len()
+    }
+
+    /// How many commits there were.
+    pub fn commits(&self) -> u64
+        ensures { result ≡ self.now.commits }
+    {
+        self.commits
+    }
+
+    /// The number of the present run.
+    pub fn run(&self) -> u64
+        ensures { result ≡ self.now.run }
+    {
+        self.run
+    }
+
+    /// The worker's solve in flight.
+    pub fn flight(&self, worker: u32) -> Option<Underway>
+        requires { worker < length self.now.flights.items }
+        ensures { result ≡ slice_index_or self.now.flights.items worker None }
+    {
+        self.flights[worker as usize]
+    }
+
+    /// Whether the worker has a solve in flight, of a node with a place.
+    pub fn has_flight(&self, worker: u32) -> bool
+        ensures { IsTrue result → (worker < length self.now.flights.items)
+            × IsHeld self.now.flights.items worker (length self.now.parents.items) }
+    {
+        if worker as usize >= self.flights.len() {
+            return false;
+        }
+        match self.flights[worker as usize] {
+            Some(flight) => (flight.node as usize) < self.parents.len(),
+            None => false,
+        }
+    }
+
+    /// Begins the least node that may be begun, and answers it.
+    pub fn begin(&mut self, worker: u32) -> Option<u32>
+        requires worker { worker < length self.old.flights.items }
+        requires idle { slice_index_or self.old.flights.items worker None ≡ None }
+        ensures { (m : Machine) → IsValid m → Fits self.old m → Begins m worker result self.new }
+    {
+        let Some(node) = next_ready(
+            &mut self.candidates,
+            &self.parents,
+            &self.solves,
+            &self.flying,
+        ) else {
+            return None;
+        };
+        self.candidates.remove(node);
+        self.flying[node as usize] = true;
+        self.flights[worker as usize] = Some(Underway {
+            node,
+            run: self.run,
+            since: self.commits,
+        });
+        Some(node)
+    }
+
+    /// Commits a solve of the present run whose outcome is a point, or that there is none. `numbers` has the number of
+    /// each node's pool in the run's bank, `readings` what the solve read.
+    pub fn commit(&mut self, worker: u32, numbers: &[u64], readings: &[Reading], point: bool)
+        requires worker { worker < length self.old.flights.items }
+        requires held { IsHeld self.old.flights.items worker (length self.old.parents.items) }
+        requires numbers { AreWithin readings.now (length numbers.now) }
+        requires within { AreWithin readings.now (length self.old.parents.items) }
+        requires more { self.old.commits + 1 < 2 ^ 64 }
+        ensures { (m : Machine) (f : Flight) → IsValid m → Fits self.old m → IsFlown m f.node worker f
+            → HasRead m f numbers.now readings.now
+            → Fits self.new (committed m worker f point) }
+    {
+        let Some(flight) = self.flights[worker as usize] else {
+            unreachable!()
+        };
+        let low = are_present(numbers, readings);
+        self.flights[worker as usize] = None;
+        self.commits += 1;
+        self.flying[flight.node as usize] = false;
+        self.solves[flight.node as usize] = Solve {
+            commit: self.commits,
+            since: flight.since,
+            point,
+            low,
+        };
+        insert_family(&mut self.candidates, flight.node, readings);
+        insert_family(&mut self.unopen, flight.node, readings);
+        insert_family(&mut self.ungood, flight.node, readings);
+        self.answer();
+    }
+
+    /// Commits a solve that leaves no last solve: one of an earlier run, or one whose pivots ended or that passed.
+    pub fn forget(&mut self, worker: u32)
+        requires worker { worker < length self.old.flights.items }
+        requires held { IsHeld self.old.flights.items worker (length self.old.parents.items) }
+        requires more { self.old.commits + 1 < 2 ^ 64 }
+        ensures { (m : Machine) (f : Flight) → IsValid m → Fits self.old m → m.flight worker ≡ Some f → (f.run ≡ m.run → IsLive m f.node)
+            → Fits self.new (dropped m worker) }
+    {
+        let Some(flight) = self.flights[worker as usize] else {
+            unreachable!()
+        };
+        self.flights[worker as usize] = None;
+        self.commits += 1;
+        if flight.run == self.run {
+            self.flying[flight.node as usize] = false;
+            self.candidates.insert(flight.node);
+        }
+    }
+
+    /// The number of a node's pool in the run's bank rose.
+    pub fn raise(&mut self, pool: u32)
+        requires low { 0 < pool }
+        requires within { pool < length self.old.parents.items }
+        ensures { (m : Machine) → IsValid m → Fits self.old m → IsLive m pool → Fits self.new (raised m pool) }
+    {
+        let parent = self.parents[pool as usize];
+        let mut solve = self.solves[parent as usize];
+        solve.low = false;
+        self.solves[parent as usize] = solve;
+        self.candidates.insert(parent);
+        self.unopen.insert(parent);
+        self.answer();
+    }
+
+    /// Opens a run: all last solves are forgotten.
+    pub fn open(&mut self)
+        requires places { 0 < length self.old.parents.items }
+        requires more { self.old.run + 1 < 2 ^ 64 }
+        ensures { (m : Machine) (number : ℕ → ℕ) → IsValid m → Fits self.old m → Fits self.new (opened m number) }
+    {
+        self.solves.as_mut_slice().fill(NO_SOLVE);
+        self.flying.as_mut_slice().fill(false);
+        self.candidates.clear();
+        self.candidates.insert(0);
+        self.unopen.clear();
+        self.unopen.insert(0);
+        self.ungood.clear();
+        self.ungood.insert(0);
+        self.run += 1;
+        self.closed = false;
+        self.complete = false;
+    }
+
+    /// Finds the two answers.
+    fn answer(&mut self)
+        ensures { (m : Machine) → IsValid m → Agrees (lists_of self.old) m → Fits self.new m }
+    {
+        self.closed = are_open(&mut self.unopen, &self.parents, &self.solves);
+        self.complete = are_good(&mut self.ungood, &self.parents, &self.solves);
+    }
+}
+
+/// No node has a last solve.
+fn no_solves(alloc: Global, places: usize) -> Result<Vec<Solve>, AllocError>
+    ensures { IfOk result (λ v. v.items ≡ replicate places blank) }
+{
+    vec![in alloc; NO_SOLVE; places]
+}
+
+/// No worker has a solve in flight.
+fn no_flights(alloc: Global, workers: u32) -> Result<Vec<Option<Underway>>, AllocError>
+    ensures { IfOk result (λ v. v.items ≡ replicate workers None) }
+{
+    vec![in alloc; None; workers as usize]
+}
