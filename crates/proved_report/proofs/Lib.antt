@@ -1,0 +1,5 @@
+pub mod FitLemmas
+pub mod ShownLemmas
+pub mod PassLemmas
+pub mod ReportLemmas
+pub mod CountLemmas

@@ -1,0 +1,11 @@
+use Rattle.std.proofs.Common.{length}
+use Rattle.scen_defs.specs.Fits.{HaveNames}
+use Rattle.proved_report.specs.Tested.{seen, IsSlope}
+use Rattle.proved_report.proofs.ShownLemmas.{if-kept}
+use Rattle.proved_report.proofs.tested.test_direction.Goals as goal
+
+pub returns-clause-names : goal.returns-clause-names
+returns-clause-names c = if-kept c.args.direction c.slope-computed.result c.kept.result (λ _ values. HaveNames (length c.args.program.now.columns.items) values) c.kept.ensures c.slope-computed.ensures.names
+
+pub returns-clause-shows : goal.returns-clause-shows
+returns-clause-shows c = λ tree. if-kept c.args.direction c.slope-computed.result c.kept.result (IsSlope (seen c.args.program.now)) c.kept.ensures (c.slope-computed.ensures.shows tree)

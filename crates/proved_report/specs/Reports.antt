@@ -1,0 +1,77 @@
+-- The report of lists that were tested, from one that is left open without ends and lists.
+use Rattle.std.specs.Prelude.{◌≡◌, ℕ, ◌<◌, ◌^◌, length, Option, Some, None}
+use Rattle.rationals.specs.Rational.{ℚ}
+use Rattle.rationals.specs.Order.{same}
+use Rattle.scen_defs.specs.Lists.{pick}
+use Rattle.scen_defs.specs.declared.program.Program.{Program}
+use Rattle.scen_defs.specs.declared.report.Finding.{Finding}
+use Rattle.scen_defs.specs.declared.report.Finding.TheVariants.{Optimal, Infeasible, Unbounded}
+use Rattle.scen_defs.specs.declared.report.Report.{Report}
+use Rattle.proved_report.specs.declared.tested.Tested.{Tested}
+use Rattle.proved_report.specs.declared.tested.Tested.TheVariants.{Shows, Fails, Passes}
+use Rattle.proved_report.specs.Tested.{seen, number_of}
+
+-- a report without ends and lists
+abbrev pub blank_report : ℕ → ℕ → ℕ → Finding → Report
+blank_report number nodes scenarios finding = record {
+  number = number;
+  nodes = nodes;
+  scenarios = scenarios;
+  finding = finding;
+  lower = None;
+  upper = None;
+  extra = None;
+  policy = None;
+  direction = None;
+  dual = None;
+  ray = None;
+}
+
+-- equal ends are OPTIMAL
+abbrev pub ends_finding : Option ℚ → Option ℚ → Finding → Finding
+ends_finding None upper finding = finding
+ends_finding (Some lower) None finding = finding
+ends_finding (Some lower) (Some upper) finding = pick (same lower upper) Optimal finding
+
+-- a policy that shows its cost is the upper end, a dual that shows its value the lower one
+abbrev pub upper_report : Report → Tested → Report
+upper_report report (Shows cost policy) = record report { upper = Some cost; policy = Some policy }
+upper_report report Fails = report
+upper_report report (Passes operation) = report
+
+abbrev pub lower_report : Report → Tested → Report
+lower_report report (Shows value dual) = record report { lower = Some value; dual = Some dual }
+lower_report report Fails = report
+lower_report report (Passes operation) = report
+
+abbrev pub ends_report : Report → Tested → Tested → Report
+ends_report blank upper lower =
+    lower_report (upper_report (record blank { finding = ends_finding (number_of lower) (number_of upper) blank.finding }) upper) lower
+
+-- a ray that shows its number is INFEASIBLE
+abbrev pub nowhere_report : Report → Tested → Report
+nowhere_report blank (Shows number ray) = record blank { finding = Infeasible; extra = Some number; ray = Some ray }
+nowhere_report blank Fails = blank
+nowhere_report blank (Passes operation) = blank
+
+-- a direction that shows its cost is UNBOUNDED
+abbrev pub direction_report : Report → Tested → Report
+direction_report report (Shows slope direction) = record report { finding = Unbounded; extra = Some slope; direction = Some direction }
+direction_report report Fails = report
+direction_report report (Passes operation) = report
+
+-- a policy and a direction, or a policy alone
+abbrev pub endless_report : Report → Tested → Tested → Report
+endless_report blank (Shows upper policy) slope = direction_report (record blank { upper = Some upper; policy = Some policy }) slope
+endless_report blank Fails slope = blank
+endless_report blank (Passes operation) slope = blank
+
+-- the report has this number and the counts of the program
+pub record IsFilled (program : Program) (number : ℕ) (report : Report) : Type 0 where
+  pub number_is : report.number ≡ number
+  pub nodes : length program.nodes.items < 2 ^ 32 → report.nodes ≡ length (seen program).live
+  pub scenarios : length program.scenarios.items < 2 ^ 32 → report.scenarios ≡ length program.scenarios.items
+
+pub record IsBlank (program : Program) (number : ℕ) (finding : Finding) (report : Report) : Type 0 where
+  pub filled : IsFilled program number report
+  pub is : report ≡ blank_report report.number report.nodes report.scenarios finding

@@ -1,0 +1,4 @@
+pub mod Shows
+pub mod Findings
+pub mod Truth
+pub mod Laws
