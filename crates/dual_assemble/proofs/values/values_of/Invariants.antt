@@ -1,0 +1,10 @@
+use Rattle.std.proofs.Common.{◌≡◌, ◌++◌, drop}
+use Rattle.scen_defs.specs.Values.{EndsBefore}
+use Rattle.dual_assemble.specs.Values.{values_from}
+use Rattle.dual_assemble.proofs.values.values_of.Given as goal
+
+abbrev pub invariant-loop-place : goal.invariant-loop-place
+invariant-loop-place l = record {
+  ends : EndsBefore l.values l.place 0;
+  kept : l.values ++ values_from l.place (drop l.place l.forms) ≡ values_from 0 l.forms;
+}
