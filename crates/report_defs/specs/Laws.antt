@@ -17,4 +17,5 @@ pub record HasBest (v : View) (report : Report) : Type 0 where
 
 abbrev pub EqualEndsAreBest : Type 0
 EqualEndsAreBest = (v : View) (report : Report)
-    → Together (ShowsLower v) report.lower report.dual → Together (ShowsUpper v) report.upper report.policy → IsOptimal report → HasBest v report
+    → Together (ShowsLower v) report.lower report.dual → Together (ShowsUpper v) report.upper report.policy
+    → IsOptimal report → HasBest v report
