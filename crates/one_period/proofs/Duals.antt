@@ -24,7 +24,7 @@ use Rattle.one_period.specs.declared.part.Part.TheVariants.{Above, Below, Free}
 use Rattle.one_period.specs.Node.{IsOwnColumn, AreOwnRows, IsOneNode}
 use Rattle.one_period.specs.Parts.{part_of, last, behind_all, part_at, IsPart, AreParts, shift, spread_form}
 use Rattle.one_period.specs.Found.{parts_of}
-use Rattle.one_period.specs.Solved.{seen}
+use Rattle.report_defs.specs.Seen.{seen}
 use Rattle.one_period.proofs.PartLemmas.{start, part_begins, part_is, last_below, are_parts, parts_length}
 use Rattle.one_period.proofs.RowLemmas.{shift_at, own_limits, bound_limits}
 use Rattle.one_period.proofs.Sides.{own_sums, behind_own, Agree}

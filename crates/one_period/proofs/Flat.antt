@@ -17,7 +17,7 @@ use Rattle.scen_defs.specs.Program.HasPlace.{is_first}
 use Rattle.scen_defs.specs.Flat.{up, home, node_cost, cost}
 use Rattle.scen_defs.proofs.Valid.{each-place, once-passes}
 use Rattle.one_period.specs.Node.{IsOwnColumn, IsOwnRow, AreOwnRows, IsCertain, IsOneNode}
-use Rattle.one_period.specs.Solved.{seen}
+use Rattle.report_defs.specs.Seen.{seen}
 
 -- ---- columns by their places
 passes_column : (test : Column → Bool) (j : ℕ) (cs : List Column) → passes_at test j cs ≡ true → test (column_at cs j) ≡ true

@@ -30,7 +30,8 @@ use Rattle.one_period.specs.Parts.{behind_all, spread_form}
 use Rattle.one_period.specs.Lists.{values_from, columns_walk}
 use Rattle.one_period.specs.Rows.{own_walk}
 use Rattle.one_period.specs.Found.{parts_of, standard_seen, multipliers_walk, tested_walk, end_walk, path_walk, found, or_passed}
-use Rattle.one_period.specs.Solved.{seen, AreBest, IsNowhere, AreEndless, Shows, FoundHasNames}
+use Rattle.report_defs.specs.Seen.{seen}
+use Rattle.one_period.specs.Solved.{AreBest, IsNowhere, AreEndless, Shows, FoundHasNames}
 use Rattle.one_period.specs.Laws.{IsWritten, PeriodLaws}
 use Rattle.one_period.proofs.PartLemmas.{parts_length}
 use Rattle.one_period.proofs.RowLemmas.{shift_at, own_limits, bound_limits, rows_are, ok_same}

@@ -17,7 +17,7 @@ use Rattle.one_period.specs.Node.{IsOneNode}
 use Rattle.one_period.specs.Parts.{spread_form}
 use Rattle.one_period.specs.Lists.{columns_walk}
 use Rattle.one_period.specs.Found.{parts_of}
-use Rattle.one_period.specs.Solved.{seen}
+use Rattle.report_defs.specs.Seen.{seen}
 use Rattle.one_period.proofs.PartLemmas.{parts_length}
 use Rattle.one_period.proofs.RowLemmas.{shift_at, own_limits, bound_limits}
 use Rattle.one_period.proofs.Values.{column_is}

@@ -8,7 +8,8 @@ use Rattle.one_period.specs.Node.{IsOneNode}
 use Rattle.one_period.specs.Parts.{behind_all, spread_form}
 use Rattle.one_period.specs.Rows.{rows_walk}
 use Rattle.one_period.specs.Found.{parts_of, found}
-use Rattle.one_period.specs.Solved.{seen, Shows}
+use Rattle.report_defs.specs.Seen.{seen}
+use Rattle.one_period.specs.Solved.{Shows}
 
 -- these are the limits that the program's walk gives
 pub record IsWritten (program : Program) (node : Node) (limits : Limits) : Type 0 where

@@ -4,16 +4,13 @@ use Rattle.scen_defs.specs.declared.program.Program.{Program}
 use Rattle.scen_defs.specs.declared.program.Node.{Node}
 use Rattle.scen_defs.specs.Values.{At, at}
 use Rattle.scen_defs.specs.Fits.{HaveNames}
-use Rattle.scen_defs.specs.Program.{View, IsTree, content, view_of}
+use Rattle.scen_defs.specs.Program.{View, IsTree}
 use Rattle.scen_defs.specs.Flat.{Feasible, IsGood, IsDirection, ShowsInfeasible, cost, value}
+use Rattle.report_defs.specs.Seen.{seen}
 use Rattle.one_period.specs.declared.found.Found.{Found}
 use Rattle.one_period.specs.declared.found.Found.TheVariants as found_end
 use Rattle.one_period.specs.Node.{IsOneNode}
 use Rattle.one_period.specs.Found.{found}
-
--- the program as theorems see it
-abbrev pub seen : Program → View
-seen program = view_of (content program)
 
 -- ---- what is found
 

@@ -4,9 +4,11 @@ ghost use Rattle.scen_defs.specs.Fits.{HaveNames, ListsHaveNames};
 ghost use Rattle.scen_defs.specs.declared.program.Node.{Node};
 ghost use Rattle.scen_defs.specs.declared.report.Place.{Place};
 ghost use Rattle.one_period.specs.Node.{IsOneNode};
-ghost use Rattle.one_period.specs.Solved.{seen, AreBest, IsFound, IsNowhere};
+ghost use Rattle.report_defs.specs.Seen.{seen};
+ghost use Rattle.report_defs.specs.Truth.{HasCounts, IsTrue};
+ghost use Rattle.one_period.specs.Solved.{AreBest, IsFound, IsNowhere};
 ghost use Rattle.one_period.specs.Reports.{left_open, with_policy, best_report, value_report, nowhere_report, endless_report, slope_report};
-ghost use Rattle.one_period.specs.Truth.{SolvesProgram};
+ghost use Rattle.one_period.specs.Truth.{SolvesProgram, solve_reasons};
 
 use crate::found::{Found, find};
 use frac128::{Frac, Memory, Passed};
@@ -34,7 +36,9 @@ const SOLVE: u64 = 1;
 pub fn solve_program(alloc: Global, program: &Program, pivots: u64) -> Result<Report, Memory>
     requires { (node : Node) × IsOneNode program.now node }
     ensures names { IfOk result (ListsHaveNames program.now) }
-    ensures truth { IfOk result (SolvesProgram program.now pivots) }
+    ensures truth { IfOk result (IsTrue (seen program.now) (solve_reasons program.now pivots)) }
+    ensures counts { IfOk result (HasCounts (seen program.now)) }
+    ensures exact { IfOk result (SolvesProgram program.now pivots) }
 {
     let node = root(program);
     let found = find(alloc, program, node, pivots)?;
@@ -56,7 +60,9 @@ fn root(program: &Program) -> &Node
 fn reported(program: &Program, pivots: u64, found: Found) -> Result<Report, Memory>
     requires { IsFound program.now pivots found }
     ensures names { IfOk result (ListsHaveNames program.now) }
-    ensures truth { IfOk result (SolvesProgram program.now pivots) }
+    ensures truth { IfOk result (IsTrue (seen program.now) (solve_reasons program.now pivots)) }
+    ensures counts { IfOk result (HasCounts (seen program.now)) }
+    ensures exact { IfOk result (SolvesProgram program.now pivots) }
 {
     match found {
         Found::Best(policy, dual) => at_best(program, policy, dual),

@@ -22,7 +22,8 @@ use Rattle.proved_report.specs.declared.open.Open.{Open}
 use Rattle.proved_report.specs.declared.tested.Tested.{Tested}
 use Rattle.proved_report.specs.declared.tested.Tested.TheVariants.{Shows, Fails, Passes}
 use Rattle.proved_report.specs.Open.{IsLeftOpen, given}
-use Rattle.proved_report.specs.Tested.{seen, IfShown, IsSlope, HasNames, or_before}
+use Rattle.report_defs.specs.Seen.{seen}
+use Rattle.proved_report.specs.Tested.{IfShown, IsSlope, HasNames, or_before}
 use Rattle.proved_report.specs.Reports.{IsFilled, blank_report, ends_report, nowhere_report, endless_report}
 use Rattle.proved_report.proofs.CountLemmas.{node_places, scenario_places}
 

@@ -9,7 +9,8 @@ use Rattle.scen_defs.specs.declared.report.Finding.TheVariants.{Optimal, Infeasi
 use Rattle.scen_defs.specs.declared.report.Report.{Report}
 use Rattle.proved_report.specs.declared.tested.Tested.{Tested}
 use Rattle.proved_report.specs.declared.tested.Tested.TheVariants.{Shows, Fails, Passes}
-use Rattle.proved_report.specs.Tested.{seen, number_of}
+use Rattle.report_defs.specs.Seen.{seen}
+use Rattle.proved_report.specs.Tested.{number_of}
 
 -- a report without ends and lists
 abbrev pub blank_report : ℕ → ℕ → ℕ → Finding → Report

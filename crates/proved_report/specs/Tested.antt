@@ -3,19 +3,14 @@ use Rattle.std.specs.Prelude.{◌≡◌, ℕ, List, Option, Some, None, Result, 
 use Rattle.rationals.specs.Rational.{ℚ}
 use Rattle.scen_defs.specs.Values.{At, at}
 use Rattle.scen_defs.specs.Fits.{HaveNames}
-use Rattle.scen_defs.specs.Program.{View, content, view_of}
+use Rattle.scen_defs.specs.Program.{View}
 use Rattle.scen_defs.specs.Flat.{cost, IsDirection}
-use Rattle.scen_defs.specs.declared.program.Program.{Program}
 use Rattle.scen_defs.specs.declared.report.Halt.{Halt}
 use Rattle.scen_defs.specs.declared.report.Place.{Place}
 use Rattle.proved_report.specs.declared.open.Open.{Open}
 use Rattle.proved_report.specs.declared.open.Open.TheVariants.{Passed as PassedAt}
 use Rattle.proved_report.specs.declared.tested.Tested.{Tested}
 use Rattle.proved_report.specs.declared.tested.Tested.TheVariants.{Shows, Fails, Passes}
-
--- the program as theorems see it
-abbrev pub seen : Program → View
-seen program = view_of (content program)
 
 -- what holds of a list and its number, where the test shows them
 abbrev pub IfShown : (ℚ → List At → Type 0) → Tested → Type 0

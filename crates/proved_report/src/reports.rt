@@ -6,7 +6,7 @@ ghost use Rattle.scen_defs.specs.Program.{IsTree, content};
 ghost use Rattle.scen_defs.specs.Valid.{IsSmall};
 ghost use Rattle.report_defs.specs.Truth.{IsTrue, HasCounts};
 ghost use Rattle.proved_report.specs.Open.{given};
-ghost use Rattle.proved_report.specs.Tested.{seen};
+ghost use Rattle.report_defs.specs.Seen.{seen};
 ghost use Rattle.proved_report.specs.Reports.{ends_finding, upper_report, lower_report, ends_report, nowhere_report};
 ghost use Rattle.proved_report.specs.Reports.{direction_report, endless_report, IsFilled, IsBlank};
 

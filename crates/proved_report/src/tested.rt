@@ -4,7 +4,8 @@ ghost use Rattle.rationals.specs.Rational.{at_most, zero_ℚ};
 ghost use Rattle.scen_defs.specs.Fits.{HaveNames};
 ghost use Rattle.scen_defs.specs.Program.{IsTree};
 ghost use Rattle.report_defs.specs.Shows.{ShowsLower, ShowsUpper, ShowsNothing};
-ghost use Rattle.proved_report.specs.Tested.{seen, IfShown, IsKept, IsSlope, HasNames, number_of, or_before};
+ghost use Rattle.report_defs.specs.Seen.{seen};
+ghost use Rattle.proved_report.specs.Tested.{IfShown, IsKept, IsSlope, HasNames, number_of, or_before};
 
 use crate::open::Open;
 use frac128::{Frac, Memory, Passed};
@@ -104,7 +105,7 @@ fn falling_cost(program: &Program, direction: &Values) -> Result<Option<Frac>, H
 /// The value of a ray that fits and shows that no policy is feasible.
 fn ray_value(program: &Program, ray: &Values) -> Result<Option<Frac>, Halt>
     ensures names { IfOk result (λ found. IfSome found (λ _. HaveNames (length program.now.rows.items) ray.now)) }
-    ensures shows { IsTree (seen program.now) → IfOk result (λ found. IfSome found (λ number. ShowsNothing (seen program.now) number ray.now)) }
+    ensures shows { IsTree (seen program.now) → IfOk result (λ found. IfSome found (λ value. ShowsNothing (seen program.now) value ray.now)) }
 {
     if fits(program, ray, true) {
         value_above_zero(program, ray)
@@ -115,7 +116,7 @@ fn ray_value(program: &Program, ray: &Values) -> Result<Option<Frac>, Halt>
 
 /// The value of a ray where that is above 0.
 fn value_above_zero(program: &Program, ray: &Values) -> Result<Option<Frac>, Halt>
-    ensures { IsTree (seen program.now) → IfOk result (λ found. IfSome found (λ number. ShowsNothing (seen program.now) number ray.now)) }
+    ensures { IsTree (seen program.now) → IfOk result (λ found. IfSome found (λ value. ShowsNothing (seen program.now) value ray.now)) }
 {
     match zero_value(program, ray)? {
         None => Ok(None),

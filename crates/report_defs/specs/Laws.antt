@@ -16,5 +16,6 @@ pub record HasBest (v : View) (report : Report) : Type 0 where
   pub least : (x : ℕ → ℕ → ℚ) → Feasible v x → cost v (at policy) ≤ℚ cost v x
 
 abbrev pub EqualEndsAreBest : Type 0
-EqualEndsAreBest = (v : View) (report : Report) → Together (ShowsLower v) report.lower report.dual → Together (ShowsUpper v) report.upper report.policy
+EqualEndsAreBest = (v : View) (report : Report)
+    → Together (ShowsLower v) report.lower report.dual → Together (ShowsUpper v) report.upper report.policy
     → IsOptimal report → HasBest v report

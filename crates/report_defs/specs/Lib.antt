@@ -1,3 +1,4 @@
+pub mod Seen
 pub mod Shows
 pub mod Findings
 pub mod Truth

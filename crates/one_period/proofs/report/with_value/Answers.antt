@@ -1,4 +1,4 @@
-use Rattle.one_period.specs.Solved.{seen}
+use Rattle.report_defs.specs.Seen.{seen}
 use Rattle.one_period.proofs.TruthLemmas.{never_without_value}
 use Rattle.one_period.proofs.report.with_value.Goals as goal
 

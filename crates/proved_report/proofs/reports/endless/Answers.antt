@@ -4,7 +4,8 @@ use Rattle.scen_defs.specs.declared.report.Report.{Report}
 use Rattle.report_defs.specs.Truth.{IsTrue}
 use Rattle.proved_report.specs.declared.open.Open.{Open}
 use Rattle.proved_report.specs.Open.{given, IsLeftOpen}
-use Rattle.proved_report.specs.Tested.{seen, or_before}
+use Rattle.report_defs.specs.Seen.{seen}
+use Rattle.proved_report.specs.Tested.{or_before}
 use Rattle.proved_report.specs.Reports.{IsFilled, endless_report}
 use Rattle.proved_report.proofs.ReportLemmas.{before-given, endless_true, endless_names, endless_filled}
 use Rattle.proved_report.proofs.reports.endless.Goals as goal

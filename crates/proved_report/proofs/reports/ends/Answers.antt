@@ -5,7 +5,8 @@ use Rattle.scen_defs.specs.declared.report.Place.TheVariants.{Dual}
 use Rattle.report_defs.specs.Truth.{IsTrue}
 use Rattle.proved_report.specs.declared.open.Open.{Open}
 use Rattle.proved_report.specs.Open.{given, IsLeftOpen}
-use Rattle.proved_report.specs.Tested.{seen, or_before}
+use Rattle.report_defs.specs.Seen.{seen}
+use Rattle.proved_report.specs.Tested.{or_before}
 use Rattle.proved_report.specs.Reports.{IsFilled, ends_report}
 use Rattle.proved_report.proofs.ReportLemmas.{before-given, ends_true, ends_names, ends_filled}
 use Rattle.proved_report.proofs.reports.ends.Goals as goal

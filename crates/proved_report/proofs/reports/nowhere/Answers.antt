@@ -5,7 +5,7 @@ use Rattle.scen_defs.specs.declared.report.Place.TheVariants.{Dual}
 use Rattle.report_defs.specs.Truth.{IsTrue}
 use Rattle.proved_report.specs.declared.open.Open.{Open}
 use Rattle.proved_report.specs.Open.{given, IsLeftOpen}
-use Rattle.proved_report.specs.Tested.{seen}
+use Rattle.report_defs.specs.Seen.{seen}
 use Rattle.proved_report.specs.Reports.{IsFilled, nowhere_report}
 use Rattle.proved_report.proofs.ReportLemmas.{before-given, nowhere_true, nowhere_names, nowhere_filled}
 use Rattle.proved_report.proofs.reports.nowhere.Goals as goal

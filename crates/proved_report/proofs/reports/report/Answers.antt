@@ -1,6 +1,6 @@
 use Rattle.std.proofs.lemmas.Result.{IfOk-weaker}
 use Rattle.report_defs.specs.Truth.{HasCounts}
-use Rattle.proved_report.specs.Tested.{seen}
+use Rattle.report_defs.specs.Seen.{seen}
 use Rattle.proved_report.specs.Reports.{IsFilled}
 use Rattle.proved_report.proofs.ReportLemmas.{counted}
 use Rattle.proved_report.proofs.reports.report.Goals as goal

@@ -1,4 +1,4 @@
-use Rattle.proved_report.specs.Tested.{seen}
+use Rattle.report_defs.specs.Seen.{seen}
 use Rattle.proved_report.proofs.ShownLemmas.{upper-shown}
 use Rattle.proved_report.proofs.tested.feasible_cost.Goals as goal
 

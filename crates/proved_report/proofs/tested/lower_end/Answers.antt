@@ -4,7 +4,7 @@ use Rattle.scen_defs.specs.Fits.{HaveNames}
 use Rattle.scen_defs.specs.Program.{content}
 use Rattle.scen_model.specs.Walks.{dual_walk}
 use Rattle.report_defs.specs.Shows.{ShowsLower}
-use Rattle.proved_report.specs.Tested.{seen}
+use Rattle.report_defs.specs.Seen.{seen}
 use Rattle.proved_report.proofs.FitLemmas.{rows-have-names}
 use Rattle.proved_report.proofs.ShownLemmas.{if-there, by-walk, lower-shown}
 use Rattle.proved_report.proofs.tested.lower_end.Goals as goal

@@ -1,7 +1,7 @@
 use Rattle.std.proofs.Common.{length}
 use Rattle.scen_defs.specs.Fits.{HaveNames}
 use Rattle.report_defs.specs.Shows.{ShowsNothing}
-use Rattle.proved_report.specs.Tested.{seen}
+use Rattle.report_defs.specs.Seen.{seen}
 use Rattle.proved_report.proofs.ShownLemmas.{if-kept}
 use Rattle.proved_report.proofs.tested.test_ray.Goals as goal
 

@@ -1,6 +1,6 @@
 use Rattle.rationals.specs.Rational.{zero_ℚ, at_most_false}
 use Rattle.std.proofs.Common.{sym, ◌∙◌}
-use Rattle.proved_report.specs.Tested.{seen}
+use Rattle.report_defs.specs.Seen.{seen}
 use Rattle.proved_report.proofs.ShownLemmas.{nothing-shown}
 use Rattle.proved_report.proofs.tested.value_above_zero.Goals as goal
 
