@@ -1,0 +1,11 @@
+pub mod Lists
+pub mod Numbers
+pub mod Values
+pub mod NodeValues
+pub mod Nodes
+pub mod Columns
+pub mod Scenarios
+pub mod Totals
+pub mod Trees
+pub mod Tables
+pub mod Cases

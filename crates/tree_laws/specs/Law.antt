@@ -1,0 +1,49 @@
+-- What is built of a core, its periods and its cases is a tree.
+use Rattle.std.specs.Prelude.{◌≡◌, ℕ, ◌<◌, false, List, length, get_or, Ok}
+use Rattle.rationals.specs.Rational.{zero_ℚ, ◌<ℚ◌}
+use Rattle.core_defs.specs.declared.program.Core.{Core}
+use Rattle.core_defs.specs.Core.{IsCore}
+use Rattle.time_defs.specs.Means.{Stages, entries_at, IsReached}
+use Rattle.stoch_defs.specs.Entries.{is_late}
+use Rattle.stoch_defs.specs.Random.{Sets, Case, Block, Branch, Random}
+use Rattle.stoch_defs.specs.Random.Random.{Blocks, Branches}
+use Rattle.stoch_defs.specs.File.{read_random}
+use Rattle.build_defs.specs.Laws.{IsBelow}
+use Rattle.scen_defs.specs.Lists.{Each}
+use Rattle.scen_defs.specs.Program.{Program, view_of, IsTree}
+use Rattle.tree_build.specs.Walks.{build_walk}
+
+-- each row and each column of the core has its stage, and in a row only columns of its own and of earlier stages have entries
+pub record IsStaged (core : Core) (p : Stages) : Type 0 where
+  pub rows : length p.rows ≡ length core.rows.items
+  pub columns : length p.columns ≡ length core.columns.items
+  pub triangle : (j : ℕ) → j < length core.columns.items → IsReached p.rows (get_or p.columns j 0) (entries_at core.columns.items j)
+
+-- no entry that is set is of a column of a later stage than its row
+abbrev pub AreTimely : Stages → Sets → Type 0
+AreTimely p sets = Each (λ pair. is_late p pair.0 ≡ false) sets
+
+-- a case has a probability above 0, and sets entries within the triangle
+pub record IsCase (p : Stages) (case : Case) : Type 0 where
+  pub positive : zero_ℚ <ℚ case.probability
+  pub timely : AreTimely p case.sets
+
+-- so does a scenario, and its parent is one of so many scenarios
+pub record IsBranch (p : Stages) (count : ℕ) (branch : Branch) : Type 0 where
+  pub positive : zero_ℚ <ℚ branch.probability
+  pub timely : AreTimely p branch.sets
+  pub parent : IsBelow count branch.parent
+
+-- what holds of all blocks, or of all scenarios
+abbrev pub AreCases : Stages → Random → Type 0
+AreCases p (Blocks blocks) = Each (λ (block : Block). Each (IsCase p) block.cases) blocks
+AreCases p (Branches branches) = Each (IsBranch p (length branches)) branches
+
+-- The program that is built is a tree.
+abbrev pub BuiltAreTrees : Type 0
+BuiltAreTrees = (core : Core) (p : Stages) (random : Random) (program : Program) →
+    IsCore core → IsStaged core p → AreCases p random → build_walk core p random ≡ Ok program → IsTree (view_of program)
+
+-- What is read of a stoch file keeps this.
+abbrev pub ReadCasesHold : Type 0
+ReadCasesHold = (core : Core) (p : Stages) (text : List ℕ) (random : Random) → read_random core p text ≡ Ok random → AreCases p random
