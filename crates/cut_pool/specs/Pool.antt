@@ -1,5 +1,5 @@
 -- A pool: what an offer and a sweep leave.
-use Rattle.std.specs.Prelude.{◌≡◌, ℕ, suc, ◌<◌, Bool, true, false, List, [], ◌∷◌, ◌++◌, Option, Some, None, Result, Ok, Err}
+use Rattle.std.specs.Prelude.{◌≡◌, ℕ, suc, ◌<◌, Bool, true, false, ◌&&◌, eqb, List, [], ◌∷◌, ◌++◌, Option, Some, None, Result, Ok, Err}
 use Rattle.rationals.specs.Rational.{ℚ, zero_ℚ, at_most}
 use Rattle.rationals.specs.Sparse.{Entry}
 use Rattle.rationals.specs.Passes.{Operation, then_walk}
@@ -10,7 +10,7 @@ use Rattle.cut_defs.specs.declared.versions.Stamp.{Stamp}
 use Rattle.cut_defs.specs.declared.versions.Touch.{Touch}
 use Rattle.cut_defs.specs.Cuts.{is_bound}
 use Rattle.cut_defs.specs.Stored.{Stored, source_of}
-use Rattle.cut_defs.specs.Support.{support, cut_rests, first_stale}
+use Rattle.cut_defs.specs.Support.{rank, support, cut_rests, first_stale}
 use Rattle.cut_defs.specs.declared.versions.Shift.{Shift}
 use Rattle.cut_defs.specs.Data.{Book}
 use Rattle.cut_defs.specs.Repairs.{IsShift}
@@ -130,6 +130,10 @@ VersionIsAbove (Some s) = 0 < s.version
 abbrev pub ShiftFits : Touch → Option Shift → Type 0
 ShiftFits t None = Unit {0}
 ShiftFits t (Some s) = t ≡ touch_of s
+
+-- the same as a test
+abbrev pub fits_shift : Touch → Shift → Bool
+fits_shift t s = eqb t.node s.node && (eqb (rank t.part) 0 && eqb t.version s.version)
 
 -- where there is a shift, it is one of the book
 abbrev pub IsShiftOf : Book → Option Shift → Type 0

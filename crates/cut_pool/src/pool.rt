@@ -130,6 +130,16 @@ impl Pool {
         }
     }
 
+    /// Whether a cut rests on none of the touches that the pool knows.
+    pub fn is_fresh(&self, cut: &Cut) -> bool
+        ensures { IsTrue result ↔ RestsOnNone cut.now self.now.known }
+    {
+        match self.known.first_stale(cut.support()) {
+            Some(_) => false,
+            None => true,
+        }
+    }
+
     /// Puts a cut last without a test. Time: constant, but for the growth of the list.
     pub fn ground(&mut self, cut: SharedCut) -> Result<(), Memory>
         requires node { (source_of cut).node ≡ self.old.node }

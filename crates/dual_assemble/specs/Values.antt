@@ -34,8 +34,3 @@ assembled cut = then_value (values_from 0) (flat_from [] one_ℚ cut)
 abbrev pub point_form : Option (List Entry) → List Entry
 point_form None = []
 point_form (Some f) = f
-
--- the numbers of points by node, from node n on
-abbrev pub policy_from : ℕ → List (Option (List Entry)) → List At
-policy_from n [] = []
-policy_from n (p ∷ ps) = node_values n (point_form p) ++ policy_from (n + 1) ps

@@ -1,9 +1,14 @@
 // Forms by node as numbers at nodes.
-ghost use Rattle.std.specs.Prelude.{◌≡◌, ◌≢◌, ◌+◌, ◌++◌, [], IfOk, OnOk, Ok, MatchResult};
+ghost use Rattle.std.specs.Prelude.{◌≡◌, ◌≢◌, ℕ, ◌+◌, ◌<◌, ◌^◌, ◌++◌, [], IfOk, OnOk, Ok, MatchResult, map};
+ghost use Rattle.rationals.specs.Forms.{IsForm};
 ghost use Rattle.rationals.specs.Rational.{zero_ℚ};
+ghost use Rattle.rationals.specs.Sparse.{coefficient};
 ghost use Rattle.frac128.specs.Faults.{FaultOf};
-ghost use Rattle.scen_defs.specs.Values.{EndsBefore};
-ghost use Rattle.dual_assemble.specs.Values.{fits, number_at, node_values, values_from, assembled, point_form, policy_from};
+ghost use Rattle.scen_defs.specs.Lists.{Each};
+ghost use Rattle.scen_defs.specs.Values.{EndsBefore, at};
+ghost use Rattle.cut_defs.specs.Current.{stored_flat};
+ghost use Rattle.dual_assemble.specs.Walks.{form_at};
+ghost use Rattle.dual_assemble.specs.Values.{fits, number_at, node_values, values_from, assembled, point_form};
 
 use crate::flat::flat_forms;
 use cut_proof::Cut;
@@ -35,6 +40,7 @@ fn push_form(values: &mut Values, place: usize, form: &Form) -> Result<(), Memor
     requires { EndsBefore values.old place 0 }
     ensures numbers { OnOk result (values.new ≡ values.old ++ node_values place form.now) }
     ensures ends { OnOk result (EndsBefore values.new (place + 1) 0) }
+    ensures form { IsForm form.now }
 {
     form.keeps_order();
     for term in form.terms() {
@@ -45,7 +51,8 @@ fn push_form(values: &mut Values, place: usize, form: &Form) -> Result<(), Memor
 
 /// The numbers of forms by node.
 fn values_of(alloc: Global, forms: &[Form]) -> Result<Values, Memory>
-    ensures { IfOk result (λ v. v ≡ values_from 0 forms.now) }
+    ensures values { IfOk result (λ v. v ≡ values_from 0 forms.now) }
+    ensures forms { IfOk result (λ _. Each IsForm forms.now) }
 {
     let mut values = Values::empty(alloc);
     for (place, form) in forms.iter().enumerate() {
@@ -55,9 +62,11 @@ fn values_of(alloc: Global, forms: &[Form]) -> Result<Values, Memory>
 }
 
 /// The flat dual of a cut by node and row: the multipliers of all records below it, each times the weights on the
-/// way down. `Passed` names the first operation that passes.
+/// way down. `Passed` names the first operation that passes. A multiplier at a place above 32 bits, where no row is,
+/// is left out.
 pub fn assemble(alloc: Global, cut: &Cut) -> Result<Values, FormFault>
-    ensures { MatchResult result (λ v. assembled cut.now ≡ Ok v) (FaultOf (assembled cut.now)) }
+    ensures numbers { IfOk result (λ v. (n i : ℕ) → n < 2 ^ 32 → i < 2 ^ 32 → at v n i ≡ stored_flat cut.now n i) }
+    ensures walk { MatchResult result (λ v. assembled cut.now ≡ Ok v) (FaultOf (assembled cut.now)) }
 {
     let forms = flat_forms(alloc, cut)?;
     let values = values_of(alloc, &forms)?;
@@ -69,6 +78,7 @@ fn push_point(values: &mut Values, place: usize, point: &Option<Form>) -> Result
     requires { EndsBefore values.old place 0 }
     ensures numbers { OnOk result (values.new ≡ values.old ++ node_values place (point_form point.now)) }
     ensures ends { OnOk result (EndsBefore values.new (place + 1) 0) }
+    ensures form { IsForm (point_form point.now) }
 {
     match point {
         None => Ok(()),
@@ -76,14 +86,25 @@ fn push_point(values: &mut Values, place: usize, point: &Option<Form>) -> Result
     }
 }
 
-/// The points of all nodes by node and column. The place of a point is its node's number; a node without a point has
-/// no numbers.
-pub fn join_policy(alloc: Global, points: &[Option<Form>]) -> Result<Values, Memory>
-    ensures { IfOk result (λ v. v ≡ policy_from 0 points.now) }
+/// The numbers of points by node.
+fn points_of(alloc: Global, points: &[Option<Form>]) -> Result<Values, Memory>
+    ensures values { IfOk result (λ v. v ≡ values_from 0 (map point_form points.now)) }
+    ensures forms { IfOk result (λ _. Each IsForm (map point_form points.now)) }
 {
     let mut values = Values::empty(alloc);
     for (place, point) in points.iter().enumerate() {
         push_point(&mut values, place, point)?;
     }
+    Ok(values)
+}
+
+/// The points of all nodes by node and column. The place of a point is its node's number; a node without a point has
+/// no numbers. A number at a node or a column above 32 bits is left out.
+pub fn join_policy(alloc: Global, points: &[Option<Form>]) -> Result<Values, Memory>
+    ensures numbers { IfOk result (λ v. (n j : ℕ) → n < 2 ^ 32 → j < 2 ^ 32 → at v n j ≡
+        coefficient (form_at (map point_form points.now) n) j) }
+    ensures values { IfOk result (λ v. v ≡ values_from 0 (map point_form points.now)) }
+{
+    let values = points_of(alloc, points)?;
     Ok(values)
 }
