@@ -7,20 +7,21 @@ use Rattle.rationals.specs.Passes.{Operation, then_walk, step_walk}
 use Rattle.rationals.specs.Sparse.{Entry}
 use Rattle.lp_defs.specs.Walks.{Walk}
 use Rattle.scen_defs.specs.Lists.{pick}
-use Rattle.interval_form.specs.declared.bound.Bound.{Bound}
+use Rattle.cut_defs.specs.declared.datum.ColumnBounds.{ColumnBounds}
 use Rattle.interval_form.specs.declared.part.Part.{Part}
 use Rattle.interval_form.specs.Parts.{bound_at, part_at, spread, spread_form}
-use Rattle.interval_form.specs.Own.{Rises, place_from, place_of}
+use Rattle.interval_form.specs.Own.{place_from, place_of}
+use Rattle.cut_defs.specs.Data.{BoundsRise}
 use Rattle.interval_form.specs.Rows.{terms_walk}
 use Rattle.interval_form.proofs.OwnForms.{place_at}
 
-pub bound_read : (bs : List Bound) (i : ℕ) (b : Bound) → i < length bs → b ≡ get_or bs i b → b ≡ bound_at bs i
+pub bound_read : (bs : List ColumnBounds) (i : ℕ) (b : ColumnBounds) → i < length bs → b ≡ get_or bs i b → b ≡ bound_at bs i
 bound_read [] i b h e = absurd (omega arith)
 bound_read (c ∷ bs) zero b h e = e
 bound_read (c ∷ bs) (suc i) b h e = bound_read bs i b (omega arith) e
 
 -- columns rise with their places
-later : (m : ℕ) (bs : List Bound) (i j : ℕ) → Rises m bs → i ≤ j → j < length bs → (m ≤ (bound_at bs i).column) × ((bound_at bs i).column ≤ (bound_at bs j).column)
+later : (m : ℕ) (bs : List ColumnBounds) (i j : ℕ) → BoundsRise m bs → i ≤ j → j < length bs → (m ≤ (bound_at bs i).column) × ((bound_at bs i).column ≤ (bound_at bs j).column)
 later m [] i j r l h = absurd (omega (arith, h))
 later m (b ∷ bs) zero zero r l h = (r.0, omega arith)
 later m (b ∷ bs) zero (suc j) r l h = let k = later (suc b.column) bs j j r.1 (omega arith) (omega (arith, h)) in let k0 : suc b.column ≤ (bound_at bs j).column = k.0 in (r.0, omega (arith, k0))
@@ -31,23 +32,23 @@ later m (b ∷ bs) (suc i) (suc j) r l h =
     let g : suc b.column ≤ (bound_at bs i).column = k.0 in
     (omega (arith, f, g), k.1)
 
-pub column_rises : (bs : List Bound) (i j : ℕ) → Rises 0 bs → i ≤ j → j < length bs → (bound_at bs i).column ≤ (bound_at bs j).column
+pub column_rises : (bs : List ColumnBounds) (i j : ℕ) → BoundsRise 0 bs → i ≤ j → j < length bs → (bound_at bs i).column ≤ (bound_at bs j).column
 column_rises bs i j r l h = (later 0 bs i j r l h).1
 
 -- a column that none of them is has no place
-pub place_none : (k : ℕ) (bs : List Bound) (j : ℕ) → ((d : ℕ) → d < length bs → (bound_at bs d).column ≡ j → ⊥) → place_from k bs j ≡ None
+pub place_none : (k : ℕ) (bs : List ColumnBounds) (j : ℕ) → ((d : ℕ) → d < length bs → (bound_at bs d).column ≡ j → ⊥) → place_from k bs j ≡ None
 place_none k [] j h = refl
 place_none k (b ∷ bs) j h = ap (λ t. pick t (Some k) (place_from (suc k) bs j)) (ne_eqb b.column j (h 0 (omega arith))) ∙ place_none (suc k) bs j (λ d l. h (suc d) (omega (arith, l)))
 
 -- a column at place d, which isn't before `first`, where the one at `first` is above j
-pub nowhere : (bs : List Bound) (d first j : ℕ) → Rises 0 bs → d < length bs → first < length bs → (bound_at bs d).column ≡ j → (d < first → (bound_at bs d).column < j) → j ≤ (bound_at bs first).column → ((bound_at bs first).column ≡ j → ⊥) → ⊥
+pub nowhere : (bs : List ColumnBounds) (d first j : ℕ) → BoundsRise 0 bs → d < length bs → first < length bs → (bound_at bs d).column ≡ j → (d < first → (bound_at bs d).column < j) → j ≤ (bound_at bs first).column → ((bound_at bs first).column ≡ j → ⊥) → ⊥
 nowhere bs d first j r l m e before least ne = go (ltb d first) refl
   where
     go : (t : Bool) → ltb d first ≡ t → ⊥
     go true q = let b : (bound_at bs d).column < j = before (ltb-true d first q) in absurd (omega (arith, b, e))
     go false q = let b : (bound_at bs first).column ≤ (bound_at bs d).column = column_rises bs first d r (ltb-false d first q) l in ne (omega (arith, b, e, least))
 
-pub place_here : (bs : List Bound) (i j : ℕ) → Rises 0 bs → i < length bs → (bound_at bs i).column ≡ j → Some i ≡ place_of bs j
+pub place_here : (bs : List ColumnBounds) (i j : ℕ) → BoundsRise 0 bs → i < length bs → (bound_at bs i).column ≡ j → Some i ≡ place_of bs j
 place_here bs i j r h e = sym (ap (place_of bs) (sym e) ∙ place_at 0 0 bs i r h ∙ ap Some (let s : 0 + i ≡ i = omega arith in s))
 
 -- ---- one term more

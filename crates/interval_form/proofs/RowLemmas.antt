@@ -16,7 +16,7 @@ use Rattle.slack_form.specs.declared.limits.Limit.{Limit}
 use Rattle.slack_form.specs.Limits.{AllBelow}
 use Rattle.scen_defs.specs.Lists.{pick}
 use Rattle.scen_defs.specs.declared.program.NodeRow.{NodeRow}
-use Rattle.interval_form.specs.declared.bound.Bound.{Bound}
+use Rattle.cut_defs.specs.declared.datum.ColumnBounds.{ColumnBounds}
 use Rattle.interval_form.specs.declared.part.Part.{Part}
 use Rattle.interval_form.specs.Parts.{part_of, behind, parts_from, behind_all, AreParts, entry, spread_form}
 use Rattle.interval_form.specs.Own.{own_form, other_form}
@@ -49,13 +49,13 @@ terms_more x s (d ∷ f) r e =
     let t : r ≡ b.0 +ℚ product f x = terms_more x b.0 f r b.2 in
     by_eqs (r ∷ b.0 ∷ s ∷ d.value ∷ x d.column ∷ product f x ∷ []) (by_eq one_ℚ t (by_eq one_ℚ q done)) (search terms depth 40) tt
 
-pub right_less : (bs : List Bound) (parts : List Part) (trial : List Entry) (s : ℚ) (f : List Entry) (r : ℚ) → right_walk Sub bs parts trial s f ≡ Ok r
+pub right_less : (bs : List ColumnBounds) (parts : List Part) (trial : List Entry) (s : ℚ) (f : List Entry) (r : ℚ) → right_walk Sub bs parts trial s f ≡ Ok r
     → r ≡ (s -ℚ met bs trial f) -ℚ product (own_form bs f) (shift_at parts)
 right_less bs parts trial s f r e =
     let a = after_ok (terms_walk Sub (coefficient trial) s (other_form bs f)) (λ t. terms_walk Sub (shift_at parts) t (own_form bs f)) r e in
     terms_less (shift_at parts) a.0 (own_form bs f) r a.2 ∙ ap (λ q. q -ℚ product (own_form bs f) (shift_at parts)) (terms_less (coefficient trial) s (other_form bs f) a.0 a.1)
 
-pub right_more : (bs : List Bound) (parts : List Part) (trial : List Entry) (s : ℚ) (f : List Entry) (r : ℚ) → right_walk Add bs parts trial s f ≡ Ok r
+pub right_more : (bs : List ColumnBounds) (parts : List Part) (trial : List Entry) (s : ℚ) (f : List Entry) (r : ℚ) → right_walk Add bs parts trial s f ≡ Ok r
     → r ≡ (s +ℚ met bs trial f) +ℚ product (own_form bs f) (shift_at parts)
 right_more bs parts trial s f r e =
     let a = after_ok (terms_walk Add (coefficient trial) s (other_form bs f)) (λ t. terms_walk Add (shift_at parts) t (own_form bs f)) r e in
@@ -71,7 +71,7 @@ same_less a b t = go (same a b) refl (same (a -ℚ t) (b -ℚ t)) refl
     go true p false q = sym q ∙ (same_means (a -ℚ t) (b -ℚ t)).1 (ap (λ z. z -ℚ t) ((same_means a b).0 p))
     go false p true q = sym ((same_means a b).1 (by_eqs (a ∷ b ∷ t ∷ []) (by_eq one_ℚ ((same_means (a -ℚ t) (b -ℚ t)).0 q) done) (search terms depth 40) tt)) ∙ p
 
-module _ (bs : List Bound) (parts : List Part) (trial : List Entry) where
+module _ (bs : List ColumnBounds) (parts : List Part) (trial : List Entry) where
   limit_is : (f : List Entry) (kind : RowKind) (end : ℚ) (l : Limit) → limit_walk bs parts trial f kind end ≡ Ok l → l ≡ limit_of parts (own_form bs f) kind (end -ℚ met bs trial f)
   limit_is f kind end l e =
       let a = after_ok (right_walk Sub bs parts trial end f) (λ right. Ok (record { entries = spread_form parts (own_form bs f); kind = kind; right = right })) l e in
@@ -115,7 +115,7 @@ bound_is m made (Some low) (Some high) all e =
     let a = after_ok (sub_walk high low) (λ width. Ok (made ++ width_limit m width ∷ [])) all e in
     sym (ok_same _ all a.2) ∙ ap (λ (w : ℚ). made ++ width_limit m w ∷ []) (sub_walk_is high low a.0 a.1)
 
-pub bounds_are : (m : ℕ) (made : List Limit) (bs : List Bound) (all : List Limit) → bound_limits_from m made bs ≡ Ok all → all ≡ made ++ bound_limits m bs
+pub bounds_are : (m : ℕ) (made : List Limit) (bs : List ColumnBounds) (all : List Limit) → bound_limits_from m made bs ≡ Ok all → all ≡ made ++ bound_limits m bs
 bounds_are m made [] all e = sym (ok_same made all e) ∙ sym (append-nil made)
 bounds_are m made (b ∷ bs) all e =
     let a = after_ok (bound_walk m made b.lower b.upper) (λ more. bound_limits_from (behind (part_of m b.lower b.upper)) more bs) all e in
@@ -157,21 +157,21 @@ behind_rises m (Some l) high = omega arith
 behind_rises m None (Some u) = omega arith
 behind_rises m None None = omega arith
 
-behind_more : (m : ℕ) (bs : List Bound) → m ≤ behind_all m (parts_from m bs)
+behind_more : (m : ℕ) (bs : List ColumnBounds) → m ≤ behind_all m (parts_from m bs)
 behind_more m [] = omega arith
 behind_more m (b ∷ bs) =
     let r : m < behind (part_of m b.lower b.upper) = behind_rises m b.lower b.upper in
     let s : behind (part_of m b.lower b.upper) ≤ behind_all (behind (part_of m b.lower b.upper)) (parts_from (behind (part_of m b.lower b.upper)) bs) = behind_more (behind (part_of m b.lower b.upper)) bs in
     omega arith
 
-bounds_below : (n m : ℕ) (bs : List Bound) → behind_all m (parts_from m bs) ≤ n → AllBelow n (bound_limits m bs)
+bounds_below : (n m : ℕ) (bs : List ColumnBounds) → behind_all m (parts_from m bs) ≤ n → AllBelow n (bound_limits m bs)
 bounds_below n m [] h = tt
 bounds_below n m (b ∷ bs) h =
     let s : behind (part_of m b.lower b.upper) ≤ behind_all (behind (part_of m b.lower b.upper)) (parts_from (behind (part_of m b.lower b.upper)) bs) = behind_more (behind (part_of m b.lower b.upper)) bs in
     below-append n (bound_limit m b.lower b.upper) (bound_limits (behind (part_of m b.lower b.upper)) bs)
     (bound_below n m b.lower b.upper (omega arith)) (bounds_below n (behind (part_of m b.lower b.upper)) bs h)
 
-pub limits_below : (ss : List Span) (bs : List Bound) → AreParts 0 (parts_from 0 bs) → AreSpans (length (parts_from 0 bs)) ss
+pub limits_below : (ss : List Span) (bs : List ColumnBounds) → AreParts 0 (parts_from 0 bs) → AreSpans (length (parts_from 0 bs)) ss
     → AllBelow (behind_all 0 (parts_from 0 bs)) (span_limits (parts_from 0 bs) ss ++ bound_limits 0 bs)
 limits_below ss bs p a =
     below-append (behind_all 0 (parts_from 0 bs)) (span_limits (parts_from 0 bs) ss) (bound_limits 0 bs) (spans_below (parts_from 0 bs) ss p a) (bounds_below (behind_all 0 (parts_from 0 bs)) 0 bs (omega arith))

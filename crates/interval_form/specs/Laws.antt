@@ -7,7 +7,7 @@ use Rattle.slack_form.specs.declared.limits.Limit.{Limit}
 use Rattle.slack_form.specs.declared.limits.Limits.{Limits}
 use Rattle.slack_form.specs.Standard.{standard_of, signed}
 use Rattle.scen_defs.specs.declared.program.NodeRow.{NodeRow}
-use Rattle.interval_form.specs.declared.bound.Bound.{Bound}
+use Rattle.cut_defs.specs.declared.datum.ColumnBounds.{ColumnBounds}
 use Rattle.interval_form.specs.declared.part.Part.{Part}
 use Rattle.interval_form.specs.Rows.{own_limits_from, bound_limits_from}
 use Rattle.interval_form.specs.Spans.{span_limits, span_sums, bound_limits}
@@ -18,9 +18,9 @@ use Rattle.interval_form.specs.Values.{value_at, move_at}
 
 -- the walks give the rows of three kinds
 pub record RowLaws : Type 0 where
-  pub rows : (bs : List Bound) (parts : List Part) (trial : List Entry) (rows : List NodeRow) (all : List Limit)
+  pub rows : (bs : List ColumnBounds) (parts : List Part) (trial : List Entry) (rows : List NodeRow) (all : List Limit)
       → own_limits_from bs parts trial [] rows ≡ Ok all → all ≡ span_limits parts (spans_at bs trial rows)
-  pub bounds : (made : List Limit) (bs : List Bound) (all : List Limit)
+  pub bounds : (made : List Limit) (bs : List ColumnBounds) (all : List Limit)
       → bound_limits_from 0 made bs ≡ Ok all → all ≡ made ++ bound_limits 0 bs
 
 pub record PlainLaws : Type 0 where

@@ -14,7 +14,7 @@ use Rattle.lp_defs.specs.Walks.{Walk}
 use Rattle.slack_form.specs.declared.limits.Limit.{Limit}
 use Rattle.scen_defs.specs.Lists.{pick}
 use Rattle.scen_defs.specs.declared.program.NodeRow.{NodeRow}
-use Rattle.interval_form.specs.declared.bound.Bound.{Bound}
+use Rattle.cut_defs.specs.declared.datum.ColumnBounds.{ColumnBounds}
 use Rattle.interval_form.specs.declared.part.Part.{Part}
 use Rattle.interval_form.specs.Parts.{part_of, behind, entry, spread_form}
 use Rattle.interval_form.specs.Own.{own_form, other_form}
@@ -28,7 +28,7 @@ terms_walk op x s [] = Ok s
 terms_walk op x s (e ∷ f) = then_walk (step_walk op s e.value (x e.column)) (λ t. terms_walk op x t f)
 
 -- s, then the terms of the columns that aren't own ones, then those of the shifts
-abbrev pub right_walk : Op → List Bound → List Part → List Entry → ℚ → List Entry → Walk ℚ
+abbrev pub right_walk : Op → List ColumnBounds → List Part → List Entry → ℚ → List Entry → Walk ℚ
 right_walk op bs parts trial s f =
     then_walk (terms_walk op (coefficient trial) s (other_form bs f)) (λ t. terms_walk op (shift_at parts) t (own_form bs f))
 
@@ -38,16 +38,16 @@ pub record HasForm (r : NodeRow) : Type 0 where
   pub form : IsForm r.entries
 
 -- the limit of an end of this form
-abbrev pub limit_walk : List Bound → List Part → List Entry → List Entry → RowKind → ℚ → Walk Limit
+abbrev pub limit_walk : List ColumnBounds → List Part → List Entry → List Entry → RowKind → ℚ → Walk Limit
 limit_walk bs parts trial f kind end = then_walk (right_walk Sub bs parts trial end f)
     (λ right. Ok (record { entries = spread_form parts (own_form bs f); kind = kind; right = right }))
 
 -- the same behind the limits that are made
-abbrev pub push_walk : List Bound → List Part → List Entry → List Entry → List Limit → RowKind → ℚ → Walk (List Limit)
+abbrev pub push_walk : List ColumnBounds → List Part → List Entry → List Entry → List Limit → RowKind → ℚ → Walk (List Limit)
 push_walk bs parts trial f made kind end = then_walk (limit_walk bs parts trial f kind end) (λ limit. Ok (made ++ limit ∷ []))
 
 -- of a row: one equation where its ends are equal, else one limit for each end, the low one first
-abbrev pub ends_walk : List Bound → List Part → List Entry → List Entry → List Limit → Option ℚ → Option ℚ → Walk (List Limit)
+abbrev pub ends_walk : List ColumnBounds → List Part → List Entry → List Entry → List Limit → Option ℚ → Option ℚ → Walk (List Limit)
 ends_walk bs parts trial f made None None = Ok made
 ends_walk bs parts trial f made (Some low) None = push_walk bs parts trial f made Greater low
 ends_walk bs parts trial f made None (Some high) = push_walk bs parts trial f made Less high
@@ -55,7 +55,7 @@ ends_walk bs parts trial f made (Some low) (Some high) = pick (same low high)
     (push_walk bs parts trial f made Equal low)
     (then_walk (push_walk bs parts trial f made Greater low) (λ more. push_walk bs parts trial f more Less high))
 
-abbrev pub own_limits_from : List Bound → List Part → List Entry → List Limit → List NodeRow → Walk (List Limit)
+abbrev pub own_limits_from : List ColumnBounds → List Part → List Entry → List Limit → List NodeRow → Walk (List Limit)
 own_limits_from bs parts trial made [] = Ok made
 own_limits_from bs parts trial made (r ∷ rs) =
     then_walk (ends_walk bs parts trial r.entries made r.low r.high) (λ more. own_limits_from bs parts trial more rs)
@@ -70,7 +70,7 @@ bound_walk m made (Some low) (Some high) =
     then_walk (sub_walk high low) (λ width. Ok (made ++ record { entries = entry m one_ℚ ∷ []; kind = Less; right = width } ∷ []))
 
 -- the new columns begin at m
-abbrev pub bound_limits_from : ℕ → List Limit → List Bound → Walk (List Limit)
+abbrev pub bound_limits_from : ℕ → List Limit → List ColumnBounds → Walk (List Limit)
 bound_limits_from m made [] = Ok made
 bound_limits_from m made (b ∷ bs) =
     then_walk (bound_walk m made b.lower b.upper) (λ more. bound_limits_from (behind (part_of m b.lower b.upper)) more bs)

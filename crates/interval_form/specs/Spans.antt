@@ -10,7 +10,7 @@ use Rattle.lp_defs.specs.Program.{IsFormBelow}
 use Rattle.slack_form.specs.declared.limits.Limit.{Limit}
 use Rattle.scen_defs.specs.Lists.{Each, pick}
 use Rattle.scen_defs.specs.Ends.{InOrder, IsGoodAt, worth}
-use Rattle.interval_form.specs.declared.bound.Bound.{Bound}
+use Rattle.cut_defs.specs.declared.datum.ColumnBounds.{ColumnBounds}
 use Rattle.interval_form.specs.declared.part.Part.{Part}
 use Rattle.interval_form.specs.Parts.{part_of, behind, part_at, shift, entry, spread_form}
 
@@ -58,7 +58,7 @@ bound_limit m None upper = []
 bound_limit m (Some low) None = []
 bound_limit m (Some low) (Some high) = width_limit m (high -ℚ low) ∷ []
 
-abbrev pub bound_limits : ℕ → List Bound → List Limit
+abbrev pub bound_limits : ℕ → List ColumnBounds → List Limit
 bound_limits m [] = []
 bound_limits m (b ∷ bs) = bound_limit m b.lower b.upper ++ bound_limits (behind (part_of m b.lower b.upper)) bs
 

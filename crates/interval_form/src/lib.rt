@@ -2,14 +2,12 @@
 //! columns that are at least 0.
 #![tactic(auto)]
 
-mod bound;
 mod laws;
 mod own;
 mod part;
 mod place;
 mod rows;
 
-pub use bound::Bound;
 pub use laws::{plain_ends_mean, rows_mean};
 pub use own::{behind_own, limit_count, own_duals, split, sum};
 pub use part::{

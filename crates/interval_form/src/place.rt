@@ -4,19 +4,20 @@ ghost use Rattle.rationals.specs.declared.Op.TheVariants.{Add, Sub};
 ghost use Rattle.rationals.specs.Passes.{step_walk};
 ghost use Rattle.rationals.specs.Sparse.{coefficient};
 ghost use Rattle.scen_defs.specs.Lists.{pick};
-ghost use Rattle.interval_form.specs.Own.{Rises, place_of, own_entry, other_entry, own_form, other_form};
+ghost use Rattle.interval_form.specs.Own.{place_of, own_entry, other_entry, own_form, other_form};
+ghost use Rattle.cut_defs.specs.Data.{BoundsRise};
 ghost use Rattle.interval_form.specs.Parts.{spread_form};
 ghost use Rattle.interval_form.specs.Spans.{shift_at};
 ghost use Rattle.interval_form.specs.Rows.{terms_walk, right_walk};
 
-use crate::bound::Bound;
 use crate::part::{Part, part_at, push_spread, shift};
+use cut_defs::ColumnBounds;
 use frac128::{Form, Frac, Memory, Passed, Term};
 use std::alloc::Global;
 
 /// The place of a column among own columns, found by bisection.
-pub fn place_of(bounds: &[Bound], column: u64) -> Option<u64>
-    requires { Rises 0 bounds.now }
+pub fn place_of(bounds: &[ColumnBounds], column: u64) -> Option<u64>
+    requires { BoundsRise 0 bounds.now }
     ensures { result ≡ place_of bounds.now column }
 {
     let mut first = 0;
@@ -53,12 +54,12 @@ fn with_product(is_sum: bool, start: Frac, a: Frac, b: Frac) -> Result<Frac, Pas
 /// A term of a column that isn't an own one, times the column's value in the trial.
 fn other_term(
     is_sum: bool,
-    bounds: &[Bound],
+    bounds: &[ColumnBounds],
     trial: &Form,
     sum: Frac,
     term: Term,
 ) -> Result<Frac, Passed>
-    requires { Rises 0 bounds.now }
+    requires { BoundsRise 0 bounds.now }
     ensures { result ≡ terms_walk (pick is_sum Add Sub) (coefficient trial.now) sum (other_entry (place_of bounds.now term.column) term) }
 {
     match place_of(bounds, term.column) {
@@ -70,12 +71,12 @@ fn other_term(
 /// The terms of the columns that aren't own ones.
 fn other_terms(
     is_sum: bool,
-    bounds: &[Bound],
+    bounds: &[ColumnBounds],
     trial: &Form,
     start: Frac,
     form: &[Term],
 ) -> Result<Frac, Passed>
-    requires { Rises 0 bounds.now }
+    requires { BoundsRise 0 bounds.now }
     ensures { result ≡ terms_walk (pick is_sum Add Sub) (coefficient trial.now) start (other_form bounds.now form.now) }
 {
     let mut sum = start;
@@ -88,12 +89,12 @@ fn other_terms(
 /// A term of an own column, times the column's shift.
 fn own_term(
     is_sum: bool,
-    bounds: &[Bound],
+    bounds: &[ColumnBounds],
     parts: &[Part],
     sum: Frac,
     term: Term,
 ) -> Result<Frac, Passed>
-    requires { Rises 0 bounds.now }
+    requires { BoundsRise 0 bounds.now }
     ensures { result ≡ terms_walk (pick is_sum Add Sub) (shift_at parts.now) sum (own_entry (place_of bounds.now term.column) term.value) }
 {
     match place_of(bounds, term.column) {
@@ -105,12 +106,12 @@ fn own_term(
 /// The terms of the own columns.
 fn own_terms(
     is_sum: bool,
-    bounds: &[Bound],
+    bounds: &[ColumnBounds],
     parts: &[Part],
     start: Frac,
     form: &[Term],
 ) -> Result<Frac, Passed>
-    requires { Rises 0 bounds.now }
+    requires { BoundsRise 0 bounds.now }
     ensures { result ≡ terms_walk (pick is_sum Add Sub) (shift_at parts.now) start (own_form bounds.now form.now) }
 {
     let mut sum = start;
@@ -124,13 +125,13 @@ fn own_terms(
 /// subtracted.
 pub fn right_side(
     is_sum: bool,
-    bounds: &[Bound],
+    bounds: &[ColumnBounds],
     parts: &[Part],
     trial: &Form,
     start: Frac,
     form: &[Term],
 ) -> Result<Frac, Passed>
-    requires { Rises 0 bounds.now }
+    requires { BoundsRise 0 bounds.now }
     ensures { result ≡ right_walk (pick is_sum Add Sub) bounds.now parts.now trial.now start form.now }
 {
     let met = other_terms(is_sum, bounds, trial, start, form)?;
@@ -140,11 +141,11 @@ pub fn right_side(
 /// The entries of the own columns, as entries of the new columns.
 pub fn spread_own(
     alloc: Global,
-    bounds: &[Bound],
+    bounds: &[ColumnBounds],
     parts: &[Part],
     form: &[Term],
 ) -> Result<Vec<Term>, Memory>
-    requires { Rises 0 bounds.now }
+    requires { BoundsRise 0 bounds.now }
     ensures { IfOk result (λ terms. terms.items ≡ spread_form parts.now (own_form bounds.now form.now)) }
 {
     let mut terms = Vec::new(alloc);
@@ -157,11 +158,11 @@ pub fn spread_own(
 /// Adds the entries of a term of an own column.
 pub fn push_own(
     terms: &mut Vec<Term>,
-    bounds: &[Bound],
+    bounds: &[ColumnBounds],
     parts: &[Part],
     term: Term,
 ) -> Result<(), Memory>
-    requires { Rises 0 bounds.now }
+    requires { BoundsRise 0 bounds.now }
     ensures { OnOk result
         (terms.new.items ≡ terms.old.items ++ spread_form parts.now (own_entry (place_of bounds.now term.column) term.value)) }
 {

@@ -4,13 +4,13 @@ ghost use Rattle.rationals.specs.Rational.{one_ℚ};
 ghost use Rattle.rationals.specs.Forms.{IsForm};
 ghost use Rattle.scen_defs.specs.Lists.{Each};
 ghost use Rattle.frac128.specs.Faults.{FaultOf, IfNotMemory};
-ghost use Rattle.interval_form.specs.Own.{Rises};
+ghost use Rattle.cut_defs.specs.Data.{BoundsRise};
 ghost use Rattle.interval_form.specs.Parts.{AreParts, behind_all, parts_from};
 ghost use Rattle.interval_form.specs.Rows.{HasForm, limit_walk, ends_walk, own_limits_from, bound_walk, bound_limits_from};
 
-use crate::bound::Bound;
 use crate::part::{Part, behind, part_of};
 use crate::place::{right_side, spread_own};
+use cut_defs::ColumnBounds;
 use frac128::{Form, FormFault, Frac};
 use scen_defs::NodeRow;
 use slack_form::Limit;
@@ -20,7 +20,7 @@ use std::alloc::Global;
 /// The limit of an end of a row.
 fn limit(
     alloc: Global,
-    bounds: &[Bound],
+    bounds: &[ColumnBounds],
     parts: &[Part],
     trial: &Form,
     entries: &Form,
@@ -29,7 +29,7 @@ fn limit(
 ) -> Result<Limit, FormFault>
     requires parts { AreParts 0 parts.now }
     requires one_each { length bounds.now ≤ length parts.now }
-    requires rises { Rises 0 bounds.now }
+    requires rises { BoundsRise 0 bounds.now }
     requires form { IsForm entries.now }
     ensures { IfNotMemory result (limit_walk bounds.now parts.now trial.now entries.now kind end) }
 {
@@ -46,7 +46,7 @@ fn limit(
 /// Adds the limits of a row: one equation where its ends are equal, else one limit for each end.
 fn push_ends(
     alloc: Global,
-    bounds: &[Bound],
+    bounds: &[ColumnBounds],
     parts: &[Part],
     trial: &Form,
     row: &NodeRow,
@@ -54,7 +54,7 @@ fn push_ends(
 ) -> Result<(), FormFault>
     requires parts { AreParts 0 parts.now }
     requires one_each { length bounds.now ≤ length parts.now }
-    requires rises { Rises 0 bounds.now }
+    requires rises { BoundsRise 0 bounds.now }
     requires form { IsForm row.now.entries }
     ensures { MatchResult result
         (λ _. ends_walk bounds.now parts.now trial.now row.now.entries limits.old.items row.now.low row.now.high ≡ Ok limits.new.items)
@@ -84,14 +84,14 @@ fn push_ends(
 /// The limits of the rows, at the values of the trial.
 pub fn own_limits(
     alloc: Global,
-    bounds: &[Bound],
+    bounds: &[ColumnBounds],
     parts: &[Part],
     trial: &Form,
     rows: &[NodeRow],
 ) -> Result<Vec<Limit>, FormFault>
     requires parts { AreParts 0 parts.now }
     requires one_each { length bounds.now ≤ length parts.now }
-    requires rises { Rises 0 bounds.now }
+    requires rises { BoundsRise 0 bounds.now }
     requires forms { Each HasForm rows.now }
     ensures { MatchResult result (λ limits. own_limits_from bounds.now parts.now trial.now [] rows.now ≡ Ok limits.items)
         (FaultOf (own_limits_from bounds.now parts.now trial.now [] rows.now)) }
@@ -116,7 +116,7 @@ fn unit(alloc: Global, column: u64) -> Result<Form, FormFault>
 fn push_bound(
     alloc: Global,
     new: u64,
-    bound: &Bound,
+    bound: &ColumnBounds,
     limits: &mut Vec<Limit>,
 ) -> Result<(), FormFault>
     ensures { MatchResult result (λ _. bound_walk new limits.old.items bound.now.lower bound.now.upper ≡ Ok limits.new.items)
@@ -137,7 +137,7 @@ fn push_bound(
 /// Adds the limits of the columns with two bounds, and counts the new columns.
 pub fn push_bounds(
     alloc: Global,
-    bounds: &[Bound],
+    bounds: &[ColumnBounds],
     limits: &mut Vec<Limit>,
 ) -> Result<u64, FormFault>
     requires { length bounds.now < 2 ^ 60 }
