@@ -1,0 +1,9 @@
+pub mod Tails
+pub mod Halving
+pub mod Rising
+pub mod SumEnds
+pub mod FormEnds
+pub mod MadeFrom
+pub mod RepairLaws
+pub mod NotGood
+pub mod DatumLaws

@@ -1,0 +1,22 @@
+//! Cuts with the records that prove them.
+#![tactic(auto)]
+
+mod checks;
+mod columns;
+mod cut;
+mod datum;
+mod fault;
+mod laws;
+mod making;
+mod repair;
+mod resting;
+mod stamps;
+mod sums;
+
+pub use cut::{Cut, Record, SharedCut, Used};
+pub use cut_defs::{Bank, ColumnBounds, CutKind, Part, Share, Shift, Stamp, Touch};
+pub use datum::NodeDatum;
+pub use fault::CutFault;
+pub use laws::{nothing_is_made, repairs_are_exact, values_are_exact};
+pub use repair::shifted;
+pub use resting::{rests, stamp_rests};
