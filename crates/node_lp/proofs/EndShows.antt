@@ -16,13 +16,13 @@ use Rattle.slack_form.specs.declared.limits.Limits.{Limits}
 use Rattle.slack_form.specs.Standard.{standard_of, signed, turned_back}
 use Rattle.scen_defs.specs.Lists.{pick}
 use Rattle.scen_defs.specs.declared.program.NodeRow.{NodeRow}
-use Rattle.interval_form.specs.declared.bound.Bound.{Bound}
+use Rattle.cut_defs.specs.declared.datum.ColumnBounds.{ColumnBounds}
 use Rattle.interval_form.specs.declared.part.Part.{Part}
 use Rattle.interval_form.specs.declared.part.Part.TheVariants.{Above, Below, Free}
 use Rattle.interval_form.specs.declared.part.Vector.TheVariants.{Point}
 use Rattle.interval_form.specs.Parts.{part_at, value_of, value_walk}
 use Rattle.interval_form.specs.Values.{value_at as place_value}
-use Rattle.interval_form.specs.Own.{form_of, columns_of, listed}
+use Rattle.interval_form.specs.Own.{by_number, columns_of, listed}
 use Rattle.interval_form.specs.Spans.{limit_count, sum_first}
 use Rattle.interval_form.specs.Rows.{terms_walk, row_sums, row_numbers}
 use Rattle.interval_form.specs.Plain.{IsWritten}
@@ -46,22 +46,22 @@ number_is (Above l m) z v e = walk_value Add l (z m) v e
 number_is (Below u m) z v e = sub_walk_is u (z m) v e
 number_is (Free m n) z v e = sub_walk_is (z m) (z n) v e
 
-point_are : (z : ℕ → ℚ) (ps : List Part) (made : List Entry) (k : ℕ) (bs : List Bound) (all : List Entry) → point_from z ps made k bs ≡ Ok all → all ≡ made ++ form_of (columns_of bs) (listed (place_value ps z) k bs)
+point_are : (z : ℕ → ℚ) (ps : List Part) (made : List Entry) (k : ℕ) (bs : List ColumnBounds) (all : List Entry) → point_from z ps made k bs ≡ Ok all → all ≡ made ++ by_number (columns_of bs) (listed (place_value ps z) k bs)
 point_are z ps made k [] all e = sym (ok_same made all e) ∙ sym (append-nil made)
 point_are z ps made k (b ∷ bs) all e =
     let a = after_ok (value_walk Point (part_at ps k) z) (λ v. point_from z ps (made ++ put b.column v []) (suc k) bs) all e in
     point_are z ps (made ++ put b.column a.0 []) (suc k) bs all a.2
-    ∙ ap (λ (v : ℚ). (made ++ put b.column v []) ++ form_of (columns_of bs) (listed (place_value ps z) (suc k) bs)) (number_is (part_at ps k) z a.0 a.1)
-    ∙ put_next made b.column (place_value ps z k) (form_of (columns_of bs) (listed (place_value ps z) (suc k) bs))
+    ∙ ap (λ (v : ℚ). (made ++ put b.column v []) ++ by_number (columns_of bs) (listed (place_value ps z) (suc k) bs)) (number_is (part_at ps k) z a.0 a.1)
+    ∙ put_next made b.column (place_value ps z k) (by_number (columns_of bs) (listed (place_value ps z) (suc k) bs))
 
-multipliers_are : (made : List Entry) (rows : List NodeRow) (w : List ℚ) (all : List Entry) → multipliers_from made rows w ≡ Ok all → all ≡ made ++ form_of (row_numbers rows) (row_sums rows w)
+multipliers_are : (made : List Entry) (rows : List NodeRow) (w : List ℚ) (all : List Entry) → multipliers_from made rows w ≡ Ok all → all ≡ made ++ by_number (row_numbers rows) (row_sums rows w)
 multipliers_are made [] w all e = sym (ok_same made all e) ∙ sym (append-nil made)
 multipliers_are made (r ∷ rs) w all e =
     let a = after_ok (sum_walk (take (limit_count r.low r.high) w)) (λ y. multipliers_from (made ++ put r.row y []) rs (drop (limit_count r.low r.high) w)) all e in
     let s : a.0 ≡ sum_first (limit_count r.low r.high) w = sum_from_is zero_ℚ (take (limit_count r.low r.high) w) a.0 a.1 ∙ zero_add_ℚ (sum_first (limit_count r.low r.high) w) in
     multipliers_are (made ++ put r.row a.0 []) rs (drop (limit_count r.low r.high) w) all a.2
-    ∙ ap (λ (v : ℚ). (made ++ put r.row v []) ++ form_of (row_numbers rs) (row_sums rs (drop (limit_count r.low r.high) w))) s
-    ∙ put_next made r.row (sum_first (limit_count r.low r.high) w) (form_of (row_numbers rs) (row_sums rs (drop (limit_count r.low r.high) w)))
+    ∙ ap (λ (v : ℚ). (made ++ put r.row v []) ++ by_number (row_numbers rs) (row_sums rs (drop (limit_count r.low r.high) w))) s
+    ∙ put_next made r.row (sum_first (limit_count r.low r.high) w) (by_number (row_numbers rs) (row_sums rs (drop (limit_count r.low r.high) w)))
 
 children_are : (z : ℕ → ℚ) (ps : List Part) (s : ℚ) (k : ℕ) (shares : List Share) (v : ℚ) → children_from z ps s k shares ≡ Ok v → v ≡ s +ℚ shared_cost shares (costs_from (place_value ps z) k shares)
 children_are z ps s k [] v e = sym (ok_same s v e) ∙ sym (add_zero_ℚ s)

@@ -7,7 +7,7 @@ use Rattle.rationals.specs.Sparse.{Entry, coefficient, product, value_if}
 use Rattle.scen_defs.specs.Lists.{Each}
 use Rattle.scen_defs.specs.Ends.{Between, IsGoodAt, worth}
 use Rattle.scen_defs.specs.declared.program.NodeRow.{NodeRow}
-use Rattle.interval_form.specs.declared.bound.Bound.{Bound}
+use Rattle.cut_defs.specs.declared.datum.ColumnBounds.{ColumnBounds}
 use Rattle.cut_defs.specs.declared.datum.Share.{Share}
 use Rattle.cut_defs.specs.declared.kinds.CutKind.{CutKind}
 use Rattle.cut_defs.specs.declared.kinds.CutKind.TheVariants as cut_kind
@@ -59,7 +59,7 @@ reduced p kind y ws j = cost_in p kind j +ℚ slope p y ws j
 
 unfoldable pub constant : Problem → CutKind → List Entry → List ℚ → ℚ
 constant p kind y ws = sum_ℚ (λ (r : NodeRow). worth r.low r.high (coefficient y r.row)) p.rows
-    +ℚ sum_ℚ (λ (b : Bound). worth b.lower b.upper (reduced p kind y ws b.column)) p.bounds
+    +ℚ sum_ℚ (λ (b : ColumnBounds). worth b.lower b.upper (reduced p kind y ws b.column)) p.bounds
     +ℚ weighed_constant ws p.cuts
 
 -- the constant and, column by column of the trial, its value times the coefficient
@@ -79,7 +79,7 @@ pub record IsRecord (p : Problem) (kind : CutKind) (y : List Entry) (ws : List �
   pub none_below : NoneBelow ws
   -- every used end is finite
   pub rows : Each (λ (r : NodeRow). IsGoodAt r.low r.high (coefficient y r.row)) p.rows
-  pub bounds : Each (λ (b : Bound). IsGoodAt b.lower b.upper (reduced p kind y ws b.column)) p.bounds
+  pub bounds : Each (λ (b : ColumnBounds). IsGoodAt b.lower b.upper (reduced p kind y ws b.column)) p.bounds
   pub weights : HasWeights p kind ws
 
 -- ---- points of the node's program
@@ -107,7 +107,7 @@ limit_of cut_kind.Ray costs k = zero_ℚ
 -- the point's columns meet the rows and bounds at the trial, and the cuts lie below the children's costs
 pub record Meets (p : Problem) (x : List Entry) (costs : List ℚ) : Type 0 where
   pub rows : Each (λ (r : NodeRow). Between r.low r.high (form_at p x r.entries)) p.rows
-  pub bounds : Each (λ (b : Bound). Between b.lower b.upper (coefficient x b.column)) p.bounds
+  pub bounds : Each (λ (b : ColumnBounds). Between b.lower b.upper (coefficient x b.column)) p.bounds
   pub cuts : Each (λ (c : PlacedCut). c.cut.constant +ℚ form_at p x c.cut.form ≤ℚ limit_of c.cut.kind costs c.child) p.cuts
 
 -- what a point of the node's program costs

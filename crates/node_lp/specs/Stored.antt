@@ -1,5 +1,5 @@
 -- The record of a node's program as a record over a datum, with the forms of the used cuts as data.
-use Rattle.std.specs.Prelude.{◌≡◌, List, [], ◌∷◌, map}
+use Rattle.std.specs.Prelude.{◌≡◌, List, [], ◌∷◌}
 use Rattle.rationals.specs.Rational.{ℚ, zero_ℚ, ◌<ℚ◌}
 use Rattle.rationals.specs.Forms.{is_zero}
 use Rattle.scen_defs.specs.Lists.{Each, pick}
@@ -10,32 +10,27 @@ use Rattle.cut_defs.specs.declared.kinds.CutKind.{CutKind}
 use Rattle.cut_defs.specs.declared.datum.ColumnBounds.{ColumnBounds}
 use Rattle.cut_defs.specs.Data.{Datum}
 use Rattle.cut_defs.specs.Stored as stored
-use Rattle.interval_form.specs.declared.bound.Bound.{Bound}
-use Rattle.node_lp.specs.Problem.{PlacedCut, Problem}
+use Rattle.cut_defs.specs.Stored.{Stored}
+use Rattle.node_lp.specs.Problem.{held, PlacedCut, Problem}
 use Rattle.node_lp.specs.Records.{IsRecord}
 
 -- the stored cuts are those of the program
-abbrev pub AreStored : List PlacedCut → List stored.Stored → Type 0
+abbrev pub AreStored : List PlacedCut → List Stored → Type 0
 AreStored [] [] = Unit {0}
 AreStored [] (d ∷ ds) = ⊥
 AreStored (c ∷ cs) [] = ⊥
-AreStored (c ∷ cs) (d ∷ ds) =
-    ((stored.source_of d).kind ≡ c.cut.kind) × ((stored.source_of d).node ≡ c.cut.node) × (stored.form_of d ≡ c.cut.form) × AreStored cs ds
-
--- the bounds of a column, as a datum has them
-abbrev pub bounds_in : Bound → ColumnBounds
-bounds_in b = record { column = b.column; lower = b.lower; upper = b.upper }
+AreStored (c ∷ cs) (d ∷ ds) = (held d ≡ c.cut) × AreStored cs ds
 
 -- the program is that of the datum
-pub record IsStoredIn (d : Datum) (p : Problem) (cuts : List stored.Stored) : Type 0 where
+pub record IsStoredIn (d : Datum) (p : Problem) (cuts : List Stored) : Type 0 where
   pub rows : d.rows ≡ p.rows
   pub cost : d.cost ≡ p.cost
-  pub bounds : d.bounds ≡ map bounds_in p.bounds
+  pub bounds : d.bounds ≡ p.bounds
   pub shares : d.shares ≡ p.shares
   pub same : AreStored p.cuts cuts
 
 -- the cuts with their weights, those with weight 0 left out
-abbrev pub stored_uses : List ℚ → List stored.Stored → stored.StoredUses
+abbrev pub stored_uses : List ℚ → List Stored → stored.StoredUses
 stored_uses ws [] = stored.StoredUses.No_stored
 stored_uses [] (d ∷ ds) = stored.StoredUses.No_stored
 stored_uses (w ∷ ws) (d ∷ ds) = pick (is_zero w) (stored_uses ws ds) (stored.StoredUses.Use_stored w d (stored_uses ws ds))
@@ -53,6 +48,6 @@ pub record IsGoodStored (d : Datum) (s : stored.Source) (uses : stored.StoredUse
   pub above : AreAbove uses
 
 abbrev pub StoredRecordsHold : Type 0
-StoredRecordsHold = (d : Datum) (s : stored.Source) (p : Problem) (kind : CutKind) (cuts : List stored.Stored) (ws : List ℚ)
+StoredRecordsHold = (d : Datum) (s : stored.Source) (p : Problem) (kind : CutKind) (cuts : List Stored) (ws : List ℚ)
     → s.kind ≡ kind → IsStoredIn d p cuts → IsRecord p kind s.multipliers ws
     → IsGoodStored d s (stored_uses ws cuts)

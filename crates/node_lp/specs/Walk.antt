@@ -13,7 +13,7 @@ use Rattle.farkas_ray.specs.Sums.{ray_walk}
 use Rattle.slack_form.specs.declared.limits.Limit.{Limit}
 use Rattle.slack_form.specs.Standard.{standard_from, turned_back}
 use Rattle.scen_defs.specs.Lists.{Each, pick}
-use Rattle.interval_form.specs.declared.bound.Bound.{Bound}
+use Rattle.cut_defs.specs.declared.datum.ColumnBounds.{ColumnBounds}
 use Rattle.interval_form.specs.declared.part.Part.{Part}
 use Rattle.interval_form.specs.declared.part.Vector.TheVariants.{Point}
 use Rattle.interval_form.specs.Parts.{parts_from, behind_all, part_at, spread_form, value_walk}
@@ -32,16 +32,16 @@ use Rattle.node_lp.specs.Points.{weights_of}
 -- ---- rows
 
 -- a cut's row: from the constant, the terms of the trial, then of the shifts, added
-abbrev pub cut_walk : List Bound → List Part → List Entry → PlacedCut → Walk Limit
+abbrev pub cut_walk : List ColumnBounds → List Part → List Entry → PlacedCut → Walk Limit
 cut_walk bs parts trial c = then_walk (right_walk Add bs parts trial c.cut.constant c.cut.form)
     (λ right. Ok (record { entries = spread_form parts (cut_form bs c); kind = Greater; right = right }))
 
-abbrev pub cuts_from : List Bound → List Part → List Entry → List Limit → List PlacedCut → Walk (List Limit)
+abbrev pub cuts_from : List ColumnBounds → List Part → List Entry → List Limit → List PlacedCut → Walk (List Limit)
 cuts_from bs parts trial made [] = Ok made
 cuts_from bs parts trial made (c ∷ cs) = then_walk (cut_walk bs parts trial c) (λ l. cuts_from bs parts trial (made ++ l ∷ []) cs)
 
 -- the same, child by child, from the child at place k on
-abbrev pub child_cuts_from : List Bound → List Part → List Entry → Bool → List Limit → ℕ → List ChildCuts → Walk (List Limit)
+abbrev pub child_cuts_from : List ColumnBounds → List Part → List Entry → Bool → List Limit → ℕ → List ChildCuts → Walk (List Limit)
 child_cuts_from bs parts trial priced made k [] = Ok made
 child_cuts_from bs parts trial priced made k (c ∷ cs) =
     then_walk (cuts_from bs parts trial made (taken_of priced k c.cuts.items))
@@ -60,7 +60,8 @@ rows_walk p = then_walk (own_limits_from p.bounds (node_parts p) p.trial [] p.ro
     then_walk (cuts_from p.bounds (node_parts p) p.trial own p.cuts) (λ made. bound_limits_from 0 made (all_bounds p)))
 
 -- the same by children
-abbrev pub made_walk : Bool → List Bound → List Part → List Entry → List NodeRow → List ChildCuts → List Bound → Walk (List Limit)
+abbrev pub made_walk : Bool → List ColumnBounds → List Part → List Entry → List NodeRow → List ChildCuts → List ColumnBounds
+    → Walk (List Limit)
 made_walk priced bs parts trial rows children all = then_walk (own_limits_from bs parts trial [] rows) (λ own.
     then_walk (child_cuts_from bs parts trial priced own 0 children) (λ made. bound_limits_from 0 made all))
 
@@ -70,7 +71,7 @@ standard_seen p limits = standard_from (behind_all 0 (node_parts p)) limits (spr
 -- ---- the end of the path
 
 -- the own columns' values, behind those that are made, the next of them at place k; those that are 0 are left out
-abbrev pub point_from : (ℕ → ℚ) → List Part → List Entry → ℕ → List Bound → Walk (List Entry)
+abbrev pub point_from : (ℕ → ℚ) → List Part → List Entry → ℕ → List ColumnBounds → Walk (List Entry)
 point_from z ps made k [] = Ok made
 point_from z ps made k (b ∷ bs) =
     then_walk (value_walk Point (part_at ps k) z) (λ v. point_from z ps (made ++ put b.column v []) (suc k) bs)

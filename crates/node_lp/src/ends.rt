@@ -6,14 +6,14 @@ ghost use Rattle.rationals.specs.Sparse.{coefficient};
 ghost use Rattle.rationals.specs.Forms.{EndsBelow, put};
 ghost use Rattle.frac128.specs.Faults.{IfNotMemory};
 ghost use Rattle.scen_defs.specs.Lists.{pick};
-ghost use Rattle.interval_form.specs.Own.{Rises};
+ghost use Rattle.cut_defs.specs.Data.{BoundsRise};
 ghost use Rattle.interval_form.specs.Rows.{terms_walk};
-ghost use Rattle.node_lp.specs.Problem.{RowsRise};
+ghost use Rattle.cut_defs.specs.Data.{RowsRise};
 ghost use Rattle.node_lp.specs.Walk.{point_from, child_walk, children_from, total_walk, multipliers_from, counted};
 
-use cut_defs::Share;
+use cut_defs::{ColumnBounds, Share};
 use frac128::{Form, FormFault, Frac, Memory, Passed, Term};
-use interval_form::{Bound, Part, Vector, limit_count, part_at, split, sum, value};
+use interval_form::{Part, Vector, limit_count, part_at, split, sum, value};
 use scen_defs::NodeRow;
 use std::alloc::Global;
 
@@ -78,11 +78,11 @@ pub(crate) fn weights(alloc: Global, behind: &[Frac], cuts: usize) -> Result<For
 /// The values of the own columns that aren't 0, at a point over the new columns.
 pub(crate) fn point(
     alloc: Global,
-    bounds: &[Bound],
+    bounds: &[ColumnBounds],
     parts: &[Part],
     found: &Form,
 ) -> Result<Form, FormFault>
-    requires { Rises 0 bounds.now }
+    requires { BoundsRise 0 bounds.now }
     ensures { IfNotMemory result (point_from (coefficient found.now) parts.now [] 0 bounds.now) }
 {
     let mut form = Form::empty(alloc);

@@ -3,17 +3,20 @@ ghost use Rattle.std.specs.Prelude.{◌≡◌, ◌++◌, ◌<◌, ◌≤◌, ◌
 ghost use Rattle.rationals.specs.Forms.{IsForm};
 ghost use Rattle.frac128.specs.Faults.{FaultOf, IfNotMemory};
 ghost use Rattle.scen_defs.specs.Lists.{Each, pick};
-ghost use Rattle.interval_form.specs.Own.{Rises, own_form};
+ghost use Rattle.interval_form.specs.Own.{own_form};
+ghost use Rattle.cut_defs.specs.Data.{BoundsRise};
 ghost use Rattle.interval_form.specs.Parts.{AreParts, spread_form};
-ghost use Rattle.node_lp.specs.Problem.{IsCut, is_taken, taken_of};
+ghost use Rattle.node_lp.specs.Problem.{held, IsCut, is_taken, taken_of};
+ghost use Rattle.cut_defs.specs.Stored.{form_of, source_of};
 ghost use Rattle.node_lp.specs.Plain.{frees, share_form, less_form, child_entry};
 ghost use Rattle.cut_defs.specs.Cuts.{is_bound};
 ghost use Rattle.node_lp.specs.Walk.{cut_walk, cuts_from, child_cuts_from, AreCuts};
 
-use crate::task::{ChildCuts, HeldCut};
-use cut_defs::{CutKind, Share};
+use crate::task::ChildCuts;
+use cut_defs::{ColumnBounds, CutKind, Share};
+use cut_proof::{Cut, SharedCut};
 use frac128::{Form, FormFault, Frac, Memory, Term};
-use interval_form::{Bound, Part, part_at, push_own, push_spread, right_side, spread_own};
+use interval_form::{Part, part_at, push_own, push_spread, right_side, spread_own};
 use slack_form::Limit;
 use smps_words::RowKind;
 use std::alloc::Global;
@@ -21,10 +24,10 @@ use std::alloc::Global;
 /// The own columns and, where the children are priced, their costs, which have no bounds.
 pub(crate) fn all_bounds(
     alloc: Global,
-    bounds: &[Bound],
+    bounds: &[ColumnBounds],
     shares: &[Share],
     priced: bool,
-) -> Result<Vec<Bound>, Memory>
+) -> Result<Vec<ColumnBounds>, Memory>
     ensures { IfOk result (λ all. all.items ≡ bounds.now ++ pick priced (frees shares.now) []) }
 {
     let mut all = Vec::new(alloc);
@@ -36,11 +39,11 @@ pub(crate) fn all_bounds(
 }
 
 /// Adds the children's costs.
-fn push_frees(all: &mut Vec<Bound>, shares: &[Share]) -> Result<(), Memory>
+fn push_frees(all: &mut Vec<ColumnBounds>, shares: &[Share]) -> Result<(), Memory>
     ensures { OnOk result (all.new.items ≡ all.old.items ++ frees shares.now) }
 {
     for share in shares {
-        all.push(Bound {
+        all.push(ColumnBounds {
             column: share.child,
             lower: None,
             upper: None,
@@ -52,11 +55,11 @@ fn push_frees(all: &mut Vec<Bound>, shares: &[Share]) -> Result<(), Memory>
 /// The entries of the own columns with the other signs, as entries of the new columns.
 fn spread_less(
     alloc: Global,
-    bounds: &[Bound],
+    bounds: &[ColumnBounds],
     parts: &[Part],
     form: &[Term],
 ) -> Result<Vec<Term>, Memory>
-    requires { Rises 0 bounds.now }
+    requires { BoundsRise 0 bounds.now }
     ensures { IfOk result (λ terms. terms.items ≡ spread_form parts.now (less_form (own_form bounds.now form.now))) }
 {
     let mut terms = Vec::new(alloc);
@@ -69,11 +72,11 @@ fn spread_less(
 /// Adds the entries of a term of an own column with the other signs.
 fn push_less(
     terms: &mut Vec<Term>,
-    bounds: &[Bound],
+    bounds: &[ColumnBounds],
     parts: &[Part],
     term: Term,
 ) -> Result<(), Memory>
-    requires { Rises 0 bounds.now }
+    requires { BoundsRise 0 bounds.now }
     ensures { OnOk result (terms.new.items ≡ terms.old.items ++ spread_form parts.now (less_form (own_form bounds.now (term ∷ [])))) }
 {
     let value = term.value.neg();
@@ -106,23 +109,24 @@ fn push_child(
 /// The limit of a cut about the child at this place.
 fn cut_limit(
     alloc: Global,
-    bounds: &[Bound],
+    bounds: &[ColumnBounds],
     parts: &[Part],
     trial: &Form,
     child: usize,
-    cut: &HeldCut,
+    cut: &Cut,
 ) -> Result<Limit, FormFault>
     requires parts { AreParts 0 parts.now }
     requires one_each { length bounds.now ≤ length parts.now }
-    requires rises { Rises 0 bounds.now }
-    requires form { IsForm cut.now.form }
+    requires rises { BoundsRise 0 bounds.now }
+    requires form { IsForm (form_of cut.now) }
     requires few { length bounds.now + child < 2 ^ 62 }
-    requires place { is_bound cut.now.kind ≡ true → length bounds.now + child < length parts.now }
-    ensures { IfNotMemory result (cut_walk bounds.now parts.now trial.now (record { child = child; cut = cut.now })) }
+    requires place { is_bound (source_of cut.now).kind ≡ true → length bounds.now + child < length parts.now }
+    ensures { IfNotMemory result (cut_walk bounds.now parts.now trial.now (record { child = child; cut = held cut.now })) }
 {
-    let right = right_side(true, bounds, parts, trial, cut.constant, cut.form.terms())?;
-    let mut terms = spread_less(alloc, bounds, parts, cut.form.terms())?;
-    push_child(&mut terms, parts, cut.kind, (bounds.len() + child) as u64)?;
+    let form = cut.form().terms();
+    let right = right_side(true, bounds, parts, trial, cut.constant(), form)?;
+    let mut terms = spread_less(alloc, bounds, parts, form)?;
+    push_child(&mut terms, parts, cut.kind(), (bounds.len() + child) as u64)?;
     let entries = Form::from_terms(alloc, terms);
     Ok(Limit {
         entries,
@@ -144,27 +148,28 @@ fn is_taken(priced: bool, kind: CutKind) -> bool
 /// Adds the limits of the cuts about the child at this place.
 fn push_cuts(
     alloc: Global,
-    bounds: &[Bound],
+    bounds: &[ColumnBounds],
     parts: &[Part],
     trial: &Form,
     priced: bool,
     child: usize,
     shares: &[Share],
-    cuts: &[HeldCut],
+    cuts: &[SharedCut],
     limits: &mut Vec<Limit>,
 ) -> Result<(), FormFault>
     requires parts { AreParts 0 parts.now }
     requires count { length parts.now ≡ length bounds.now + length (pick priced (frees shares.now) []) }
     requires few_bounds { length bounds.now < 2 ^ 32 }
     requires few { child < 2 ^ 61 }
-    requires rises { Rises 0 bounds.now }
+    requires rises { BoundsRise 0 bounds.now }
     requires cuts { Each (IsCut priced shares.now) (taken_of priced child cuts.now) }
     ensures { MatchResult result
         (λ _. cuts_from bounds.now parts.now trial.now limits.old.items (taken_of priced child cuts.now) ≡ Ok limits.new.items)
         (FaultOf (cuts_from bounds.now parts.now trial.now limits.old.items (taken_of priced child cuts.now))) }
 {
     for cut in cuts {
-        if is_taken(priced, cut.kind) {
+        let cut = cut.cut();
+        if is_taken(priced, cut.kind()) {
             limits.push(cut_limit(alloc, bounds, parts, trial, child, cut)?)?;
         }
     }
@@ -174,7 +179,7 @@ fn push_cuts(
 /// Adds the limits of the cuts, child by child.
 pub(crate) fn push_children(
     alloc: Global,
-    bounds: &[Bound],
+    bounds: &[ColumnBounds],
     parts: &[Part],
     trial: &Form,
     priced: bool,
@@ -185,7 +190,7 @@ pub(crate) fn push_children(
     requires parts { AreParts 0 parts.now }
     requires count { length parts.now ≡ length bounds.now + length (pick priced (frees shares.now) []) }
     requires few_bounds { length bounds.now < 2 ^ 32 }
-    requires rises { Rises 0 bounds.now }
+    requires rises { BoundsRise 0 bounds.now }
     requires cuts { AreCuts priced shares.now 0 children.now }
     ensures { MatchResult result
         (λ _. child_cuts_from bounds.now parts.now trial.now priced limits.old.items 0 children.now ≡ Ok limits.new.items)
@@ -238,13 +243,13 @@ fn push_priced(
 /// The costs of the new columns.
 pub(crate) fn cost_terms(
     alloc: Global,
-    bounds: &[Bound],
+    bounds: &[ColumnBounds],
     parts: &[Part],
     priced: bool,
     cost: &Form,
     shares: &[Share],
 ) -> Result<Vec<Term>, Memory>
-    requires rises { Rises 0 bounds.now }
+    requires rises { BoundsRise 0 bounds.now }
     requires few { length bounds.now < 2 ^ 32 }
     requires few_shares { length shares.now < 2 ^ 32 }
     ensures { IfOk result (λ terms. terms.items

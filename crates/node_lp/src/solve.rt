@@ -5,7 +5,7 @@ ghost use Rattle.frac128.specs.Faults.{FaultOf, IfNotMemory};
 ghost use Rattle.lp_defs.specs.Solution.{Solution};
 ghost use Rattle.simplex_core.specs.Told.{Tells, Shows as ShowsItself};
 ghost use Rattle.scen_defs.specs.Lists.{Each, pick};
-ghost use Rattle.interval_form.specs.Own.{Rises};
+ghost use Rattle.cut_defs.specs.Data.{BoundsRise};
 ghost use Rattle.interval_form.specs.Parts.{AreParts, behind_all, parts_from, spread_form};
 ghost use Rattle.interval_form.specs.Rows.{HasForm};
 ghost use Rattle.slack_form.specs.Standard.{standard_of};
@@ -20,10 +20,10 @@ use crate::ends::{cost, own_multipliers, point, weights};
 use crate::program::{all_bounds, cost_terms, push_children};
 use crate::solved::{Multipliers, Solved};
 use crate::task::{ChildCuts, Task};
-use cut_defs::Share;
+use cut_defs::{ColumnBounds, Share};
 use farkas_ray::{Halted, ray};
 use frac128::{Form, FormFault, Frac, Memory};
-use interval_form::{Bound, Part, behind_own, own_limits, parts, push_bounds};
+use interval_form::{Part, behind_own, own_limits, parts, push_bounds};
 use scen_defs::{Kind, NodeRow};
 use simplex_core::{Outcome, Standard, solve};
 use slack_form::{Limit, Limits, own_duals, standard};
@@ -54,17 +54,17 @@ struct Limited {
 fn make_limits(
     alloc: Global,
     priced: bool,
-    bounds: &[Bound],
+    bounds: &[ColumnBounds],
     parts: &[Part],
     trial: &Form,
     rows: &[NodeRow],
     shares: &[Share],
     children: &[ChildCuts],
-    all: &[Bound],
+    all: &[ColumnBounds],
 ) -> Result<Limited, FormFault>
     requires parts { AreParts 0 parts.now }
     requires one_each { length bounds.now ≤ length parts.now }
-    requires rises { Rises 0 bounds.now }
+    requires rises { BoundsRise 0 bounds.now }
     requires forms { Each HasForm rows.now }
     requires count { length parts.now ≡ length bounds.now + length (pick priced (frees shares.now) []) }
     requires few_bounds { length bounds.now < 2 ^ 32 }
@@ -105,7 +105,12 @@ struct Made {
 }
 
 /// Makes the rows, operation by operation, and the cost.
-fn make_rows(alloc: Global, task: &Task, all: &[Bound], parts: &[Part]) -> Result<Made, FormFault>
+fn make_rows(
+    alloc: Global,
+    task: &Task,
+    all: &[ColumnBounds],
+    parts: &[Part],
+) -> Result<Made, FormFault>
     requires problem { IsProblem (problem_of task.now) }
     requires all { all.now ≡ all_bounds (problem_of task.now) }
     requires parts { parts.now ≡ node_parts (problem_of task.now) }
@@ -136,7 +141,7 @@ fn limits_of(
     alloc: Global,
     task: &Task,
     priced: bool,
-    all: &[Bound],
+    all: &[ColumnBounds],
     parts: &[Part],
 ) -> Result<Limited, FormFault>
     requires problem { IsProblem (problem_of task.now) }
@@ -153,11 +158,11 @@ fn limits_of(
     make_limits(
         alloc,
         priced,
-        &datum.bounds,
+        datum.bounds(),
         parts,
         &task.trial,
-        &datum.rows,
-        &datum.shares,
+        datum.rows(),
+        datum.shares(),
         &task.children,
         all,
     )
@@ -173,11 +178,11 @@ fn cost_of(alloc: Global, task: &Task, priced: bool, parts: &[Part]) -> Result<F
     let datum = &task.datum;
     let terms = cost_terms(
         alloc,
-        &datum.bounds,
+        datum.bounds(),
         parts,
         priced,
-        &datum.cost,
-        &datum.shares,
+        datum.cost(),
+        datum.shares(),
     )?;
     Ok(Form::from_terms(alloc, terms))
 }
@@ -199,20 +204,20 @@ fn best(
 {
     let datum = &task.datum;
     let signed = own_duals(alloc, &rows.limits, duals)?;
-    let own = own_multipliers(alloc, &datum.rows, &signed)?;
-    let values = point(alloc, &datum.bounds, parts, found)?;
+    let own = own_multipliers(alloc, datum.rows(), &signed)?;
+    let values = point(alloc, datum.bounds(), parts, found)?;
     let priced = is_priced(task.kind);
-    let columns = datum.bounds.len() as u64;
+    let columns = datum.bounds().len() as u64;
     let value = cost(
         priced,
         columns,
-        &datum.cost,
-        &datum.shares,
+        datum.cost(),
+        datum.shares(),
         parts,
         found,
         &values,
     )?;
-    let weights = weights(alloc, behind_own(&datum.rows, &signed), rows.cuts)?;
+    let weights = weights(alloc, behind_own(datum.rows(), &signed), rows.cuts)?;
     Ok(Solved::Point(values, value, Multipliers { rows: own, weights }))
 }
 
@@ -231,9 +236,9 @@ fn nowhere(
     ensures { IfNotMemory result (nowhere_walk (problem_of task.now) rows.now.limits.rows.items standard.now duals.now) }
 {
     let signed = own_duals(alloc, &rows.limits, duals)?;
-    let own = own_multipliers(alloc, &task.datum.rows, &signed)?;
+    let own = own_multipliers(alloc, task.datum.rows(), &signed)?;
     test_ray(alloc, standard, duals)?;
-    let weights = weights(alloc, behind_own(&task.datum.rows, &signed), rows.cuts)?;
+    let weights = weights(alloc, behind_own(task.datum.rows(), &signed), rows.cuts)?;
     Ok(Solved::NoPoint(Multipliers { rows: own, weights }))
 }
 
@@ -294,7 +299,7 @@ fn followed(alloc: Global, task: &Task) -> Result<Solved, FormFault>
     ensures sound { IfOk result (IsSound (problem_of task.now)) }
 {
     let datum = &task.datum;
-    let all = all_bounds(alloc, &datum.bounds, &datum.shares, is_priced(task.kind))?;
+    let all = all_bounds(alloc, datum.bounds(), datum.shares(), is_priced(task.kind))?;
     let parts = parts(alloc, &all)?;
     let rows = make_rows(alloc, task, &all, &parts)?;
     let standard = standard(alloc, &rows.limits)?;
