@@ -28,13 +28,13 @@ use Rattle.interval_form.specs.Rows.{terms_walk, row_sums, row_numbers}
 use Rattle.interval_form.specs.Plain.{IsWritten}
 use Rattle.interval_form.proofs.RowLemmas.{ok_same, terms_more}
 use Rattle.cut_defs.specs.declared.datum.Share.{Share}
-use Rattle.node_lp.specs.declared.solved.Solved.{Solved}
-use Rattle.node_lp.specs.declared.solved.Solved.TheVariants as solved
+use Rattle.node_lp.specs.declared.found.Found.{Found}
+use Rattle.node_lp.specs.declared.found.Found.TheVariants as found
 use Rattle.node_lp.specs.Problem.{Problem, IsProblem}
 use Rattle.node_lp.specs.Plain.{plain_of}
 use Rattle.node_lp.specs.Records.{IsPointOf, ShowsNoPoint, shared_cost, cost_at}
 use Rattle.node_lp.specs.Points.{point_of, costs_from, costs_of, own_of, weights_of}
-use Rattle.node_lp.specs.Walk.{node_parts, point_from, child_walk, children_from, cost_walk, multipliers_from, counted, tested_walk, end_walk}
+use Rattle.node_lp.specs.Walk.{node_parts, point_from, child_walk, children_from, cost_walk, multipliers_from, tested_walk, end_walk}
 use Rattle.node_lp.specs.Shows.{IsSound}
 use Rattle.node_lp.proofs.EndLemmas.{put_next}
 use Rattle.node_lp.proofs.NodeShows.{node_laws}
@@ -95,29 +95,25 @@ same_point p x x' v v' y y' ws e f g h =
     subst (λ (x : List Entry). IsPointOf p x v y ws) (sym e) (subst (λ (v : ℚ). IsPointOf p x' v y ws) (sym f) (subst (λ (y : List Entry). IsPointOf p x' v' y ws) (sym g) h))
 
 module _ (p : Problem) (limits : Limits) (h : IsProblem p) (w : IsWritten (plain_of p) limits) where
-  pub end_shows : (standard : lp.Program) (end : Solution) (all : Solved) → lp_shows.IsCertified (standard_of limits) end → end_walk p limits.rows.items standard end ≡ Ok all → IsSound p all
+  pub end_shows : (standard : lp.Program) (end : Solution) (all : Found) → lp_shows.IsCertified (standard_of limits) end → end_walk p limits.rows.items standard end ≡ Ok all → IsSound p all
   end_shows standard (Optimum x y) all c e =
-      let a = after_ok (multipliers_from [] p.rows (turned_back limits.rows.items y)) (λ own. then_walk (point_from x (node_parts p) [] 0 p.bounds) (λ pt. then_walk (cost_walk p x pt) (λ v. Ok (solved.Point pt v (record { rows = own; weights = counted 0 (weights_of p (turned_back limits.rows.items y)) }))))) all e in
-      let b = after_ok (point_from x (node_parts p) [] 0 p.bounds) (λ pt. then_walk (cost_walk p x pt) (λ v. Ok (solved.Point pt v (record { rows = a.0; weights = counted 0 (weights_of p (turned_back limits.rows.items y)) })))) all a.2 in
-      let d = after_ok (cost_walk p x b.0) (λ v. Ok (solved.Point b.0 v (record { rows = a.0; weights = counted 0 (weights_of p (turned_back limits.rows.items y)) }))) all b.2 in
+      let a = after_ok (multipliers_from [] p.rows (turned_back limits.rows.items y)) (λ own. then_walk (point_from x (node_parts p) [] 0 p.bounds) (λ pt. then_walk (cost_walk p x pt) (λ v. Ok (found.Point pt v (record { rows = own; weights = (weights_of p (turned_back limits.rows.items y)) }))))) all e in
+      let b = after_ok (point_from x (node_parts p) [] 0 p.bounds) (λ pt. then_walk (cost_walk p x pt) (λ v. Ok (found.Point pt v (record { rows = a.0; weights = (weights_of p (turned_back limits.rows.items y)) })))) all a.2 in
+      let d = after_ok (cost_walk p x b.0) (λ v. Ok (found.Point b.0 v (record { rows = a.0; weights = (weights_of p (turned_back limits.rows.items y)) }))) all b.2 in
       let point : b.0 ≡ point_of p (place_value (node_parts p) x) = point_are x (node_parts p) [] 0 p.bounds b.0 b.1 in
       let value : d.0 ≡ cost_at p (point_of p (place_value (node_parts p) x)) (costs_of p (place_value (node_parts p) x)) = cost_is p x b.0 d.0 d.1 ∙ ap (λ (pt : List Entry). cost_at p pt (costs_of p (place_value (node_parts p) x))) point in
-      subst (IsSound p) (ok_same (solved.Point b.0 d.0 (record { rows = a.0; weights = counted 0 (weights_of p (signed limits y)) })) all d.2) record {
-        shows = (
-          weights_of p (signed limits y),
-          refl,
-          same_point p b.0 (point_of p (place_value (node_parts p) x)) d.0 (cost_at p (point_of p (place_value (node_parts p) x)) (costs_of p (place_value (node_parts p) x))) a.0 (own_of p (signed limits y)) (weights_of p (signed limits y))
-              point value (multipliers_are [] p.rows (signed limits y) a.0 a.1) (node_laws.point p limits x y h w c),
-        );
+      subst (IsSound p) (ok_same (found.Point b.0 d.0 (record { rows = a.0; weights = (weights_of p (signed limits y)) })) all d.2) record {
+        shows = same_point p b.0 (point_of p (place_value (node_parts p) x)) d.0 (cost_at p (point_of p (place_value (node_parts p) x)) (costs_of p (place_value (node_parts p) x))) a.0 (own_of p (signed limits y)) (weights_of p (signed limits y))
+            point value (multipliers_are [] p.rows (signed limits y) a.0 a.1) (node_laws.point p limits x y h w c);
         held = λ k. tt;
       }
   end_shows standard (Nowhere y) all c e =
-      let a = after_ok (multipliers_from [] p.rows (turned_back limits.rows.items y)) (λ own. then_walk (tested_walk standard y) (λ _. Ok (solved.NoPoint (record { rows = own; weights = counted 0 (weights_of p (turned_back limits.rows.items y)) })))) all e in
-      let b = after_ok (tested_walk standard y) (λ _. Ok (solved.NoPoint (record { rows = a.0; weights = counted 0 (weights_of p (turned_back limits.rows.items y)) }))) all a.2 in
-      subst (IsSound p) (ok_same (solved.NoPoint (record { rows = a.0; weights = counted 0 (weights_of p (signed limits y)) })) all b.2) record {
-        shows = (weights_of p (signed limits y), refl, subst (λ (f : List Entry). ShowsNoPoint p f (weights_of p (signed limits y))) (sym (multipliers_are [] p.rows (signed limits y) a.0 a.1)) (node_laws.no_point p limits y h w c));
+      let a = after_ok (multipliers_from [] p.rows (turned_back limits.rows.items y)) (λ own. then_walk (tested_walk standard y) (λ _. Ok (found.NoPoint (record { rows = own; weights = (weights_of p (turned_back limits.rows.items y)) })))) all e in
+      let b = after_ok (tested_walk standard y) (λ _. Ok (found.NoPoint (record { rows = a.0; weights = (weights_of p (turned_back limits.rows.items y)) }))) all a.2 in
+      subst (IsSound p) (ok_same (found.NoPoint (record { rows = a.0; weights = (weights_of p (signed limits y)) })) all b.2) record {
+        shows = subst (λ (f : List Entry). ShowsNoPoint p f (weights_of p (signed limits y))) (sym (multipliers_are [] p.rows (signed limits y) a.0 a.1)) (node_laws.no_point p limits y h w c);
         held = λ k. tt;
       }
-  end_shows standard (Endless x d) all c e = subst (IsSound p) (ok_same solved.Loose all e) record { shows = node_laws.loose p limits x d h w c; held = λ k. node_laws.held p limits x d h k w c }
-  end_shows standard Cut_off all c e = subst (IsSound p) (ok_same solved.PivotsEnded all e) record { shows = tt; held = λ k. tt }
+  end_shows standard (Endless x d) all c e = subst (IsSound p) (ok_same found.Loose all e) record { shows = node_laws.loose p limits x d h w c; held = λ k. node_laws.held p limits x d h k w c }
+  end_shows standard Cut_off all c e = subst (IsSound p) (ok_same found.PivotsEnded all e) record { shows = tt; held = λ k. tt }
   end_shows standard (Passes k o) all c e = never o all (Err o) refl e

@@ -23,8 +23,8 @@ use Rattle.scen_defs.specs.declared.program.NodeRow.{NodeRow}
 use Rattle.interval_form.specs.Rows.{terms_walk, right_walk, own_limits_from, bound_limits_from}
 use Rattle.cut_defs.specs.declared.datum.Share.{Share}
 use Rattle.node_lp.specs.declared.task.ChildCuts.{ChildCuts}
-use Rattle.node_lp.specs.declared.solved.Solved.{Solved}
-use Rattle.node_lp.specs.declared.solved.Solved.TheVariants as solved
+use Rattle.node_lp.specs.declared.found.Found.{Found}
+use Rattle.node_lp.specs.declared.found.Found.TheVariants as found
 use Rattle.node_lp.specs.Problem.{PlacedCut, Problem, IsCut, taken_of}
 use Rattle.node_lp.specs.Plain.{all_bounds, all_costs, cut_form}
 use Rattle.node_lp.specs.Points.{weights_of}
@@ -99,45 +99,40 @@ multipliers_from made [] duals = Ok made
 multipliers_from made (r ∷ rs) duals = then_walk (sum_walk (take (limit_count r.low r.high) duals))
     (λ y. multipliers_from (made ++ put r.row y []) rs (drop (limit_count r.low r.high) duals))
 
--- numbers at places m, m + 1 and so on, those that are 0 left out
-abbrev pub counted : ℕ → List ℚ → List Entry
-counted m [] = []
-counted m (w ∷ ws) = put m w (counted (suc m) ws)
-
 -- the own multipliers by row, then the point by column, then the value
-abbrev pub best_walk : Problem → List Limit → (ℕ → ℚ) → List ℚ → Walk Solved
+abbrev pub best_walk : Problem → List Limit → (ℕ → ℚ) → List ℚ → Walk Found
 best_walk p limits z y = then_walk (multipliers_from [] p.rows (turned_back limits y)) (λ own.
     then_walk (point_from z (node_parts p) [] 0 p.bounds) (λ x. then_walk (cost_walk p z x) (λ v.
-    Ok (solved.Point x v (record { rows = own; weights = counted 0 (weights_of p (turned_back limits y)) })))))
+    Ok (found.Point x v (record { rows = own; weights = weights_of p (turned_back limits y) })))))
 
 abbrev pub tested_walk : lp.Program → List ℚ → Walk (Unit {0})
 tested_walk standard y = then_walk (ray_walk standard y) (λ shown. Ok tt)
 
 -- the own multipliers by row, then the operations that show that they exclude every point
-abbrev pub nowhere_walk : Problem → List Limit → lp.Program → List ℚ → Walk Solved
+abbrev pub nowhere_walk : Problem → List Limit → lp.Program → List ℚ → Walk Found
 nowhere_walk p limits standard y = then_walk (multipliers_from [] p.rows (turned_back limits y)) (λ own.
     then_walk (tested_walk standard y) (λ _.
-    Ok (solved.NoPoint (record { rows = own; weights = counted 0 (weights_of p (turned_back limits y)) }))))
+    Ok (found.NoPoint (record { rows = own; weights = weights_of p (turned_back limits y) }))))
 
-abbrev pub end_walk : Problem → List Limit → lp.Program → Solution → Walk Solved
+abbrev pub end_walk : Problem → List Limit → lp.Program → Solution → Walk Found
 end_walk p limits standard (Optimum x y) = best_walk p limits x y
 end_walk p limits standard (Nowhere y) = nowhere_walk p limits standard y
-end_walk p limits standard (Endless x d) = Ok solved.Loose
-end_walk p limits standard Cut_off = Ok solved.PivotsEnded
+end_walk p limits standard (Endless x d) = Ok found.Loose
+end_walk p limits standard Cut_off = Ok found.PivotsEnded
 end_walk p limits standard (Passes k o) = Err o
 
 -- ---- all
 
-abbrev pub path_walk : Problem → ℕ → List Limit → Walk Solved
+abbrev pub path_walk : Problem → ℕ → List Limit → Walk Found
 path_walk p pivots limits = end_walk p limits (standard_seen p limits) (solution (standard_seen p limits) pivots)
 
-abbrev pub solve_walk : Problem → ℕ → Walk Solved
+abbrev pub solve_walk : Problem → ℕ → Walk Found
 solve_walk p pivots = then_walk (rows_walk p) (path_walk p pivots)
 
-abbrev pub or_passed : Walk Solved → Solved
+abbrev pub or_passed : Walk Found → Found
 or_passed (Ok s) = s
-or_passed (Err o) = solved.Passed o
+or_passed (Err o) = found.Passed o
 
 -- what is found in at most so many pivots
-abbrev pub solved_in : Problem → ℕ → Solved
-solved_in p pivots = or_passed (solve_walk p pivots)
+abbrev pub found_in : Problem → ℕ → Found
+found_in p pivots = or_passed (solve_walk p pivots)

@@ -9,7 +9,7 @@ ghost use Rattle.scen_defs.specs.Lists.{pick};
 ghost use Rattle.cut_defs.specs.Data.{BoundsRise};
 ghost use Rattle.interval_form.specs.Rows.{terms_walk};
 ghost use Rattle.cut_defs.specs.Data.{RowsRise};
-ghost use Rattle.node_lp.specs.Walk.{point_from, child_walk, children_from, total_walk, multipliers_from, counted};
+ghost use Rattle.node_lp.specs.Walk.{point_from, child_walk, children_from, total_walk, multipliers_from};
 
 use cut_defs::{ColumnBounds, Share};
 use frac128::{Form, FormFault, Frac, Memory, Passed, Term};
@@ -49,17 +49,6 @@ pub(crate) fn own_multipliers(
     Ok(form)
 }
 
-/// The weights that aren't 0, by the place of the cut.
-fn placed(alloc: Global, weights: &[Frac]) -> Result<Form, Memory>
-    ensures { IfOk result (λ form. form ≡ counted 0 weights.now) }
-{
-    let mut form = Form::empty(alloc);
-    for (place, weight) in weights.iter().enumerate() {
-        push_nonzero(&mut form, place as u64, *weight)?;
-    }
-    Ok(form)
-}
-
 /// The first `count` numbers.
 fn front(values: &[Frac], count: usize) -> &[Frac]
     ensures { result.now ≡ take count values.now }
@@ -69,10 +58,12 @@ fn front(values: &[Frac], count: usize) -> &[Frac]
 }
 
 /// The weights of so many cuts, which stand first among the multipliers behind those of the own rows.
-pub(crate) fn weights(alloc: Global, behind: &[Frac], cuts: usize) -> Result<Form, Memory>
-    ensures { IfOk result (λ form. form ≡ counted 0 (take cuts behind.now)) }
+pub(crate) fn weights(alloc: Global, behind: &[Frac], cuts: usize) -> Result<Vec<Frac>, Memory>
+    ensures { IfOk result (λ weights. weights.items ≡ take cuts behind.now) }
 {
-    placed(alloc, front(behind, cuts))
+    let mut weights = Vec::new(alloc);
+    weights.extend_from_slice(front(behind, cuts))?;
+    Ok(weights)
 }
 
 /// The values of the own columns that aren't 0, at a point over the new columns.

@@ -136,7 +136,7 @@ fn cut_limit(
 }
 
 /// Whether a cut is a row of the program: where the children aren't priced, those that bound a cost aren't.
-fn is_taken(priced: bool, kind: CutKind) -> bool
+pub(crate) fn is_taken(priced: bool, kind: CutKind) -> bool
     ensures { result ≡ is_taken priced kind }
 {
     match kind {

@@ -13,12 +13,12 @@ ghost use Rattle.interval_form.specs.Plain.{IsWritten};
 ghost use Rattle.node_lp.specs.Problem.{IsProblem, is_priced, problem_of, taken};
 ghost use Rattle.node_lp.specs.Plain.{frees, all_bounds, all_costs, plain_of};
 ghost use Rattle.node_lp.specs.Walk.{made_walk, AreCuts, rows_walk, node_parts, best_walk, tested_walk, nowhere_walk};
-ghost use Rattle.node_lp.specs.Walk.{end_walk, solve_walk, solved_in};
+ghost use Rattle.node_lp.specs.Walk.{end_walk, solve_walk, found_in};
 ghost use Rattle.node_lp.specs.Shows.{IsFaultOf, StoppedBy, IsSound};
 
 use crate::ends::{cost, own_multipliers, point, weights};
+use crate::found::{Found, Multipliers};
 use crate::program::{all_bounds, cost_terms, push_children};
-use crate::solved::{Multipliers, Solved};
 use crate::task::{ChildCuts, Task};
 use cut_defs::{ColumnBounds, Share};
 use farkas_ray::{Halted, ray};
@@ -33,7 +33,7 @@ use std::alloc::Global;
 const MANY: usize = 1 << 61;
 
 /// Whether the children have costs of their own: not in a Feasible run.
-fn is_priced(kind: Kind) -> bool
+pub(crate) fn is_priced(kind: Kind) -> bool
     ensures { result ≡ is_priced kind }
 {
     match kind {
@@ -195,7 +195,7 @@ fn best(
     rows: &Made,
     found: &Form,
     duals: &[Frac],
-) -> Result<Solved, FormFault>
+) -> Result<Found, FormFault>
     requires problem { IsProblem (problem_of task.now) }
     requires parts { parts.now ≡ node_parts (problem_of task.now) }
     requires cuts { rows.now.cuts ≡ length (problem_of task.now).cuts }
@@ -218,7 +218,7 @@ fn best(
         &values,
     )?;
     let weights = weights(alloc, behind_own(datum.rows(), &signed), rows.cuts)?;
-    Ok(Solved::Point(values, value, Multipliers { rows: own, weights }))
+    Ok(Found::Point(values, value, Multipliers { rows: own, weights }))
 }
 
 /// Of an infeasible end: the multipliers, which are tested.
@@ -228,7 +228,7 @@ fn nowhere(
     rows: &Made,
     standard: &Standard,
     duals: &[Frac],
-) -> Result<Solved, FormFault>
+) -> Result<Found, FormFault>
     requires problem { IsProblem (problem_of task.now) }
     requires cuts { rows.now.cuts ≡ length (problem_of task.now).cuts }
     requires one_each { length duals.now ≡ length rows.now.limits.rows.items }
@@ -239,7 +239,7 @@ fn nowhere(
     let own = own_multipliers(alloc, task.datum.rows(), &signed)?;
     test_ray(alloc, standard, duals)?;
     let weights = weights(alloc, behind_own(task.datum.rows(), &signed), rows.cuts)?;
-    Ok(Solved::NoPoint(Multipliers { rows: own, weights }))
+    Ok(Found::NoPoint(Multipliers { rows: own, weights }))
 }
 
 /// The operations that show that multipliers exclude every point.
@@ -271,7 +271,7 @@ fn ended(
     rows: &Made,
     standard: &Standard,
     outcome: Outcome,
-) -> Result<Solved, FormFault>
+) -> Result<Found, FormFault>
     requires problem { IsProblem (problem_of task.now) }
     requires parts { parts.now ≡ node_parts (problem_of task.now) }
     requires cuts { rows.now.cuts ≡ length (problem_of task.now).cuts }
@@ -286,14 +286,14 @@ fn ended(
         Outcome::Unbounded {
             point: _point,
             ray: _ray,
-        } => Ok(Solved::Loose),
-        Outcome::PivotsEnded => Ok(Solved::PivotsEnded),
+        } => Ok(Found::Loose),
+        Outcome::PivotsEnded => Ok(Found::PivotsEnded),
         Outcome::Passed(_pivot, passed) => Err(FormFault::Passed(passed)),
     }
 }
 
 /// Follows the path of the program's standard form.
-fn followed(alloc: Global, task: &Task) -> Result<Solved, FormFault>
+fn followed(alloc: Global, task: &Task) -> Result<Found, FormFault>
     requires { IsProblem (problem_of task.now) }
     ensures exact { IfNotMemory result (solve_walk (problem_of task.now) task.now.pivots) }
     ensures sound { IfOk result (IsSound (problem_of task.now)) }
@@ -308,37 +308,23 @@ fn followed(alloc: Global, task: &Task) -> Result<Solved, FormFault>
 }
 
 /// What is found where a fault ends the computation.
-fn stopped(fault: FormFault) -> Result<Solved, Memory>
+fn stopped(fault: FormFault) -> Result<Found, Memory>
     ensures { IfOk result (StoppedBy fault) }
 {
     match fault {
-        FormFault::Passed(passed) => Ok(Solved::Passed(passed)),
+        FormFault::Passed(passed) => Ok(Found::Passed(passed)),
         FormFault::Memory => Err(Memory),
     }
 }
 
-/// Solves a node's program in at most `pivots` pivots.
-///
-/// New columns, which are at least 0, stand for the own columns in order: a column with a lower bound is that
-/// bound and a new column; else one with an upper bound is that bound less a new column; else it is the
-/// difference of two. Then, except in a Feasible run, the cost of each child is the difference of two new
-/// columns. The rows are, in order, of each own row one equation where its ends are equal, else one row for its
-/// low end and one for its high end, where these are there; then child by child the cuts in their order, but in a
-/// Feasible run none that bounds a cost; then for each own column with two bounds the row that its new column is
-/// at most their difference.
-///
-/// A right side begins with the end or the constant; then come the terms of the trial by column, then those of the
-/// shifts by column. The simplex method then follows its path. Behind it come the own rows' multipliers by row;
-/// then, where it ends at an optimum, the point by column, and its value: costs by column, then by child the share
-/// times the child's cost; and where there is no point, the operations that show it. The first of all these
-/// operations that passes 128 bits is told.
-pub fn solve_node(alloc: Global, task: &Task) -> Result<Solved, Memory>
+/// Finds the point of a node's program, or what shows that there is none, in at most `pivots` pivots.
+pub(crate) fn find(alloc: Global, task: &Task) -> Result<Found, Memory>
     requires { IsProblem (problem_of task.now) }
-    ensures exact { IfOk result (λ all. all ≡ solved_in (problem_of task.now) task.now.pivots) }
+    ensures exact { IfOk result (λ all. all ≡ found_in (problem_of task.now) task.now.pivots) }
     ensures sound { IfOk result (IsSound (problem_of task.now)) }
 {
     match followed(alloc, task) {
-        Ok(solved) => Ok(solved),
+        Ok(found) => Ok(found),
         Err(fault) => stopped(fault),
     }
 }
