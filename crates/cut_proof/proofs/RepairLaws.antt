@@ -113,7 +113,7 @@ child_falls (Stored_of s uses c f) us items i u e q h r =
     member (x ∷ xs) zero u h r = let z : stored_size u.cut ≡ stored_size x.cut = ap (λ (y : Used). stored_size y.cut) r in omega arith
     member (x ∷ xs) (suc i) u h r = omega (arith, member xs i u (omega arith) r)
 
-content_snoc : (xs : List Used) (u : Used) → uses_content (xs ++ u ∷ []) ≡ snoc (uses_content xs) u.weight u.cut
+pub content_snoc : (xs : List Used) (u : Used) → uses_content (xs ++ u ∷ []) ≡ snoc (uses_content xs) u.weight u.cut
 content_snoc [] u = refl
 content_snoc (x ∷ xs) u = ap (λ r. Use_stored x.weight x.cut r) (content_snoc xs u)
 

@@ -20,3 +20,4 @@ pub use fault::CutFault;
 pub use laws::{nothing_is_made, repairs_are_exact, values_are_exact};
 pub use repair::shifted;
 pub use resting::{rests, stamp_rests};
+pub use sums::push_nonzero;

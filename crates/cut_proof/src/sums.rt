@@ -111,8 +111,8 @@ fn earlier(datum: &NodeDatum, source: &Record, column: u64) -> Result<Frac, Pass
     }
 }
 
-/// Writes a value behind a form, unless it is 0.
-fn write(form: &mut Form, column: u64, value: Frac) -> Result<(), Memory>
+/// Adds a value in a column above all others of a form, unless it is 0.
+pub fn push_nonzero(form: &mut Form, column: u64, value: Frac) -> Result<(), Memory>
     requires { EndsBelow column form.old }
     ensures { OnOk result (form.new ≡ form.old ++ put column value []) }
 {
@@ -135,7 +135,7 @@ pub(crate) fn form(
     let mut form = Form::empty(alloc);
     for column in columns {
         let value = earlier(datum, source, *column)?;
-        write(&mut form, *column, value)?;
+        push_nonzero(&mut form, *column, value)?;
     }
     Ok(form)
 }

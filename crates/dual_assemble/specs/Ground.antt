@@ -1,0 +1,42 @@
+-- The ground cut of a node: its multipliers are the numbers of a dual at the node over the node's total, and its used cuts are
+-- those of the children, each with the child's share as weight.
+use Rattle.std.specs.Prelude.{ℕ, List, [], ◌∷◌, ◌++◌, Option, Result, Ok}
+use Rattle.rationals.specs.Rational.{ℚ}
+use Rattle.rationals.specs.Sparse.{Entry}
+use Rattle.rationals.specs.Forms.{put}
+use Rattle.rationals.specs.Passes.{Operation, div_walk, then_walk}
+use Rattle.scen_defs.specs.declared.program.NodeRow.{NodeRow}
+use Rattle.scen_defs.specs.Values.{At, at}
+use Rattle.cut_defs.specs.declared.kinds.CutKind.TheVariants.{Bound}
+use Rattle.cut_defs.specs.declared.datum.Share.{Share}
+use Rattle.cut_defs.specs.Data.{Datum}
+use Rattle.cut_defs.specs.Stored.{Source, Stored, StoredUses}
+use Rattle.cut_defs.specs.Stored.StoredUses.{No_stored}
+use Rattle.cut_proof.specs.Repairing.{snoc}
+use Rattle.cut_proof.specs.Walks.{made}
+
+-- by row, the number over the total; a quotient 0 isn't written
+abbrev pub quotients_from : ℚ → (ℕ → ℚ) → List Entry → List NodeRow → Result (List Entry) Operation
+quotients_from total y done [] = Ok done
+quotients_from total y done (r ∷ rs) = then_walk (div_walk (y r.row) total) (λ q. quotients_from total y (done ++ put r.row q []) rs)
+
+-- the cuts in the order of the children, each with its child's share
+abbrev pub shares_from : StoredUses → List Share → List Stored → StoredUses
+shares_from done [] cuts = done
+shares_from done (s ∷ ss) [] = done
+shares_from done (s ∷ ss) (c ∷ cs) = shares_from (snoc done s.share c) ss cs
+
+abbrev pub ground_source : Datum → List Entry → Source
+ground_source d y = record {
+  node = d.node;
+  kind = Bound;
+  rows_version = d.rows_version;
+  costs_version = d.costs_version;
+  multipliers = y;
+}
+
+-- first the quotients by row, then the cut
+abbrev pub ground_walk : Datum → ℚ → List At → List Stored → Result (Option Stored) Operation
+ground_walk d total dual cuts =
+    then_walk (quotients_from total (at dual d.node) [] d.rows)
+    (λ y. made d (ground_source d y) (shares_from No_stored d.shares cuts))
