@@ -1,0 +1,9 @@
+pub mod Parts
+pub mod Values
+pub mod Own
+pub mod Spans
+pub mod Trial
+pub mod Rows
+pub mod Plain
+pub mod PlainShows
+pub mod Laws

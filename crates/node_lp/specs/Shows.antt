@@ -1,0 +1,44 @@
+-- What is found at a node shows itself.
+use Rattle.std.specs.Prelude.{◌≡◌, List}
+use Rattle.rationals.specs.Rational.{ℚ}
+use Rattle.frac128.specs.declared.form.FormFault.{FormFault}
+use Rattle.frac128.specs.declared.form.FormFault.TheVariants as fault
+use Rattle.farkas_ray.specs.declared.halted.Halted.{Halted}
+use Rattle.farkas_ray.specs.declared.halted.Halted.TheVariants as halted
+use Rattle.node_lp.specs.declared.found.Found.{Found}
+use Rattle.node_lp.specs.declared.found.Found.TheVariants as found
+use Rattle.node_lp.specs.Problem.{Problem}
+use Rattle.node_lp.specs.Records.{IsPointOf, ShowsNoPoint, HasNoLeast}
+use Rattle.node_lp.specs.Cone.{IsHeld}
+
+-- a point and its multipliers, multipliers that show that there is none, or points below every limit
+abbrev pub ShowsItself : Problem → Found → Type 0
+ShowsItself p (found.Point x value m) = IsPointOf p x value m.rows m.weights
+ShowsItself p (found.NoPoint m) = ShowsNoPoint p m.rows m.weights
+ShowsItself p found.Loose = HasNoLeast p
+ShowsItself p found.PivotsEnded = Unit {0}
+ShowsItself p (found.Passed o) = Unit {0}
+
+abbrev pub IsNotLoose : Found → Type 0
+IsNotLoose (found.Point x value m) = Unit {0}
+IsNotLoose (found.NoPoint m) = Unit {0}
+IsNotLoose found.Loose = ⊥
+IsNotLoose found.PivotsEnded = Unit {0}
+IsNotLoose (found.Passed o) = Unit {0}
+
+pub record IsSound (p : Problem) (all : Found) : Type 0 where
+  pub shows : ShowsItself p all
+  -- where all own columns and all children's costs are bounded there is a least cost
+  pub held : IsHeld p → IsNotLoose all
+
+-- ---- faults
+
+-- what ended a call, as a fault
+abbrev pub IsFaultOf : Halted → FormFault → Type 0
+IsFaultOf (halted.Passed p) f = f ≡ fault.Passed p
+IsFaultOf halted.Memory f = f ≡ fault.Memory
+
+-- what is found where a fault ends the computation
+abbrev pub StoppedBy : FormFault → Found → Type 0
+StoppedBy (fault.Passed p) all = all ≡ found.Passed p
+StoppedBy fault.Memory all = ⊥
