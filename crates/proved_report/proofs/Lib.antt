@@ -3,3 +3,4 @@ pub mod ShownLemmas
 pub mod PassLemmas
 pub mod ReportLemmas
 pub mod CountLemmas
+pub mod ClaimLemmas

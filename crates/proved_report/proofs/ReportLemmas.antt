@@ -18,16 +18,37 @@ use Rattle.scen_defs.proofs.Directions.{unboundedness_shown}
 use Rattle.report_defs.specs.Shows.{Together, ShowsLower, ShowsUpper, ShowsNothing}
 use Rattle.report_defs.specs.Findings.{has_direction, has_ray, has_extra}
 use Rattle.report_defs.specs.Truth.{Reasons, Explains, IsTrue, HasCounts}
+use Rattle.rationals.specs.Passes.{Operation, passes}
 use Rattle.proved_report.specs.declared.open.Open.{Open}
+use Rattle.proved_report.specs.declared.open.Open.TheVariants.{Solves, Pivots, Passed}
 use Rattle.proved_report.specs.declared.tested.Tested.{Tested}
 use Rattle.proved_report.specs.declared.tested.Tested.TheVariants.{Shows, Fails, Passes}
-use Rattle.proved_report.specs.Open.{IsLeftOpen, given}
+use Rattle.proved_report.specs.Open.{given, finding_of}
 use Rattle.report_defs.specs.Seen.{seen}
-use Rattle.proved_report.specs.Tested.{IfShown, IsSlope, HasNames, or_before}
+use Rattle.proved_report.specs.Tested.{or_before}
 use Rattle.proved_report.specs.Reports.{IsFilled, blank_report, ends_report, nowhere_report, endless_report}
+use Rattle.proved_report.proofs.ShownLemmas.{IfShown, IsSlope, HasNames}
 use Rattle.proved_report.proofs.CountLemmas.{node_places, scenario_places}
 
 -- ---- why a report is left open
+
+-- a finding that leaves a report open, for one of these reasons
+abbrev pub IsLeftOpen : Reasons → Finding → Type 0
+IsLeftOpen why Optimal = ⊥
+IsLeftOpen why Infeasible = ⊥
+IsLeftOpen why Unbounded = ⊥
+IsLeftOpen why (OpenSolves n) = why.solves_end n
+IsLeftOpen why (OpenPivots k) = why.pivots_end k
+IsLeftOpen why (OpenPassed place p) = why.passes place p
+
+told-open : (why : Open) (solves : ℕ) (place : Place) (p : Operation) (b : Bool) → passes p.op p.a p.b ≡ b → IsLeftOpen (given why solves) (pick b (OpenPassed place p) (OpenSolves solves))
+told-open why solves place p true e = record { holds = e }
+told-open why solves place p false e = inr refl
+
+pub left-open : (why : Open) (solves : ℕ) → IsLeftOpen (given why solves) (finding_of why solves)
+left-open (Solves n) solves = inl refl
+left-open (Pivots k) solves = refl
+left-open (Passed place p) solves = told-open (Passed place p) solves place p (passes p.op p.a p.b) refl
 
 pub before-given : (t : Tested) (place : Place) (why : Open) (solves : ℕ) (f : Finding) → IsLeftOpen (given (or_before t place why) solves) f → IsLeftOpen (given why solves) f
 before-given (Shows q values) place why solves f h = h

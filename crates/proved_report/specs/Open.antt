@@ -1,11 +1,12 @@
 -- Why a report is left open, where no more is known of the method than what it says.
 use Rattle.std.specs.Prelude.{◌≡◌, ◌⊎◌, ℕ, true}
 use Rattle.rationals.specs.Passes.{Operation, passes}
+use Rattle.scen_defs.specs.Lists.{pick}
 use Rattle.scen_defs.specs.declared.report.Finding.{Finding}
-use Rattle.scen_defs.specs.declared.report.Finding.TheVariants.{Optimal, Infeasible, Unbounded, OpenSolves, OpenPivots, OpenPassed}
+use Rattle.scen_defs.specs.declared.report.Finding.TheVariants.{OpenSolves, OpenPivots, OpenPassed}
 use Rattle.report_defs.specs.Truth.{Reasons}
 use Rattle.proved_report.specs.declared.open.Open.{Open}
-use Rattle.proved_report.specs.declared.open.Open.TheVariants.{Solves, Pivots}
+use Rattle.proved_report.specs.declared.open.Open.TheVariants.{Solves, Pivots, Passed}
 
 -- the operation passes 128 bits
 pub record IsPassing (operation : Operation) : Type 0 where
@@ -19,11 +20,8 @@ given why solves = record {
   solves_end = λ n. (why ≡ Solves n) ⊎ (n ≡ solves);
 }
 
--- a finding that leaves a report open, for one of these reasons
-abbrev pub IsLeftOpen : Reasons → Finding → Type 0
-IsLeftOpen why Optimal = ⊥
-IsLeftOpen why Infeasible = ⊥
-IsLeftOpen why Unbounded = ⊥
-IsLeftOpen why (OpenSolves n) = why.solves_end n
-IsLeftOpen why (OpenPivots k) = why.pivots_end k
-IsLeftOpen why (OpenPassed place operation) = why.passes place operation
+-- The finding of a report that is left open: an operation is told where it passes, else so many solves.
+abbrev pub finding_of : Open → ℕ → Finding
+finding_of (Solves n) solves = OpenSolves n
+finding_of (Pivots k) solves = OpenPivots k
+finding_of (Passed place p) solves = pick (passes p.op p.a p.b) (OpenPassed place p) (OpenSolves solves)

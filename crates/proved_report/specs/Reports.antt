@@ -6,11 +6,17 @@ use Rattle.scen_defs.specs.Lists.{pick}
 use Rattle.scen_defs.specs.declared.program.Program.{Program}
 use Rattle.scen_defs.specs.declared.report.Finding.{Finding}
 use Rattle.scen_defs.specs.declared.report.Finding.TheVariants.{Optimal, Infeasible, Unbounded}
+use Rattle.scen_defs.specs.declared.report.Place.{Place}
+use Rattle.scen_defs.specs.declared.report.Place.TheVariants.{Dual}
 use Rattle.scen_defs.specs.declared.report.Report.{Report}
 use Rattle.proved_report.specs.declared.tested.Tested.{Tested}
 use Rattle.proved_report.specs.declared.tested.Tested.TheVariants.{Shows, Fails, Passes}
 use Rattle.report_defs.specs.Seen.{seen}
-use Rattle.proved_report.specs.Tested.{number_of}
+use Rattle.proved_report.specs.Tested.{number_of, or_before, policy_test, direction_test, ray_test, some_policy_test, some_dual_test}
+use Rattle.proved_report.specs.declared.open.Open.{Open}
+use Rattle.proved_report.specs.declared.claim.Claim.{Claim}
+use Rattle.proved_report.specs.declared.claim.Claim.TheVariants.{Ends, Nowhere, Endless}
+use Rattle.proved_report.specs.Open.{finding_of}
 
 -- a report without ends and lists
 abbrev pub blank_report : ℕ → ℕ → ℕ → Finding → Report
@@ -66,6 +72,26 @@ abbrev pub endless_report : Report → Tested → Tested → Report
 endless_report blank (Shows upper policy) slope = direction_report (record blank { upper = Some upper; policy = Some policy }) slope
 endless_report blank Fails slope = blank
 endless_report blank (Passes operation) slope = blank
+
+-- The report of a claim, with these counts: ends that were tested; a ray; a policy and a direction. Where they leave it open, the
+-- first operation that passes is told, of a dual or a ray at Dual.
+abbrev pub claimed_report : Program → ℕ → ℕ → ℕ → Place → Open → ℕ → Claim → Report
+claimed_report program number nodes scenarios place why solves (Ends policy dual) =
+    let upper = some_policy_test program policy in
+    let lower = some_dual_test program dual in
+    ends_report (blank_report number nodes scenarios (finding_of (or_before upper place (or_before lower Dual why)) solves)) upper lower
+claimed_report program number nodes scenarios place why solves (Nowhere ray) =
+    let shown = ray_test program ray in
+    nowhere_report (blank_report number nodes scenarios (finding_of (or_before shown Dual why) solves)) shown
+claimed_report program number nodes scenarios place why solves (Endless policy direction) =
+    let upper = policy_test program policy in
+    let slope = direction_test program direction in
+    endless_report (blank_report number nodes scenarios (finding_of (or_before upper place (or_before slope place why)) solves)) upper slope
+
+-- this is the report of the claim
+pub record IsClaimed (program : Program) (number : ℕ) (place : Place) (why : Open) (solves : ℕ) (claim : Claim) (report : Report)
+    : Type 0 where
+  pub is : report ≡ claimed_report program number report.nodes report.scenarios place why solves claim
 
 -- the report has this number and the counts of the program
 pub record IsFilled (program : Program) (number : ℕ) (report : Report) : Type 0 where

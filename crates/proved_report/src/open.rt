@@ -1,7 +1,7 @@
 //! Why a report is left open.
 ghost use Rattle.std.specs.Prelude.{◌≡◌};
 ghost use Rattle.rationals.specs.Passes.{passes};
-ghost use Rattle.proved_report.specs.Open.{given, IsLeftOpen};
+ghost use Rattle.proved_report.specs.Open.{finding_of};
 
 use frac128::{Frac, Passed};
 use rationals::Op;
@@ -44,7 +44,7 @@ pub fn is_passing(passed: Passed) -> bool
 /// The finding of a report that is left open. Where the operation that is named doesn't pass, which never comes
 /// of a correct method, so many solves are told in its place.
 pub(crate) fn open_finding(why: Open, solves: u64) -> Finding
-    ensures { IsLeftOpen (given why solves) result }
+    ensures { result ≡ finding_of why solves }
 {
     match why {
         Open::Solves(count) => Finding::OpenSolves(count),

@@ -8,7 +8,7 @@ ghost use Rattle.report_defs.specs.Truth.{IsTrue, HasCounts};
 ghost use Rattle.proved_report.specs.Open.{given};
 ghost use Rattle.report_defs.specs.Seen.{seen};
 ghost use Rattle.proved_report.specs.Reports.{ends_finding, upper_report, lower_report, ends_report, nowhere_report};
-ghost use Rattle.proved_report.specs.Reports.{direction_report, endless_report, IsFilled, IsBlank};
+ghost use Rattle.proved_report.specs.Reports.{direction_report, endless_report, IsClaimed, IsFilled, IsBlank};
 
 use crate::claim::Claim;
 use crate::counts::{live_nodes, scenario_count};
@@ -41,6 +41,7 @@ pub fn report(
     ensures counts { IsSmall (content program.now) → IfOk result (HasCounts (seen program.now)) }
     ensures names { IfOk result (ListsHaveNames program.now) }
     ensures truth { IsTree (seen program.now) → IfOk result (IsTrue (seen program.now) (given why solves)) }
+    ensures exact { IfOk result (IsClaimed program.now number place why solves claim) }
 {
     match claim {
         Claim::Ends { policy, dual } => ends(program, number, policy, dual, place, why, solves),
@@ -62,8 +63,7 @@ fn ends(
     solves: u64,
 ) -> Result<Report, Memory>
     ensures filled { IfOk result (IsFilled program.now number) }
-    ensures names { IfOk result (ListsHaveNames program.now) }
-    ensures truth { IsTree (seen program.now) → IfOk result (IsTrue (seen program.now) (given why solves)) }
+    ensures exact { IfOk result (IsClaimed program.now number place why solves (Claim.Ends policy dual)) }
 {
     let upper = test_some_policy(program, policy)?;
     let lower = test_some_dual(program, dual)?;
@@ -81,8 +81,7 @@ fn nowhere(
     solves: u64,
 ) -> Result<Report, Memory>
     ensures filled { IfOk result (IsFilled program.now number) }
-    ensures names { IfOk result (ListsHaveNames program.now) }
-    ensures truth { IsTree (seen program.now) → IfOk result (IsTrue (seen program.now) (given why solves)) }
+    ensures exact { IfOk result (IsClaimed program.now number Place.Dual why solves (Claim.Nowhere ray)) }
 {
     let ray = test_ray(program, ray)?;
     let left = ray.or_before(Place::Dual, why);
@@ -101,8 +100,7 @@ fn endless(
     solves: u64,
 ) -> Result<Report, Memory>
     ensures filled { IfOk result (IsFilled program.now number) }
-    ensures names { IfOk result (ListsHaveNames program.now) }
-    ensures truth { IsTree (seen program.now) → IfOk result (IsTrue (seen program.now) (given why solves)) }
+    ensures exact { IfOk result (IsClaimed program.now number place why solves (Claim.Endless policy direction)) }
 {
     let upper = test_policy(program, policy)?;
     let slope = test_direction(program, direction)?;

@@ -1,11 +1,14 @@
 //! Tests of the lists that a method claims.
-ghost use Rattle.std.specs.Prelude.{◌≡◌, ◌↔◌, IfOk, IfSome, IsTrue, length, Some};
+ghost use Rattle.std.specs.Prelude.{◌≡◌, IfOk};
 ghost use Rattle.rationals.specs.Rational.{at_most, zero_ℚ};
-ghost use Rattle.scen_defs.specs.Fits.{HaveNames};
-ghost use Rattle.scen_defs.specs.Program.{IsTree};
-ghost use Rattle.report_defs.specs.Shows.{ShowsLower, ShowsUpper, ShowsNothing};
+ghost use Rattle.scen_defs.specs.Values.{at};
+ghost use Rattle.scen_defs.specs.Flat.{without_costs};
+ghost use Rattle.scen_defs.specs.declared.report.Place.{Place as PlaceOf};
+ghost use Rattle.scen_model.specs.Walks.{cost_walk, dual_walk, feasible_walk, direction_walk};
 ghost use Rattle.report_defs.specs.Seen.{seen};
-ghost use Rattle.proved_report.specs.Tested.{IfShown, IsKept, IsSlope, HasNames, number_of, or_before};
+ghost use Rattle.proved_report.specs.declared.tested.Tested.{Tested as TestedOf};
+ghost use Rattle.proved_report.specs.Tested.{where_meets, where_above, by_cost, by_value, policy_test, dual_test};
+ghost use Rattle.proved_report.specs.Tested.{direction_test, ray_test, some_policy_test, some_dual_test, Gives, number_of, or_before};
 
 use crate::open::Open;
 use frac128::{Frac, Memory, Passed};
@@ -25,7 +28,7 @@ pub(crate) enum Tested {
 
 /// Keeps a list with the number that was computed for it.
 fn kept(values: Values, computed: Result<Option<Frac>, Halt>) -> Result<Tested, Memory>
-    ensures { IfOk result (IsKept values computed) }
+    ensures { (tested : TestedOf) → Gives values tested computed → IfOk result (λ t. t ≡ tested) }
 {
     match computed {
         Ok(Some(number)) => Ok(Tested::Shows(number, values)),
@@ -35,7 +38,9 @@ fn kept(values: Values, computed: Result<Option<Frac>, Halt>) -> Result<Tested, 
 }
 
 /// The operation in which a computation ended.
-fn operation(halt: Halt) -> Result<Passed, Memory> {
+fn operation(halt: Halt) -> Result<Passed, Memory>
+    ensures { IfOk result (λ passed. (place : PlaceOf) × (halt ≡ Halt.Passed place passed)) }
+{
     match halt {
         Halt::Passed(_place, passed) => Ok(passed),
         Halt::Memory => Err(Memory),
@@ -44,8 +49,7 @@ fn operation(halt: Halt) -> Result<Passed, Memory> {
 
 /// The cost of a policy that fits and is feasible.
 fn upper_end(program: &Program, policy: &Values) -> Result<Option<Frac>, Halt>
-    ensures names { IfOk result (λ end. IfSome end (λ _. HaveNames (length program.now.columns.items) policy.now)) }
-    ensures shows { IsTree (seen program.now) → IfOk result (λ end. IfSome end (λ upper. ShowsUpper (seen program.now) upper policy.now)) }
+    ensures { Gives policy.now (policy_test program.now policy.now) result }
 {
     if fits(program, policy, false) {
         feasible_cost(program, policy)
@@ -56,7 +60,8 @@ fn upper_end(program: &Program, policy: &Values) -> Result<Option<Frac>, Halt>
 
 /// The cost of a policy that is feasible.
 fn feasible_cost(program: &Program, policy: &Values) -> Result<Option<Frac>, Halt>
-    ensures { IsTree (seen program.now) → IfOk result (λ end. IfSome end (λ upper. ShowsUpper (seen program.now) upper policy.now)) }
+    ensures { let x = at policy.now in
+        Gives policy.now (where_meets (feasible_walk (seen program.now) x) (by_cost policy.now (cost_walk (seen program.now) x))) result }
 {
     if feasible(program, policy)? {
         let upper = cost(program, policy)?;
@@ -68,8 +73,7 @@ fn feasible_cost(program: &Program, policy: &Values) -> Result<Option<Frac>, Hal
 
 /// The value of a dual that fits and is good.
 fn lower_end(program: &Program, dual: &Values) -> Result<Option<Frac>, Halt>
-    ensures names { IfOk result (λ end. IfSome end (λ _. HaveNames (length program.now.rows.items) dual.now)) }
-    ensures shows { IsTree (seen program.now) → IfOk result (λ end. IfSome end (λ lower. ShowsLower (seen program.now) lower dual.now)) }
+    ensures { Gives dual.now (dual_test program.now dual.now) result }
 {
     if fits(program, dual, true) {
         dual_value(program, dual)
@@ -80,8 +84,7 @@ fn lower_end(program: &Program, dual: &Values) -> Result<Option<Frac>, Halt>
 
 /// The cost of a direction that fits and is one.
 fn slope(program: &Program, direction: &Values) -> Result<Option<Frac>, Halt>
-    ensures names { IfOk result (λ end. IfSome end (λ _. HaveNames (length program.now.columns.items) direction.now)) }
-    ensures shows { IsTree (seen program.now) → IfOk result (λ end. IfSome end (λ cost. IsSlope (seen program.now) cost direction.now)) }
+    ensures { Gives direction.now (direction_test program.now direction.now) result }
 {
     if fits(program, direction, false) {
         falling_cost(program, direction)
@@ -92,7 +95,8 @@ fn slope(program: &Program, direction: &Values) -> Result<Option<Frac>, Halt>
 
 /// The cost of a direction that is one.
 fn falling_cost(program: &Program, direction: &Values) -> Result<Option<Frac>, Halt>
-    ensures { IsTree (seen program.now) → IfOk result (λ end. IfSome end (λ cost. IsSlope (seen program.now) cost direction.now)) }
+    ensures { let d = at direction.now in
+        Gives direction.now (where_meets (direction_walk (seen program.now) d) (by_cost direction.now (cost_walk (seen program.now) d))) result }
 {
     if is_direction(program, direction)? {
         let slope = cost(program, direction)?;
@@ -104,8 +108,7 @@ fn falling_cost(program: &Program, direction: &Values) -> Result<Option<Frac>, H
 
 /// The value of a ray that fits and shows that no policy is feasible.
 fn ray_value(program: &Program, ray: &Values) -> Result<Option<Frac>, Halt>
-    ensures names { IfOk result (λ found. IfSome found (λ _. HaveNames (length program.now.rows.items) ray.now)) }
-    ensures shows { IsTree (seen program.now) → IfOk result (λ found. IfSome found (λ value. ShowsNothing (seen program.now) value ray.now)) }
+    ensures { Gives ray.now (ray_test program.now ray.now) result }
 {
     if fits(program, ray, true) {
         value_above_zero(program, ray)
@@ -116,7 +119,7 @@ fn ray_value(program: &Program, ray: &Values) -> Result<Option<Frac>, Halt>
 
 /// The value of a ray where that is above 0.
 fn value_above_zero(program: &Program, ray: &Values) -> Result<Option<Frac>, Halt>
-    ensures { IsTree (seen program.now) → IfOk result (λ found. IfSome found (λ value. ShowsNothing (seen program.now) value ray.now)) }
+    ensures { Gives ray.now (where_above (by_value ray.now (dual_walk (without_costs (seen program.now)) (at ray.now)))) result }
 {
     match zero_value(program, ray)? {
         None => Ok(None),
@@ -138,8 +141,7 @@ fn is_at_most_zero(number: Frac) -> bool
 
 /// Tests a policy.
 pub(crate) fn test_policy(program: &Program, policy: Values) -> Result<Tested, Memory>
-    ensures names { IfOk result (HasNames (length program.now.columns.items)) }
-    ensures shows { IsTree (seen program.now) → IfOk result (IfShown (ShowsUpper (seen program.now))) }
+    ensures { IfOk result (λ tested. tested ≡ policy_test program.now policy) }
 {
     let computed = upper_end(program, &policy);
     kept(policy, computed)
@@ -147,8 +149,7 @@ pub(crate) fn test_policy(program: &Program, policy: Values) -> Result<Tested, M
 
 /// Tests a policy that may be wanting.
 pub(crate) fn test_some_policy(program: &Program, policy: Option<Values>) -> Result<Tested, Memory>
-    ensures names { IfOk result (HasNames (length program.now.columns.items)) }
-    ensures shows { IsTree (seen program.now) → IfOk result (IfShown (ShowsUpper (seen program.now))) }
+    ensures { IfOk result (λ tested. tested ≡ some_policy_test program.now policy) }
 {
     match policy {
         Some(values) => test_policy(program, values),
@@ -158,8 +159,7 @@ pub(crate) fn test_some_policy(program: &Program, policy: Option<Values>) -> Res
 
 /// Tests a dual that may be wanting.
 pub(crate) fn test_some_dual(program: &Program, dual: Option<Values>) -> Result<Tested, Memory>
-    ensures names { IfOk result (HasNames (length program.now.rows.items)) }
-    ensures shows { IsTree (seen program.now) → IfOk result (IfShown (ShowsLower (seen program.now))) }
+    ensures { IfOk result (λ tested. tested ≡ some_dual_test program.now dual) }
 {
     match dual {
         Some(values) => test_dual(program, values),
@@ -169,8 +169,7 @@ pub(crate) fn test_some_dual(program: &Program, dual: Option<Values>) -> Result<
 
 /// Tests a dual.
 fn test_dual(program: &Program, dual: Values) -> Result<Tested, Memory>
-    ensures names { IfOk result (HasNames (length program.now.rows.items)) }
-    ensures shows { IsTree (seen program.now) → IfOk result (IfShown (ShowsLower (seen program.now))) }
+    ensures { IfOk result (λ tested. tested ≡ dual_test program.now dual) }
 {
     let computed = lower_end(program, &dual);
     kept(dual, computed)
@@ -178,8 +177,7 @@ fn test_dual(program: &Program, dual: Values) -> Result<Tested, Memory>
 
 /// Tests a direction.
 pub(crate) fn test_direction(program: &Program, direction: Values) -> Result<Tested, Memory>
-    ensures names { IfOk result (HasNames (length program.now.columns.items)) }
-    ensures shows { IsTree (seen program.now) → IfOk result (IfShown (IsSlope (seen program.now))) }
+    ensures { IfOk result (λ tested. tested ≡ direction_test program.now direction) }
 {
     let computed = slope(program, &direction);
     kept(direction, computed)
@@ -187,8 +185,7 @@ pub(crate) fn test_direction(program: &Program, direction: Values) -> Result<Tes
 
 /// Tests a ray.
 pub(crate) fn test_ray(program: &Program, ray: Values) -> Result<Tested, Memory>
-    ensures names { IfOk result (HasNames (length program.now.rows.items)) }
-    ensures shows { IsTree (seen program.now) → IfOk result (IfShown (ShowsNothing (seen program.now))) }
+    ensures { IfOk result (λ tested. tested ≡ ray_test program.now ray) }
 {
     let computed = ray_value(program, &ray);
     kept(ray, computed)

@@ -1,30 +1,21 @@
-use Rattle.std.proofs.Common.{◌≡◌, sym, ap, subst, ◌∙◌}
-use Rattle.scen_defs.specs.Fits.{ListsHaveNames}
-use Rattle.scen_defs.specs.declared.report.Report.{Report}
-use Rattle.report_defs.specs.Truth.{IsTrue}
+use Rattle.std.proofs.Common.{◌≡◌, sym, ap, ap₂, subst, ◌∙◌}
+use Rattle.scen_defs.specs.declared.report.Finding.{Finding}
 use Rattle.proved_report.specs.declared.open.Open.{Open}
-use Rattle.proved_report.specs.Open.{given, IsLeftOpen}
-use Rattle.report_defs.specs.Seen.{seen}
-use Rattle.proved_report.specs.Tested.{or_before}
-use Rattle.proved_report.specs.Reports.{IsFilled, endless_report}
-use Rattle.proved_report.proofs.ReportLemmas.{before-given, endless_true, endless_names, endless_filled}
+use Rattle.proved_report.specs.declared.tested.Tested.{Tested}
+use Rattle.proved_report.specs.Open.{finding_of}
+use Rattle.proved_report.specs.Tested.{or_before, policy_test, direction_test}
+use Rattle.proved_report.specs.Reports.{IsFilled, blank_report, endless_report}
+use Rattle.proved_report.proofs.ReportLemmas.{endless_filled}
+use Rattle.proved_report.proofs.ClaimLemmas.{endless_claimed}
 use Rattle.proved_report.proofs.reports.endless.Goals as goal
 
 pub returns-clause-filled : goal.returns-clause-filled
 returns-clause-filled c = subst (IsFilled c.args.program.now c.args.number) (sym c.with_slope.ensures) (endless_filled c.args.program.now c.args.number c.blank-blank.result c.blank-blank.ensures.filled c.in_ok-upper.upper c.in_ok-slope.slope)
 
-pub returns-clause-names : goal.returns-clause-names
-returns-clause-names c =
-    subst (ListsHaveNames c.args.program.now) (sym (c.with_slope.ensures ∙ ap (λ (b : Report). endless_report b c.in_ok-upper.upper c.in_ok-slope.slope) c.blank-blank.ensures.is))
-    (endless_names c.args.program.now c.blank-blank.result.number c.blank-blank.result.nodes c.blank-blank.result.scenarios c.open_finding.result c.in_ok-upper.upper c.in_ok-slope.slope c.in_ok-upper.ensures.names c.in_ok-slope.ensures.names)
-
-pub returns-clause-truth : goal.returns-clause-truth
-returns-clause-truth c = λ tree.
-    let left_is : c.or_before-left.result ≡ or_before c.in_ok-upper.upper c.args.place (or_before c.in_ok-slope.slope c.args.place c.args.why) =
-    c.or_before-left.ensures ∙ ap (or_before c.in_ok-upper.upper c.args.place) c.or_before.ensures in
-    let h : IsLeftOpen (given c.args.why c.args.solves) c.open_finding.result =
-    before-given c.in_ok-slope.slope c.args.place c.args.why c.args.solves c.open_finding.result
-    (before-given c.in_ok-upper.upper c.args.place (or_before c.in_ok-slope.slope c.args.place c.args.why) c.args.solves c.open_finding.result
-    (subst (λ (w : Open). IsLeftOpen (given w c.args.solves) c.open_finding.result) left_is c.open_finding.ensures)) in
-    subst (IsTrue (seen c.args.program.now) (given c.args.why c.args.solves)) (sym (c.with_slope.ensures ∙ ap (λ (b : Report). endless_report b c.in_ok-upper.upper c.in_ok-slope.slope) c.blank-blank.ensures.is))
-    (endless_true (seen c.args.program.now) (given c.args.why c.args.solves) c.blank-blank.result.number c.blank-blank.result.nodes c.blank-blank.result.scenarios c.open_finding.result h tree c.in_ok-upper.upper c.in_ok-slope.slope (c.in_ok-upper.ensures.shows tree) (c.in_ok-slope.ensures.shows tree))
+pub returns-clause-exact : goal.returns-clause-exact
+returns-clause-exact c =
+    let inner : c.or_before.result ≡ or_before (direction_test c.args.program.now c.args.direction) c.args.place c.args.why = c.or_before.ensures ∙ ap (λ (t : Tested). or_before t c.args.place c.args.why) c.in_ok-slope.ensures in
+    let why_is : c.or_before-left.result ≡ (or_before (policy_test c.args.program.now c.args.policy) c.args.place (or_before (direction_test c.args.program.now c.args.direction) c.args.place c.args.why)) = c.or_before-left.ensures ∙ ap₂ (λ (t : Tested) (w : Open). or_before t c.args.place w) c.in_ok-upper.ensures inner in
+    endless_claimed c.args.program.now c.args.number c.args.policy c.args.direction c.args.place c.args.why c.args.solves c.blank-blank.result c.with_slope.result c.blank-blank.ensures.filled
+    (c.blank-blank.ensures.is ∙ ap (λ (f : Finding). blank_report c.blank-blank.result.number c.blank-blank.result.nodes c.blank-blank.result.scenarios f) (c.open_finding.ensures ∙ ap (λ (w : Open). finding_of w c.args.solves) why_is))
+    (c.with_slope.ensures ∙ ap₂ (λ (s t : Tested). endless_report c.blank-blank.result s t) c.in_ok-upper.ensures c.in_ok-slope.ensures)

@@ -1,31 +1,22 @@
-use Rattle.std.proofs.Common.{◌≡◌, sym, ap, subst, ◌∙◌}
-use Rattle.scen_defs.specs.Fits.{ListsHaveNames}
-use Rattle.scen_defs.specs.declared.report.Report.{Report}
+use Rattle.std.proofs.Common.{◌≡◌, sym, ap, ap₂, subst, ◌∙◌}
+use Rattle.scen_defs.specs.declared.report.Finding.{Finding}
 use Rattle.scen_defs.specs.declared.report.Place.TheVariants.{Dual}
-use Rattle.report_defs.specs.Truth.{IsTrue}
 use Rattle.proved_report.specs.declared.open.Open.{Open}
-use Rattle.proved_report.specs.Open.{given, IsLeftOpen}
-use Rattle.report_defs.specs.Seen.{seen}
-use Rattle.proved_report.specs.Tested.{or_before}
-use Rattle.proved_report.specs.Reports.{IsFilled, ends_report}
-use Rattle.proved_report.proofs.ReportLemmas.{before-given, ends_true, ends_names, ends_filled}
+use Rattle.proved_report.specs.declared.tested.Tested.{Tested}
+use Rattle.proved_report.specs.Open.{finding_of}
+use Rattle.proved_report.specs.Tested.{or_before, some_policy_test, some_dual_test}
+use Rattle.proved_report.specs.Reports.{IsFilled, blank_report, ends_report}
+use Rattle.proved_report.proofs.ReportLemmas.{ends_filled}
+use Rattle.proved_report.proofs.ClaimLemmas.{ends_claimed}
 use Rattle.proved_report.proofs.reports.ends.Goals as goal
 
 pub returns-clause-filled : goal.returns-clause-filled
 returns-clause-filled c = subst (IsFilled c.args.program.now c.args.number) (sym c.with_ends.ensures) (ends_filled c.args.program.now c.args.number c.blank-blank.result c.blank-blank.ensures.filled c.in_ok-upper.upper c.in_ok-lower.lower)
 
-pub returns-clause-names : goal.returns-clause-names
-returns-clause-names c =
-    subst (ListsHaveNames c.args.program.now) (sym (c.with_ends.ensures ∙ ap (λ (b : Report). ends_report b c.in_ok-upper.upper c.in_ok-lower.lower) c.blank-blank.ensures.is))
-    (ends_names c.args.program.now c.blank-blank.result.number c.blank-blank.result.nodes c.blank-blank.result.scenarios c.open_finding.result c.in_ok-upper.upper c.in_ok-lower.lower c.in_ok-upper.ensures.names c.in_ok-lower.ensures.names)
-
-pub returns-clause-truth : goal.returns-clause-truth
-returns-clause-truth c = λ tree.
-    let left_is : c.or_before-left.result ≡ or_before c.in_ok-upper.upper c.args.place (or_before c.in_ok-lower.lower Dual c.args.why) =
-    c.or_before-left.ensures ∙ ap (or_before c.in_ok-upper.upper c.args.place) c.or_before.ensures in
-    let h : IsLeftOpen (given c.args.why c.args.solves) c.open_finding.result =
-    before-given c.in_ok-lower.lower Dual c.args.why c.args.solves c.open_finding.result
-    (before-given c.in_ok-upper.upper c.args.place (or_before c.in_ok-lower.lower Dual c.args.why) c.args.solves c.open_finding.result
-    (subst (λ (w : Open). IsLeftOpen (given w c.args.solves) c.open_finding.result) left_is c.open_finding.ensures)) in
-    subst (IsTrue (seen c.args.program.now) (given c.args.why c.args.solves)) (sym (c.with_ends.ensures ∙ ap (λ (b : Report). ends_report b c.in_ok-upper.upper c.in_ok-lower.lower) c.blank-blank.ensures.is))
-    (ends_true (seen c.args.program.now) (given c.args.why c.args.solves) c.blank-blank.result.number c.blank-blank.result.nodes c.blank-blank.result.scenarios c.open_finding.result h c.in_ok-upper.upper c.in_ok-lower.lower (c.in_ok-upper.ensures.shows tree) (c.in_ok-lower.ensures.shows tree))
+pub returns-clause-exact : goal.returns-clause-exact
+returns-clause-exact c =
+    let inner : c.or_before.result ≡ or_before (some_dual_test c.args.program.now c.args.dual) Dual c.args.why = c.or_before.ensures ∙ ap (λ (t : Tested). or_before t Dual c.args.why) c.in_ok-lower.ensures in
+    let why_is : c.or_before-left.result ≡ (or_before (some_policy_test c.args.program.now c.args.policy) c.args.place (or_before (some_dual_test c.args.program.now c.args.dual) Dual c.args.why)) = c.or_before-left.ensures ∙ ap₂ (λ (t : Tested) (w : Open). or_before t c.args.place w) c.in_ok-upper.ensures inner in
+    ends_claimed c.args.program.now c.args.number c.args.policy c.args.dual c.args.place c.args.why c.args.solves c.blank-blank.result c.with_ends.result c.blank-blank.ensures.filled
+    (c.blank-blank.ensures.is ∙ ap (λ (f : Finding). blank_report c.blank-blank.result.number c.blank-blank.result.nodes c.blank-blank.result.scenarios f) (c.open_finding.ensures ∙ ap (λ (w : Open). finding_of w c.args.solves) why_is))
+    (c.with_ends.ensures ∙ ap₂ (λ (s t : Tested). ends_report c.blank-blank.result s t) c.in_ok-upper.ensures c.in_ok-lower.ensures)

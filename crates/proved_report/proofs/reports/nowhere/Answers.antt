@@ -1,27 +1,21 @@
-use Rattle.std.proofs.Common.{sym, ap, subst, ◌∙◌}
-use Rattle.scen_defs.specs.Fits.{ListsHaveNames}
-use Rattle.scen_defs.specs.declared.report.Report.{Report}
+use Rattle.std.proofs.Common.{◌≡◌, sym, ap, subst, ◌∙◌}
+use Rattle.scen_defs.specs.declared.report.Finding.{Finding}
 use Rattle.scen_defs.specs.declared.report.Place.TheVariants.{Dual}
-use Rattle.report_defs.specs.Truth.{IsTrue}
 use Rattle.proved_report.specs.declared.open.Open.{Open}
-use Rattle.proved_report.specs.Open.{given, IsLeftOpen}
-use Rattle.report_defs.specs.Seen.{seen}
-use Rattle.proved_report.specs.Reports.{IsFilled, nowhere_report}
-use Rattle.proved_report.proofs.ReportLemmas.{before-given, nowhere_true, nowhere_names, nowhere_filled}
+use Rattle.proved_report.specs.declared.tested.Tested.{Tested}
+use Rattle.proved_report.specs.Open.{finding_of}
+use Rattle.proved_report.specs.Tested.{or_before, ray_test}
+use Rattle.proved_report.specs.Reports.{IsFilled, blank_report, nowhere_report}
+use Rattle.proved_report.proofs.ReportLemmas.{nowhere_filled}
+use Rattle.proved_report.proofs.ClaimLemmas.{nowhere_claimed}
 use Rattle.proved_report.proofs.reports.nowhere.Goals as goal
 
 pub returns-clause-filled : goal.returns-clause-filled
 returns-clause-filled c = subst (IsFilled c.args.program.now c.args.number) (sym c.with_ray.ensures) (nowhere_filled c.args.program.now c.args.number c.blank-blank.result c.blank-blank.ensures.filled c.in_ok-ray.ray)
 
-pub returns-clause-names : goal.returns-clause-names
-returns-clause-names c =
-    subst (ListsHaveNames c.args.program.now) (sym (c.with_ray.ensures ∙ ap (λ (b : Report). nowhere_report b c.in_ok-ray.ray) c.blank-blank.ensures.is))
-    (nowhere_names c.args.program.now c.blank-blank.result.number c.blank-blank.result.nodes c.blank-blank.result.scenarios c.open_finding.result c.in_ok-ray.ray c.in_ok-ray.ensures.names)
-
-pub returns-clause-truth : goal.returns-clause-truth
-returns-clause-truth c = λ tree.
-    let h : IsLeftOpen (given c.args.why c.args.solves) c.open_finding.result =
-    before-given c.in_ok-ray.ray Dual c.args.why c.args.solves c.open_finding.result
-    (subst (λ (w : Open). IsLeftOpen (given w c.args.solves) c.open_finding.result) c.or_before-left.ensures c.open_finding.ensures) in
-    subst (IsTrue (seen c.args.program.now) (given c.args.why c.args.solves)) (sym (c.with_ray.ensures ∙ ap (λ (b : Report). nowhere_report b c.in_ok-ray.ray) c.blank-blank.ensures.is))
-    (nowhere_true (seen c.args.program.now) (given c.args.why c.args.solves) c.blank-blank.result.number c.blank-blank.result.nodes c.blank-blank.result.scenarios c.open_finding.result h c.in_ok-ray.ray (c.in_ok-ray.ensures.shows tree))
+pub returns-clause-exact : goal.returns-clause-exact
+returns-clause-exact c =
+    let why_is : c.or_before-left.result ≡ (or_before (ray_test c.args.program.now c.args.ray) Dual c.args.why) = c.or_before-left.ensures ∙ ap (λ (t : Tested). or_before t Dual c.args.why) c.in_ok-ray.ensures in
+    nowhere_claimed c.args.program.now c.args.number c.args.ray c.args.why c.args.solves c.blank-blank.result c.with_ray.result c.blank-blank.ensures.filled
+    (c.blank-blank.ensures.is ∙ ap (λ (f : Finding). blank_report c.blank-blank.result.number c.blank-blank.result.nodes c.blank-blank.result.scenarios f) (c.open_finding.ensures ∙ ap (λ (w : Open). finding_of w c.args.solves) why_is))
+    (c.with_ray.ensures ∙ ap (λ (t : Tested). nowhere_report c.blank-blank.result t) c.in_ok-ray.ensures)
