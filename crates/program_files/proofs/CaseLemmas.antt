@@ -1,5 +1,5 @@
 -- What is read of a stoch file is what its lines mean.
-use Rattle.std.proofs.Common.{◌≡◌, ℕ, List, Some, Ok, Err, sym}
+use Rattle.std.proofs.Common.{ℕ, List, Some, Ok, Err, sym}
 use Rattle.std.specs.Prelude.{Result}
 use Rattle.core_defs.specs.declared.cause.ReadFail.{ReadFail}
 use Rattle.core_defs.specs.declared.cause.ReadFail.TheVariants as fail

@@ -1,2 +1,3 @@
 pub mod RefusedLemmas
 pub mod CaseLemmas
+pub mod TreeLemmas

@@ -1,7 +1,5 @@
 -- What the faults of the three texts refuse.
-use Rattle.std.proofs.Common.{◌≡◌, ◌⊎◌, ℕ, Bool, true, false, List, Option, Some, None, Ok, Err, inl, inr, refl}
-use Rattle.std.specs.Prelude.{Result, Vec}
-use Rattle.rationals.specs.Passes.{Operation}
+use Rattle.std.proofs.Common.{◌≡◌, ℕ, List, Option, Some, None, Err, inl, inr, refl}
 use Rattle.core_defs.specs.declared.cause.Cause.TheVariants.{ScenarioLimit, Passes}
 use Rattle.core_defs.specs.declared.cause.Refusal.{Refusal}
 use Rattle.core_defs.specs.declared.cause.ReadFail.{ReadFail}

@@ -1,5 +1,5 @@
 -- The program that the texts of a core, a time and a stoch file mean together.
-use Rattle.std.specs.Prelude.{◌≡◌, ◌≤◌, ⊤, ℕ, Bool, true, false, List, [], ◌∷◌, length, replicate, Option, Some, None, IfSome, Ok}
+use Rattle.std.specs.Prelude.{◌≡◌, ◌≤◌, ℕ, false, List, [], ◌∷◌, length, replicate, Option, Some, None, IfSome, Ok}
 use Rattle.smps_words.specs.Line.{reading_of}
 use Rattle.core_defs.specs.Means.{TextMeans}
 use Rattle.core_defs.specs.Fault.{IsCoreFile}

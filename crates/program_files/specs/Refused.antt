@@ -1,5 +1,5 @@
 -- Why the texts of three files mean no program.
-use Rattle.std.specs.Prelude.{◌≡◌, ◌⊎◌, ℕ, true, false, List, Option, Some, None, is_none, Err}
+use Rattle.std.specs.Prelude.{◌≡◌, ◌⊎◌, ℕ, true, false, List, Option, Some, None, Err}
 use Rattle.smps_words.specs.Line.{reading_of}
 use Rattle.rationals.specs.Passes.{Operation}
 use Rattle.core_defs.specs.Fault.{IsCoreFile, IsFault}

@@ -1,6 +1,8 @@
 //! Reads three texts.
 ghost use Rattle.std.specs.Prelude.{◌≡◌, ◌≤◌, Some, IfOk, IfSome, length};
 ghost use Rattle.core_defs.specs.declared.cause.Cause.{Cause};
+ghost use Rattle.core_defs.specs.Core.{IsCore};
+ghost use Rattle.scen_defs.specs.Program.{content, view_of, IsTree};
 ghost use Rattle.stoch_defs.specs.Random.{content as content_of};
 ghost use Rattle.smps_time.specs.View.{stages_view};
 ghost use Rattle.input_files.specs.Fetched.{file_limit};
@@ -108,10 +110,12 @@ fn with_cases(
     stoch: &Stoch,
 ) -> Result<Program, Unread>
     requires core { MeansCore texts.now.core.items core }
+    requires is_core { IsCore core }
     requires fits { Fits core (stages_view periods.now) }
     requires periods { MeansPeriods core (text_of texts.now.time) (stages_view periods.now) }
     requires cases { MeansRandom core (stages_view periods.now) (text_of texts.now.stoch) (content_of stoch.now) }
-    ensures { MeansOrRefused (texts_view texts.now) result }
+    ensures means { MeansOrRefused (texts_view texts.now) result }
+    ensures tree { IfOk result (λ program. IsTree (view_of (content program))) }
 {
     match build(alloc, &core, periods, stoch) {
         Ok(program) => Ok(program),
@@ -128,9 +132,11 @@ fn with_periods(
 ) -> Result<Program, Unread>
     requires within { AreWithin (texts_view texts.now) }
     requires core { MeansCore texts.now.core.items core }
+    requires is_core { IsCore core }
     requires fits { Fits core (stages_view periods.now) }
     requires periods { MeansPeriods core (text_of texts.now.time) (stages_view periods.now) }
-    ensures { MeansOrRefused (texts_view texts.now) result }
+    ensures means { MeansOrRefused (texts_view texts.now) result }
+    ensures tree { IfOk result (λ program. IsTree (view_of (content program))) }
 {
     match read_cases(alloc, &texts.stoch, &core, periods) {
         Ok(stoch) => with_cases(alloc, texts, core, periods, &stoch),
@@ -142,7 +148,9 @@ fn with_periods(
 fn with_core(alloc: Global, texts: &Texts, core: Core) -> Result<Program, Unread>
     requires within { AreWithin (texts_view texts.now) }
     requires core { MeansCore texts.now.core.items core }
-    ensures { MeansOrRefused (texts_view texts.now) result }
+    requires is_core { IsCore core }
+    ensures means { MeansOrRefused (texts_view texts.now) result }
+    ensures tree { IfOk result (λ program. IsTree (view_of (content program))) }
 {
     match read_periods(alloc, &texts.time, &core) {
         Ok(periods) => with_periods(alloc, texts, core, &periods),
@@ -151,10 +159,12 @@ fn with_core(alloc: Global, texts: &Texts, core: Core) -> Result<Program, Unread
 }
 
 /// The program that the texts mean; else the first fault: that of the core, then of the time file, then of the stoch file, and
-/// at last that of building, which is told at line 0 of the stoch file, or of the core file where there is none.
+/// at last that of building, which is told at line 0 of the stoch file, or of the core file where there is none. What is given is a
+/// tree: the parents, stages, entries, paths and totals of its nodes fit together.
 pub fn read_program(alloc: Global, texts: &Texts) -> Result<Program, Unread>
     requires { AreWithin (texts_view texts.now) }
-    ensures { MeansOrRefused (texts_view texts.now) result }
+    ensures means { MeansOrRefused (texts_view texts.now) result }
+    ensures tree { IfOk result (λ program. IsTree (view_of (content program))) }
 {
     match read_core(alloc, &texts.core) {
         Ok(core) => with_core(alloc, texts, core),

@@ -1,4 +1,4 @@
-use Rattle.std.proofs.Common.{ℕ, List, Option, Some, sym, ap, subst}
+use Rattle.std.proofs.Common.{ℕ, List, Option, sym, ap, subst}
 use Rattle.smps_time.specs.View.{stages_view}
 use Rattle.smps_stoch.specs.View.{MeansOrRefused as ReadsCases}
 use Rattle.program_files.specs.Views.{text_of, GivesRandom}

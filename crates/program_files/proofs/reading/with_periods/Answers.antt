@@ -1,4 +1,4 @@
-use Rattle.std.proofs.Common.{Err, sym, subst, inl, refl}
+use Rattle.std.proofs.Common.{Err, sym, subst}
 use Rattle.input_files.specs.Unfetched.{texts_view}
 use Rattle.program_files.specs.declared.reading.Unread.{Unread}
 use Rattle.program_files.specs.Views.{MeansOrRefused}
@@ -6,6 +6,6 @@ use Rattle.smps_time.specs.View.{stages_view}
 use Rattle.program_files.proofs.RefusedLemmas.{stops_stoch}
 use Rattle.program_files.proofs.reading.with_periods.Goals as goal
 
-pub returns-in-Err : goal.returns-in-Err
-returns-in-Err c = subst (λ (u : Unread). MeansOrRefused (texts_view c.args.texts.now) (Err u)) (sym c.stopped.ensures)
+pub returns-in-Err-clause-means : goal.returns-in-Err-clause-means
+returns-in-Err-clause-means c = subst (λ (u : Unread). MeansOrRefused (texts_view c.args.texts.now) (Err u)) (sym c.stopped.ensures)
     (stops_stoch c.args.texts.now c.args.core c.requires.core (stages_view c.args.periods.now) c.requires.periods c.in-Err.fail c.in-Err.ensures)

@@ -6,5 +6,5 @@ use Rattle.smps_cli.proofs.show.shown.Goals as goal
 
 pub returns-in-Err : goal.returns-in-Err
 returns-in-Err c = IfOk-weaker c.stopped.result _ (λ answer. MayBeShown (texts_view c.args.texts.now) answer.status answer.output.items)
-    (λ answer h. may_be_refused (texts_view c.args.texts.now) c.in-Err.unread c.in-Err.ensures answer.status answer.output.items h)
+    (λ answer h. may_be_refused (texts_view c.args.texts.now) c.in-Err.unread c.in-Err.ensures.means answer.status answer.output.items h)
     c.stopped.ensures
