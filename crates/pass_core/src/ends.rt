@@ -1,0 +1,82 @@
+//! The ends of the least cost that are known, and what shows that there is none.
+
+use cut_proof::SharedCut;
+use frac128::Frac;
+use scen_defs::Values;
+
+/// A policy with what it costs.
+#[derive(Drop)]
+pub(crate) struct Priced {
+    pub(crate) cost: Frac,
+    pub(crate) policy: Values,
+}
+
+/// A cut of the root with its value.
+#[derive(Drop)]
+pub(crate) struct Bounded {
+    pub(crate) value: Frac,
+    pub(crate) cut: SharedCut,
+}
+
+/// The ends that are known, and what shows that there is none.
+#[derive(Drop)]
+pub(crate) struct Ends {
+    /// The least cost of a joined policy of a Feasible or Cost run, with the earliest policy of that cost.
+    pub(crate) upper: Option<Priced>,
+    /// The greatest root value of a Cost run, with the earliest cut of that value.
+    pub(crate) lower: Option<Bounded>,
+    /// The cost of the joined policy of the Recession run, at the last commit that left it complete.
+    pub(crate) direction: Option<Priced>,
+    /// The cut of the root's last solve in the present run.
+    pub(crate) root: Option<SharedCut>,
+    /// The root has no point in a Feasible run: its cut shows that.
+    pub(crate) nowhere: Option<SharedCut>,
+}
+
+impl Ends {
+    /// Nothing is known.
+    pub(crate) fn none() -> Ends {
+        Ends {
+            upper: None,
+            lower: None,
+            direction: None,
+            root: None,
+            nowhere: None,
+        }
+    }
+
+    /// Whether a policy of this cost would be the upper end: it is the first, or costs less.
+    pub(crate) fn wants(&self, cost: Frac) -> bool {
+        match &self.upper {
+            Some(best) => cost < best.cost,
+            None => true,
+        }
+    }
+
+    /// Takes a root value as the lower end, where it is the first or greater.
+    pub(crate) fn take_lower(&mut self, found: Bounded) {
+        let is_better = match &self.lower {
+            Some(best) => best.value < found.value,
+            None => true,
+        };
+        if is_better {
+            self.lower = Some(found);
+        }
+    }
+
+    /// Whether both ends are there and equal.
+    pub(crate) fn meet(&self) -> bool {
+        match (&self.lower, &self.upper) {
+            (Some(lower), Some(upper)) => lower.value == upper.cost,
+            _ => false,
+        }
+    }
+
+    /// Whether the direction's cost is below 0.
+    pub(crate) fn falls(&self) -> bool {
+        match &self.direction {
+            Some(direction) => direction.cost < Frac::zero(),
+            None => false,
+        }
+    }
+}

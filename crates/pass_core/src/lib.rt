@@ -1,0 +1,19 @@
+//! The nested method on a tree of nodes: what is known of a program, and what a step does.
+#![tactic(auto)]
+
+mod banks;
+mod budget;
+mod close;
+mod commit;
+mod cost;
+mod datum;
+mod ends;
+mod flight;
+mod frame;
+mod ground;
+mod last;
+mod state;
+
+pub use budget::Budget;
+pub use close::{Closed, Settled};
+pub use state::State;

@@ -1,0 +1,146 @@
+//! What is known of a program, and the next step.
+
+use crate::banks::Banks;
+use crate::budget::Budget;
+use crate::datum::datum_of;
+use crate::ends::Ends;
+use crate::flight;
+use crate::frame::Frame;
+use crate::last::Lasts;
+use frac128::Memory;
+use node_lp::{Solved, Task, fits, solve_node};
+use pass_table::{Reading, Table};
+use proved_report::Open;
+use scen_defs::{Kind, Program};
+use scen_tree::Tree;
+use std::alloc::Global;
+
+/// What the nested method knows of a program.
+///
+/// It works in runs. The first, Feasible, looks for a policy with all costs 0; the second, Recession, tests whether the cost
+/// falls for ever; the third, Cost, looks for the least cost. In each the nodes are solved again and again, from the least
+/// number that isn't up to date: a node takes the values of the columns above it as they are, and the cuts of its
+/// children in place of what is below; its own solve gives a cut to its pool. A run is closed where all nodes are up to date.
+#[derive(Drop)]
+pub struct State {
+    pub(crate) frame: Frame,
+    pub(crate) budget: Budget,
+    pub(crate) table: Table,
+    pub(crate) kind: Kind,
+    pub(crate) banks: Banks,
+    pub(crate) lasts: Lasts,
+    pub(crate) ends: Ends,
+    /// The first reason in the present run why the method can't go on.
+    pub(crate) stop: Option<Open>,
+    /// How many solves there were.
+    pub(crate) commits: u64,
+}
+
+/// A solve as it was begun.
+#[derive(Drop)]
+pub(crate) struct Begun {
+    pub(crate) task: Task,
+    pub(crate) readings: Vec<Reading>,
+}
+
+impl State {
+    /// The state before any solve. None where the program's nodes aren't numbered from the root on.
+    pub fn start(
+        alloc: Global,
+        program: &Program,
+        budget: Budget,
+    ) -> Result<Option<State>, Memory> {
+        let frame = Frame::of(alloc, program)?;
+        let Some(table) = flight::start(alloc, &frame)? else {
+            return Ok(None);
+        };
+        let nodes = frame.nodes();
+        Ok(Some(State {
+            frame,
+            budget,
+            table,
+            kind: Kind::Feasible,
+            banks: Banks::empty(alloc, nodes)?,
+            lasts: Lasts::none(alloc, nodes)?,
+            ends: Ends::none(),
+            stop: None,
+            commits: 0,
+        }))
+    }
+
+    /// The next step: where the run is closed the next one opens, else a node is solved. False where nothing can be done.
+    pub fn advance(
+        &mut self,
+        alloc: Global,
+        program: &Program,
+        tree: &Tree,
+    ) -> Result<bool, Memory> {
+        if self.table.is_closed() && self.kind != Kind::Cost {
+            self.open_next(alloc, program, tree)?;
+            return Ok(true);
+        }
+        match flight::begin(&mut self.table) {
+            Some(node) => {
+                self.solve(alloc, program, tree, node)?;
+                Ok(true)
+            }
+            None => Ok(false),
+        }
+    }
+
+    /// Solves a node that was begun, and commits.
+    fn solve(
+        &mut self,
+        alloc: Global,
+        program: &Program,
+        tree: &Tree,
+        node: u32,
+    ) -> Result<(), Memory> {
+        let Some(begun) = self.begun(alloc, program, tree, node)? else {
+            self.stuck();
+            return Ok(());
+        };
+        if !fits(&begun.task) {
+            self.stuck();
+            return Ok(());
+        }
+        let solved = solve_node(alloc, &begun.task)?;
+        self.commit(alloc, program, tree, node, &begun, solved)
+    }
+
+    /// The task of a node. None where the node has no data.
+    fn begun(
+        &self,
+        alloc: Global,
+        program: &Program,
+        tree: &Tree,
+        node: u32,
+    ) -> Result<Option<Begun>, Memory> {
+        let Some(datum) = datum_of(alloc, program, &self.frame, tree, self.kind, node)? else {
+            return Ok(None);
+        };
+        let read = self.banks.read(alloc, self.kind, &self.frame, node)?;
+        Ok(Some(Begun {
+            task: Task {
+                kind: self.kind,
+                datum,
+                trial: self.lasts.trial(alloc, &self.frame, node)?,
+                children: read.children,
+                pivots: self.budget.pivots,
+            },
+            readings: read.readings,
+        }))
+    }
+
+    /// Keeps the first reason why the method can't go on.
+    pub(crate) fn stop_at(&mut self, stop: Open) {
+        if self.stop.is_none() {
+            self.stop = Some(stop);
+        }
+    }
+
+    /// Stops in a case that never comes of a correct solve. Nothing is claimed of it.
+    pub(crate) fn stuck(&mut self) {
+        self.stop_at(Open::Solves(self.budget.solves));
+    }
+}
