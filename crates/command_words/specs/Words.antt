@@ -3,7 +3,7 @@ use Rattle.std.specs.Prelude.{ℕ, ◌+◌, ◌*◌, ◌-◌, Bool, true, false,
 use Rattle.std.specs.Cmp.Lexicographic.{pointwise}
 use Rattle.std.specs.List.{position_or_len, before_first, after_first}
 use Rattle.command_words.specs.declared.flag.Flag.{Flag}
-use Rattle.command_words.specs.declared.flag.Flag.TheVariants.{Core, Time, Stoch, Pivots}
+use Rattle.command_words.specs.declared.flag.Flag.TheVariants.{Core, Time, Stoch, Solves, Pivots, Workers}
 use Rattle.command_words.specs.declared.command.Verb.{Verb}
 use Rattle.command_words.specs.declared.command.Verb.TheVariants.{Solve, Show}
 
@@ -48,7 +48,9 @@ flag_named name =
     if same_text name (codes "--core") then Some Core
     else (if same_text name (codes "--time") then Some Time
     else (if same_text name (codes "--stoch") then Some Stoch
-    else (if same_text name (codes "--pivots") then Some Pivots else None)))
+    else (if same_text name (codes "--solves") then Some Solves
+    else (if same_text name (codes "--pivots") then Some Pivots
+    else (if same_text name (codes "--workers") then Some Workers else None)))))
 
 -- an option with its value
 pub record Given : Type 0 where
@@ -95,7 +97,9 @@ abbrev pub same_flag : Flag → Flag → Bool
 same_flag Core Core = true
 same_flag Time Time = true
 same_flag Stoch Stoch = true
+same_flag Solves Solves = true
 same_flag Pivots Pivots = true
+same_flag Workers Workers = true
 same_flag _ _ = false
 
 -- the value of the first setting of this option
@@ -113,13 +117,17 @@ are_once (s ∷ settings) = is_none (value_with s.flag settings) && are_once set
 abbrev pub verb_named : List ℕ → Option Verb
 verb_named word = if same_text word (codes "solve") then Some Solve else (if same_text word (codes "show") then Some Show else None)
 
--- a command takes the names of the files; `solve` also takes the number of pivots
+-- a command takes the names of the files; `solve` also takes numbers
 abbrev pub allows : Verb → Flag → Bool
 allows verb Core = true
 allows verb Time = true
 allows verb Stoch = true
+allows Solve Solves = true
 allows Solve Pivots = true
+allows Solve Workers = true
+allows Show Solves = false
 allows Show Pivots = false
+allows Show Workers = false
 
 abbrev pub all_allowed : Verb → List Given → Bool
 all_allowed verb [] = true
@@ -141,22 +149,32 @@ sources_by (Some core) (Some time) stoch = Some (record { core = core; time = So
 abbrev pub sources_of : List Given → Option FileNames
 sources_of settings = sources_by (value_with Core settings) (value_with Time settings) (value_with Stoch settings)
 
--- 100,000 where the words don't say how many, and 1,000,000,000 at most
-abbrev pub pivots_by : Option (List ℕ) → Option ℕ
-pivots_by None = Some 100000
-pivots_by (Some value) = number_within value 1 1000000000
+-- the number of an option, at most so much, or the number that stands for an absent one
+abbrev pub number_or : ℕ → ℕ → Option (List ℕ) → Option ℕ
+number_or absent most None = Some absent
+number_or absent most (Some value) = number_within value 1 most
 
-abbrev pub pivots_of : List Given → Option ℕ
-pivots_of settings = pivots_by (value_with Pivots settings)
+-- how many node programs are solved for a report, and how many pivots each takes, at most
+pub record Budget : Type 0 where
+  pub solves : ℕ
+  pub pivots : ℕ
+
+abbrev pub budget_by : Option ℕ → Option ℕ → Option ℕ → Option Budget
+budget_by solves pivots workers = then_some solves (λ s. then_some pivots (λ p. then_some workers (λ w. Some (record { solves = s; pivots = p }))))
+
+-- of solves and of pivots 100,000 where the words don't say how many, and 1,000,000,000 at most; one worker
+abbrev pub budget_of : List Given → Option Budget
+budget_of settings = budget_by (number_or 100000 1000000000 (value_with Solves settings)) (number_or 100000 1000000000 (value_with Pivots settings))
+    (number_or 1 1 (value_with Workers settings))
 
 -- what the words ask for
 pub data Asked : Type 0 where
-  -- of these files, with so many pivots at most
-  SolveThese : FileNames → ℕ → Asked
+  -- of these files, within a budget
+  SolveThese : FileNames → Budget → Asked
   ShowThese : FileNames → Asked
 
 abbrev pub ask : Verb → List Given → FileNames → Option Asked
-ask Solve settings names = then_some (pivots_of settings) (λ pivots. Some (SolveThese names pivots))
+ask Solve settings names = then_some (budget_of settings) (λ budget. Some (SolveThese names budget))
 ask Show settings names = Some (ShowThese names)
 
 abbrev pub command_with : Verb → List Given → Option Asked

@@ -1,8 +1,8 @@
 //! The commands.
 ghost use Rattle.std.specs.Prelude.{◌≡◌, ℕ, List, map, string_bytes, IfOk};
 ghost use Rattle.std.specs.Option.{option_map};
-ghost use Rattle.command_words.specs.Words.{verb_named, allows, all_allowed, sources_of, pivots_of, command_with, command_of};
-ghost use Rattle.command_words.specs.Views.{asked, all_given, sources_view};
+ghost use Rattle.command_words.specs.Words.{verb_named, allows, all_allowed, sources_of, value_with, number_or, budget_of, command_with, command_of};
+ghost use Rattle.command_words.specs.Views.{asked, all_given, budget_view, sources_view};
 
 use crate::flag::Flag;
 use crate::settings::{Setting, are_once, settings, value_with};
@@ -26,20 +26,37 @@ pub struct Sources<'a> {
     pub stoch: Option<&'a str>,
 }
 
+/// How much may be done for a report.
+#[derive(Clone, Copy, Debug, PartialEq, Eq)]
+pub struct Budget {
+    /// How many node programs are solved, in a program of several periods.
+    pub solves: u64,
+    /// How many pivots each solve may take.
+    pub pivots: u64,
+}
+
 /// What the words ask for.
 #[derive(Clone, Copy, Debug, Drop)]
 pub enum Command<'a> {
-    /// Solve the program, with so many pivots at most, and print the report.
-    Solve { sources: Sources<'a>, pivots: u64 },
+    /// Solve the program within a budget, and print the report.
+    Solve {
+        sources: Sources<'a>,
+        budget: Budget,
+    },
     /// Print the program.
-    Show { sources: Sources<'a> },
+    Show {
+        sources: Sources<'a>,
+    },
 }
 
-/// A solve takes so many pivots where the words don't say how many.
-const PIVOTS: u64 = 100_000;
+/// So many solves and so many pivots are allowed where the words don't say how many.
+const BUDGET: u64 = 100_000;
 
-/// The most pivots that the words may allow.
-const MOST_PIVOTS: u64 = 1_000_000_000;
+/// The most solves, and the most pivots, that the words may allow.
+const MOST: u64 = 1_000_000_000;
+
+/// The most workers that the words may ask for.
+const MOST_WORKERS: u64 = 1;
 
 fn verb_named(word: &str) -> Option<Verb>
     ensures { result ≡ verb_named word.now }
@@ -57,7 +74,7 @@ fn allows(verb: Verb, flag: Flag) -> bool
 {
     match flag {
         Flag::Core | Flag::Time | Flag::Stoch => true,
-        Flag::Pivots => verb == Verb::Solve,
+        Flag::Solves | Flag::Pivots | Flag::Workers => verb == Verb::Solve,
     }
 }
 
@@ -85,14 +102,24 @@ fn named_sources<'a>(settings: &[Setting<'a>]) -> Option<Sources<'a>>
     Some(Sources { core, time, stoch })
 }
 
-/// How many pivots a solve may take.
-fn pivots(settings: &[Setting<'_>]) -> Option<u64>
-    ensures { result ≡ pivots_of (all_given settings.now) }
+/// The number that an option has, up to the most that it may be; `absent` where the option isn't there.
+fn number_or(settings: &[Setting<'_>], flag: Flag, absent: u64, most: u64) -> Option<u64>
+    ensures { result ≡ number_or absent most (value_with flag (all_given settings.now)) }
 {
-    match value_with(settings, Flag::Pivots) {
-        None => Some(PIVOTS),
-        Some(value) => number_within(value.as_bytes(), 1, MOST_PIVOTS),
+    match value_with(settings, flag) {
+        None => Some(absent),
+        Some(value) => number_within(value.as_bytes(), 1, most),
     }
+}
+
+/// How much may be done for a report, with the one worker that there may be.
+fn budget_given(settings: &[Setting<'_>]) -> Option<Budget>
+    ensures { option_map budget_view result ≡ budget_of (all_given settings.now) }
+{
+    let solves = number_or(settings, Flag::Solves, BUDGET, MOST)?;
+    let pivots = number_or(settings, Flag::Pivots, BUDGET, MOST)?;
+    let _workers = number_or(settings, Flag::Workers, 1, MOST_WORKERS)?;
+    Some(Budget { solves, pivots })
 }
 
 /// The command of this verb with these options.
@@ -105,8 +132,8 @@ fn command_with<'a>(verb: Verb, settings: &[Setting<'a>]) -> Option<Command<'a>>
     let sources = named_sources(settings)?;
     match verb {
         Verb::Solve => {
-            let pivots = pivots(settings)?;
-            Some(Command::Solve { sources, pivots })
+            let budget = budget_given(settings)?;
+            Some(Command::Solve { sources, budget })
         }
         Verb::Show => Some(Command::Show { sources }),
     }

@@ -11,8 +11,12 @@ pub enum Flag {
     Time,
     /// `--stoch`: the name of the stoch file.
     Stoch,
+    /// `--solves`: how many node programs are solved for a report.
+    Solves,
     /// `--pivots`: how many pivots a solve may take.
     Pivots,
+    /// `--workers`: how many workers solve side by side.
+    Workers,
 }
 
 /// The option of that name, with its two minuses.
@@ -23,7 +27,9 @@ pub(crate) fn flag_named(name: &str) -> Option<Flag>
         "--core" => Some(Flag::Core),
         "--time" => Some(Flag::Time),
         "--stoch" => Some(Flag::Stoch),
+        "--solves" => Some(Flag::Solves),
         "--pivots" => Some(Flag::Pivots),
+        "--workers" => Some(Flag::Workers),
         _ => None,
     }
 }

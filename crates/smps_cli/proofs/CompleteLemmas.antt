@@ -23,7 +23,7 @@ module _ (content : Option Files) (words : List (List ℕ)) (asks : AsksForRepor
   refused line cause (inl unread) = absurd (unread.not_read asks.read)
   refused line cause (inr passing) = inr (inr (inr (passing.operation, let l = passing.line_is in let c = passing.cause_is in cc)))
 
-  by_status : (status : Status) (output : List ℕ) → MayBeSolved asks.pivots (bytes_of asks.files asks.name) status output → EndsOrWantsMemory status
+  by_status : (status : Status) (output : List ℕ) → MayBeSolved asks.budget.pivots (bytes_of asks.files asks.name) status output → EndsOrWantsMemory status
   by_status Done output may = inl refl
   by_status SomeOpen output may = inr (inl refl)
   by_status Words output may = absurd may
@@ -45,13 +45,13 @@ module _ (content : Option Files) (words : List (List ℕ)) (asks : AsksForRepor
   not_long kind.Report long = let e = long.1 in absurd (cc)
   not_long kind.Trace long = let e = long.1 in absurd (cc)
 
-  by_command : (status : Status) (output : List ℕ) → ((file : FileKind) → status ≡ ReadFault file → ⊥) → MayAnswerFor (Some (SolveThese (alone asks.name) asks.pivots)) (Some asks.files) status output → EndsOrWantsMemory status
+  by_command : (status : Status) (output : List ℕ) → ((file : FileKind) → status ≡ ReadFault file → ⊥) → MayAnswerFor (Some (SolveThese (alone asks.name) asks.budget)) (Some asks.files) status output → EndsOrWantsMemory status
   by_command status output given (inl fault) = absurd (given fault.0 fault.2)
   by_command status output given (inr (inl long)) = absurd (not_long long.0 long.1)
-  by_command status output given (inr (inr came)) = by_status status output (subst (λ (bytes : List ℕ). MayBeSolved asks.pivots bytes status output) came.1.core.told came.2)
+  by_command status output given (inr (inr came)) = by_status status output (subst (λ (bytes : List ℕ). MayBeSolved asks.budget.pivots bytes status output) came.1.core.told came.2)
 
   pub comes_to_a_report : (status : Status) (output : List ℕ) → ((file : FileKind) → status ≡ ReadFault file → ⊥) → MayAnswer content words status output → EndsOrWantsMemory status
   comes_to_a_report status output given may =
       by_command status output given
-      (subst (λ (told : Option Files). MayAnswerFor (Some (SolveThese (alone asks.name) asks.pivots)) told status output) asks.told
+      (subst (λ (told : Option Files). MayAnswerFor (Some (SolveThese (alone asks.name) asks.budget)) told status output) asks.told
       (subst (λ (command : Option Asked). MayAnswerFor command content status output) asks.command may))

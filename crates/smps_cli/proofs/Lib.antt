@@ -4,3 +4,4 @@ pub mod AnswerLemmas
 pub mod CompleteLemmas
 pub mod GivenLemmas
 pub mod ShowLemmas
+pub mod TreeLemmas

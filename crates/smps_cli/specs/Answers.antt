@@ -3,19 +3,20 @@ use Rattle.std.specs.Prelude.{◌≡◌, ◌⊎◌, ⊤, ℕ, List, length, Opti
 use Rattle.smps_io.specs.Faults.{RoseBy}
 use Rattle.smps_io.specs.Files.{Files}
 use Rattle.smps_io.specs.Puts.{Appends, AppendsPrefix}
-use Rattle.command_words.specs.Words.{FileNames, Asked}
+use Rattle.command_words.specs.Words.{FileNames, Budget, Asked, command_of}
 use Rattle.command_words.specs.Words.Asked.{SolveThese, ShowThese}
 use Rattle.input_files.specs.declared.kind.FileKind.{FileKind}
 use Rattle.input_files.specs.declared.kind.FileKind.TheVariants.{Core}
 use Rattle.input_files.specs.Fetched.{Texts, AreGiven, IsNamed, IsLong}
 use Rattle.smps_cli.specs.declared.status.Status.{Status}
 use Rattle.smps_cli.specs.declared.status.Status.TheVariants.{Done, SomeOpen, Words, Refused, TooLong, ReadFault, WriteFault, Memory}
-use Rattle.smps_cli.specs.Built.{running, files_of}
+use Rattle.smps_cli.specs.Sources.{files_of}
 use Rattle.smps_cli.specs.Lines.{status_line}
 use Rattle.smps_cli.specs.Printed.{PrintsTrueReport, IsRefusedAt}
 use Rattle.smps_cli.specs.Shown.{MayBeShown}
+use Rattle.smps_cli.specs.Trees.{MayBeSolvedOnTree}
 
--- What the bytes of a core file may come to, where so many pivots are allowed.
+-- What the bytes of a core file alone may come to, where so many pivots are allowed.
 abbrev pub MayBeSolved : ℕ → List ℕ → Status → List ℕ → Type 0
 MayBeSolved pivots bytes Done output = PrintsTrueReport pivots bytes output Done
 MayBeSolved pivots bytes SomeOpen output = PrintsTrueReport pivots bytes output SomeOpen
@@ -26,9 +27,14 @@ MayBeSolved pivots bytes (ReadFault file) output = ⊥
 MayBeSolved pivots bytes WriteFault output = ⊥
 MayBeSolved pivots bytes Memory output = ⊥
 
+-- What `solve` may come to: a core file alone is a program of one period, and with a time file one on a tree.
+abbrev pub MaySolve : Option (List ℕ) → Budget → Texts → Status → List ℕ → Type 0
+MaySolve None budget texts status output = MayBeSolved budget.pivots texts.core status output
+MaySolve (Some time) budget texts status output = MayBeSolvedOnTree budget texts status output
+
 -- What a command may come to on the texts of its files.
 abbrev pub MayCome : Asked → Texts → Status → List ℕ → Type 0
-MayCome (SolveThese names pivots) texts status output = MayBeSolved pivots texts.core status output
+MayCome (SolveThese names budget) texts status output = MaySolve names.time budget texts status output
 MayCome (ShowThese names) texts status output = MayBeShown texts status output
 
 -- A file is too long, and the line says so.
@@ -53,7 +59,7 @@ MayAnswerFor None content status output = RefusesWords status output
 MayAnswerFor (Some asked) content status output = SaysReadFault (files_of asked) status output ⊎ SaysTooLong content (files_of asked) status output ⊎ ComesToThis content asked status output
 
 abbrev pub MayAnswer : Option Files → List (List ℕ) → Status → List ℕ → Type 0
-MayAnswer content words status output = MayAnswerFor (running words) content status output
+MayAnswer content words status output = MayAnswerFor (command_of words) content status output
 
 -- The run came to a status and an output. It answers this status, the sink has the whole output, and has taken as many bytes as
 -- that has; or the sink failed or memory was wanting, and the sink has a prefix of it.

@@ -3,6 +3,7 @@ use Rattle.std.specs.Prelude.{◌≡◌, ◌≤◌, ◌⊎◌, ℕ, List, length
 use Rattle.smps_words.specs.Line.{reading_of}
 use Rattle.smps_io.specs.Files.{Files, bytes_of}
 use Rattle.core_defs.specs.Fault.{IsCoreFile}
+use Rattle.command_words.specs.Words.{Budget, command_of}
 use Rattle.command_words.specs.Words.Asked.{SolveThese}
 use Rattle.input_files.specs.Fetched.{file_limit}
 use Rattle.core_defs.specs.declared.cause.Cause.TheVariants.{Passes}
@@ -10,14 +11,13 @@ use Rattle.rationals.specs.Passes.{Operation}
 use Rattle.input_files.specs.declared.kind.FileKind.TheVariants.{Core}
 use Rattle.smps_cli.specs.declared.status.Status.{Status}
 use Rattle.smps_cli.specs.declared.status.Status.TheVariants.{Done, SomeOpen, Refused, Memory}
-use Rattle.smps_cli.specs.Built.{running}
 
 -- The words ask for a core file that can be solved, and the shelf tells its bytes.
 pub record AsksForReport (content : Option Files) (words : List (List ℕ)) : Type 0 where
   -- the words are `solve` and name this core file alone
   pub name : List ℕ
-  pub pivots : ℕ
-  pub command : running words ≡ Some (SolveThese (record { core = name; time = None; stoch = None }) pivots)
+  pub budget : Budget
+  pub command : command_of words ≡ Some (SolveThese (record { core = name; time = None; stoch = None }) budget)
   -- the shelf tells what it holds, and that the file isn't too long
   pub files : Files
   pub told : content ≡ Some files

@@ -8,6 +8,7 @@ mod status;
 #[cfg(test)]
 mod tests;
 mod top_call;
+mod trees;
 
 pub use input_files::FileKind;
 pub use status::Status;

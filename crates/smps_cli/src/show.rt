@@ -27,7 +27,7 @@ pub(crate) fn shown(alloc: Global, texts: &Texts) -> Result<Answer, Memory>
 }
 
 /// The answer where the texts give no program.
-fn stopped(alloc: Global, unread: Unread) -> Result<Answer, Memory>
+pub(crate) fn stopped(alloc: Global, unread: Unread) -> Result<Answer, Memory>
     ensures { IfOk result (λ answer. AnswersUnread unread answer.status answer.output.items) }
 {
     match unread {

@@ -82,7 +82,7 @@ fn refused(alloc: Global, line: u32, cause: Cause) -> Result<Answer, Memory>
 }
 
 /// The answer that prints a report.
-fn printed(alloc: Global, program: &Program, report: &Report) -> Result<Answer, Memory>
+pub(crate) fn printed(alloc: Global, program: &Program, report: &Report) -> Result<Answer, Memory>
     requires { ListsHaveNames program.now report.now }
     ensures { IfOk result (λ answer. (answer.output.items ≡ report_text program.now report.now) × (answer.status ≡ command_status report.now.finding)) }
 {

@@ -2,8 +2,8 @@
 ghost use Rattle.std.specs.Prelude.{◌≡◌, ◌<◌, ℕ, List, None, Some, map, string_bytes};
 ghost use Rattle.smps_io.specs.Faults.{Rose, RoseBy};
 ghost use Rattle.input_files.specs.Fetched.{file_limit, file_count};
-ghost use Rattle.command_words.specs.Words.{Asked};
-ghost use Rattle.smps_cli.specs.Built.{running, files_of};
+ghost use Rattle.command_words.specs.Words.{Asked, command_of};
+ghost use Rattle.smps_cli.specs.Sources.{files_of};
 ghost use Rattle.smps_cli.specs.Answers.{Answers, HasTexts};
 ghost use Rattle.smps_cli.specs.Completes.{AsksForReport, EndsOrWantsMemory};
 ghost use Rattle.input_files.specs.declared.kind.FileKind.{FileKind};
@@ -15,7 +15,7 @@ use smps_io::{Shelf, Sink, SinkFault, write_all};
 use std::alloc::Global;
 use std::rt::Runtime;
 
-/// Runs the command that the words name: reads its file from the shelf, writes its output to the sink,
+/// Runs the command that the words name: reads its files from the shelf, writes its output to the sink,
 /// and says how it ended. The words don't hold the program's own name. Everything is computed before the first byte is
 /// written.
 ///
@@ -28,11 +28,11 @@ pub fn run<R: Runtime, H: Shelf, K: Sink>(
     shelf: &mut H,
     sink: &mut K,
 ) -> Status
-    ensures words { result ≡ Status.Words → running (map string_bytes words.now) ≡ None }
+    ensures words { result ≡ Status.Words → command_of (map string_bytes words.now) ≡ None }
     ensures read { (kind : FileKind) → result ≡ Status.ReadFault kind → Rose (H.faults shelf.old) (H.faults shelf.new) }
     ensures long { (kind : FileKind) → result ≡ Status.TooLong kind → file_limit < H.given shelf.new }
-    ensures none_fetched { running (map string_bytes words.now) ≡ None → H.fetches shelf.new ≡ H.fetches shelf.old }
-    ensures fetched { HasTexts result → (command : Asked) → running (map string_bytes words.now) ≡ Some command
+    ensures none_fetched { command_of (map string_bytes words.now) ≡ None → H.fetches shelf.new ≡ H.fetches shelf.old }
+    ensures fetched { HasTexts result → (command : Asked) → command_of (map string_bytes words.now) ≡ Some command
         → RoseBy (H.fetches shelf.old) (file_count (files_of command)) (H.fetches shelf.new) }
     ensures write { result ≡ Status.WriteFault → Rose (K.faults sink.old) (K.faults sink.new) }
     ensures completes { AsksForReport (H.content shelf.old) (map string_bytes words.now)

@@ -8,19 +8,14 @@ use std::rt::Runtime;
 
 const NO_COMMAND: &str = "tidzgheba: the words aren't those of a command\n";
 
-const SOLVE_NOT_BUILT: &str =
-    "tidzgheba: solving programs of several periods isn't built yet: solve takes no --time and no --stoch\n";
-
-const SHOW_NOT_BUILT: &str = "tidzgheba: show isn't built yet\n";
-
 const USAGE: &str = "\
-usage: tidzgheba solve --core FILE [--pivots N]
+usage: tidzgheba solve --core FILE [--time FILE [--stoch FILE]] [--solves N] [--pivots N]
        tidzgheba show --core FILE [--time FILE [--stoch FILE]]
 ";
 
 const OPEN: &str =
     "tidzgheba: the report is OPEN, and the ends that it prints hold: behind OPEN PASSED fewer significant \
-digits in the data help, other units don't; behind OPEN PIVOTS a greater --pivots may help\n";
+digits in the data help, other units don't; behind OPEN SOLVES a greater --solves may help, behind OPEN PIVOTS a greater --pivots\n";
 
 const UNWRITTEN: &str =
     "tidzgheba: standard output could not be written; what was printed is only a part of the output\n";
@@ -70,7 +65,7 @@ fn put_explanation<R: Runtime>(
             text.push_str(OPEN)?;
             put_unused(rt, alloc, text, sources)
         }
-        Status::Words => text.push_str(not_built(command)),
+        Status::Words => put_usage(text),
         Status::Refused(file, line, cause) => {
             put_refusal(rt, alloc, text, sources, *file, *line, *cause)
         }
@@ -83,17 +78,6 @@ fn put_explanation<R: Runtime>(
 
 fn sources_of<'a, 'b>(command: &'b Command<'a>) -> &'b Sources<'a> {
     match command {
-        Command::Solve { sources, pivots: _ } | Command::Show { sources } => sources,
-    }
-}
-
-/// What is said of a command that doesn't run.
-fn not_built(command: &Command<'_>) -> &'static str {
-    match command {
-        Command::Solve {
-            sources: _,
-            pivots: _,
-        } => SOLVE_NOT_BUILT,
-        Command::Show { sources: _ } => SHOW_NOT_BUILT,
+        Command::Solve { sources, budget: _ } | Command::Show { sources } => sources,
     }
 }
