@@ -11,7 +11,9 @@ use Rattle.scen_defs.specs.Program.{content}
 use Rattle.scen_defs.specs.declared.program.Program.{Program}
 use Rattle.scen_defs.specs.declared.report.Report.{Report}
 use Rattle.smps_build.specs.Single.{single_walk}
-use Rattle.one_period.specs.Truth.{SolvesProgram}
+use Rattle.report_defs.specs.Seen.{seen}
+use Rattle.report_defs.specs.Truth.{IsTrue, HasCounts}
+use Rattle.one_period.specs.Truth.{solve_reasons}
 use Rattle.report_text.specs.Text.{report_text}
 use Rattle.input_files.specs.declared.kind.FileKind.TheVariants as FileKind
 use Rattle.smps_cli.specs.declared.status.Status.{Status}
@@ -19,7 +21,8 @@ use Rattle.smps_cli.specs.declared.status.Status.TheVariants.{Refused}
 use Rattle.smps_cli.specs.Lines.{status_line}
 use Rattle.smps_cli.specs.Findings.{command_status}
 
--- The output is the text of a report that is true of the core's program, solved in so many pivots at most. Its finding gives the status.
+-- The output is the text of a report that is true of the core's program, however it was found; where it is open, for the reasons of
+-- the only solve, in so many pivots at most. Its finding gives the status.
 pub record PrintsReportOf (pivots : ℕ) (core : Core) (output : List ℕ) (status : Status) : Type 0 where
   -- the program of one period that the core states
   pub program : Program
@@ -28,8 +31,9 @@ pub record PrintsReportOf (pivots : ℕ) (core : Core) (output : List ℕ) (stat
   pub report : Report
   pub text : output ≡ report_text program report
   pub told : status ≡ command_status report.finding
-  -- its ends are shown by its lists, its finding by its reason
-  pub truth : SolvesProgram program pivots report
+  -- its ends are shown by its lists, its finding by its reason; and its counts are the program's
+  pub truth : IsTrue (seen program) (solve_reasons program pivots) report
+  pub counts : HasCounts (seen program) report
 
 -- An end of the core's rows passes 128 bits: the line of the refusal says so.
 pub record RefusesEnd (core : Core) (output : List ℕ) (status : Status) : Type 0 where
