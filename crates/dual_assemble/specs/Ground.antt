@@ -1,16 +1,17 @@
 -- The ground cut of a node: its multipliers are the numbers of a dual at the node over the node's total, and its used cuts are
 -- those of the children, each with the child's share as weight.
-use Rattle.std.specs.Prelude.{ℕ, List, [], ◌∷◌, ◌++◌, Option, Result, Ok}
-use Rattle.rationals.specs.Rational.{ℚ}
-use Rattle.rationals.specs.Sparse.{Entry}
+use Rattle.std.specs.Prelude.{◌≡◌, ℕ, List, [], ◌∷◌, ◌++◌, Option, Result, Ok}
+use Rattle.rationals.specs.Rational.{ℚ, ◌/ℚ◌}
+use Rattle.rationals.specs.Sparse.{Entry, coefficient}
 use Rattle.rationals.specs.Forms.{put}
 use Rattle.rationals.specs.Passes.{Operation, div_walk, then_walk}
 use Rattle.scen_defs.specs.declared.program.NodeRow.{NodeRow}
+use Rattle.scen_defs.specs.Lists.{Each}
 use Rattle.scen_defs.specs.Values.{At, at}
 use Rattle.cut_defs.specs.declared.kinds.CutKind.TheVariants.{Bound}
 use Rattle.cut_defs.specs.declared.datum.Share.{Share}
 use Rattle.cut_defs.specs.Data.{Datum}
-use Rattle.cut_defs.specs.Stored.{Source, Stored, StoredUses}
+use Rattle.cut_defs.specs.Stored.{Source, Stored, StoredUses, source_of, uses_of, constant_of, form_of, IsMadeFrom}
 use Rattle.cut_defs.specs.Stored.StoredUses.{No_stored}
 use Rattle.cut_proof.specs.Repairing.{snoc}
 use Rattle.cut_proof.specs.Walks.{made}
@@ -40,3 +41,16 @@ abbrev pub ground_walk : Datum → ℚ → List At → List Stored → Result (O
 ground_walk d total dual cuts =
     then_walk (quotients_from total (at dual d.node) [] d.rows)
     (λ y. made d (ground_source d y) (shares_from No_stored d.shares cuts))
+
+-- ---- what a ground cut is
+-- the cuts are Bound cuts of these children, one of each, in their order
+abbrev pub AreOfChildren : List Share → List Stored → Type 0
+AreOfChildren [] [] = Unit {0}
+AreOfChildren [] (c ∷ cs) = ⊥
+AreOfChildren (s ∷ ss) [] = ⊥
+AreOfChildren (s ∷ ss) (c ∷ cs) = ((source_of c).node ≡ s.child) × ((source_of c).kind ≡ Bound) × AreOfChildren ss cs
+
+-- the cut is made from the datum, and its multiplier of each row is the dual's number there over the total
+pub record IsGroundFrom (d : Datum) (total : ℚ) (dual : List At) (cut : Stored) : Type 0 where
+  pub multipliers : Each (λ (r : NodeRow). coefficient (source_of cut).multipliers r.row ≡ at dual d.node r.row /ℚ total) d.rows
+  pub made_from : IsMadeFrom d (source_of cut) (uses_of cut) (constant_of cut) (form_of cut)
