@@ -24,7 +24,7 @@ use Rattle.cut_proof.specs.Repairing.{snoc}
 use Rattle.cut_proof.specs.Walks.{made}
 use Rattle.cut_proof.proofs.FormEnds.{coefficient_append, coefficient_put}
 use Rattle.cut_proof.proofs.MadeFrom.{made_parts}
-use Rattle.dual_assemble.specs.Ground.{quotients_from, shares_from, ground_source, AreOfChildren, IsGroundFrom}
+use Rattle.dual_assemble.specs.Ground.{quotients_from, uses_of_children, ground_source, AreOfChildren, IsGroundFrom}
 
 -- ---- a list of rows, or of children, behind a number
 weaker : (n m : ℕ) (rs : List NodeRow) → m ≤ n → RowsRise n rs → RowsRise m rs
@@ -107,7 +107,7 @@ module _ (w : ℚ) (c : Stored) (n : ℕ) (node : (source_of c).node ≡ n) (kin
   elsewhere : (us : StoredUses) (m : ℕ) → (n ≡ m → ⊥) → weight_on (snoc us w c) m ≡ weight_on us m
   elsewhere us m h = weight_snoc us w c m ∙ ap (λ v. weight_on us m +ℚ v) (ap₂ (λ k b. value_if (is_bound k && b) w) kind (ne_eqb (source_of c).node m (λ e. h (sym node ∙ e)))) ∙ add_zero_ℚ (weight_on us m)
 
-weight_kept : (n m : ℕ) (us : StoredUses) (ss : List Share) (cs : List Stored) → m < n → SharesRise n ss → AreOfChildren ss cs → weight_on (shares_from us ss cs) m ≡ weight_on us m
+weight_kept : (n m : ℕ) (us : StoredUses) (ss : List Share) (cs : List Stored) → m < n → SharesRise n ss → AreOfChildren ss cs → weight_on (uses_of_children us ss cs) m ≡ weight_on us m
 weight_kept n m us [] cs l a h = refl
 weight_kept n m us (s ∷ ss) [] l a h = absurd h
 weight_kept n m us (s ∷ ss) (c ∷ cs) l a h =
@@ -120,7 +120,7 @@ no_weight s c us (t ∷ ss) n k a h = (
   no_weight s c us ss n k (less (suc t.child) (suc s.child) ss (omega (arith, a.0)) a.1) h.1,
 )
 
-weights : (n : ℕ) (us : StoredUses) (ss : List Share) (cs : List Stored) → SharesRise n ss → AreOfChildren ss cs → Each (λ (t : Share). weight_on us t.child ≡ zero_ℚ) ss → Each (λ (t : Share). weight_on (shares_from us ss cs) t.child ≡ t.share) ss
+weights : (n : ℕ) (us : StoredUses) (ss : List Share) (cs : List Stored) → SharesRise n ss → AreOfChildren ss cs → Each (λ (t : Share). weight_on us t.child ≡ zero_ℚ) ss → Each (λ (t : Share). weight_on (uses_of_children us ss cs) t.child ≡ t.share) ss
 weights n us [] cs a h z = tt
 weights n us (s ∷ ss) [] a h z = absurd h
 weights n us (s ∷ ss) (c ∷ cs) a h z = (
@@ -133,7 +133,7 @@ children_snoc : (d : Datum) (us : StoredUses) (w : ℚ) (c : Stored) → UsesChi
 children_snoc d No_stored w c h p i = (p, (i, tt))
 children_snoc d (Use_stored v e us) w c h p i = (h.0, (h.1.0, children_snoc d us w c h.1.1 p i))
 
-children : (d : Datum) (us : StoredUses) (ss : List Share) (cs : List Stored) → UsesChildren d us → Each (λ (s : Share). zero_ℚ <ℚ s.share) ss → Each (λ (s : Share). is_in s.child (map (λ (t : Share). t.child) d.shares) ≡ true) ss → AreOfChildren ss cs → UsesChildren d (shares_from us ss cs)
+children : (d : Datum) (us : StoredUses) (ss : List Share) (cs : List Stored) → UsesChildren d us → Each (λ (s : Share). zero_ℚ <ℚ s.share) ss → Each (λ (s : Share). is_in s.child (map (λ (t : Share). t.child) d.shares) ≡ true) ss → AreOfChildren ss cs → UsesChildren d (uses_of_children us ss cs)
 children d us [] cs h p i k = h
 children d us (s ∷ ss) [] h p i k = absurd k
 children d us (s ∷ ss) (c ∷ cs) h p i k =
@@ -148,7 +148,7 @@ nothing_yet : (rs : List NodeRow) → Each (λ (r : NodeRow). coefficient [] r.r
 nothing_yet [] = tt
 nothing_yet (r ∷ rs) = (refl, nothing_yet rs)
 
-pub may_be_ground : (d : Datum) (total : ℚ) (dual : List At) (cuts : List Stored) (y : List Entry) (uses : StoredUses) → IsDatum d → AreOfChildren d.shares cuts → quotients_from total (at dual d.node) [] d.rows ≡ Ok y → uses ≡ shares_from No_stored d.shares cuts → MayBeMade d (ground_source d y) uses
+pub may_be_ground : (d : Datum) (total : ℚ) (dual : List At) (cuts : List Stored) (y : List Entry) (uses : StoredUses) → IsDatum d → AreOfChildren d.shares cuts → quotients_from total (at dual d.node) [] d.rows ≡ Ok y → uses ≡ uses_of_children No_stored d.shares cuts → MayBeMade d (ground_source d y) uses
 may_be_ground d total dual cuts y uses i h q u = record {
   node = refl;
   rows_version = refl;
@@ -158,7 +158,7 @@ may_be_ground d total dual cuts y uses i h q u = record {
   children = subst (UsesChildren d) (sym u) (children d No_stored d.shares cuts tt i.above (all_in (λ (s : Share). s.child) d.shares) h);
 }
 
-pub ground_ends : (d : Datum) (total : ℚ) (dual : List At) (cuts : List Stored) (y : List Entry) (s : Source) (uses : StoredUses) (cut shared : Stored) → IsDatum d → s ≡ ground_source d y → quotients_from total (at dual d.node) [] d.rows ≡ Ok y → uses ≡ shares_from No_stored d.shares cuts
+pub ground_ends : (d : Datum) (total : ℚ) (dual : List At) (cuts : List Stored) (y : List Entry) (s : Source) (uses : StoredUses) (cut shared : Stored) → IsDatum d → s ≡ ground_source d y → quotients_from total (at dual d.node) [] d.rows ≡ Ok y → uses ≡ uses_of_children No_stored d.shares cuts
     → (MayBeMade d s uses → IsMadeFrom d s uses (constant_of cut) (form_of cut)) → made d s uses ≡ Ok (Some cut) → shared ≡ cut → AreOfChildren d.shares cuts → IsGroundFrom d total dual shared
 ground_ends d total dual cuts y s uses cut shared i p q u m e same h =
     let parts = made_parts d s uses cut e in

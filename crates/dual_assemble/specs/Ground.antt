@@ -22,10 +22,10 @@ quotients_from total y done [] = Ok done
 quotients_from total y done (r ∷ rs) = then_walk (div_walk (y r.row) total) (λ q. quotients_from total y (done ++ put r.row q []) rs)
 
 -- the cuts in the order of the children, each with its child's share
-abbrev pub shares_from : StoredUses → List Share → List Stored → StoredUses
-shares_from done [] cuts = done
-shares_from done (s ∷ ss) [] = done
-shares_from done (s ∷ ss) (c ∷ cs) = shares_from (snoc done s.share c) ss cs
+abbrev pub uses_of_children : StoredUses → List Share → List Stored → StoredUses
+uses_of_children done [] cuts = done
+uses_of_children done (s ∷ ss) [] = done
+uses_of_children done (s ∷ ss) (c ∷ cs) = uses_of_children (snoc done s.share c) ss cs
 
 abbrev pub ground_source : Datum → List Entry → Source
 ground_source d y = record {
@@ -40,7 +40,7 @@ ground_source d y = record {
 abbrev pub ground_walk : Datum → ℚ → List At → List Stored → Result (Option Stored) Operation
 ground_walk d total dual cuts =
     then_walk (quotients_from total (at dual d.node) [] d.rows)
-    (λ y. made d (ground_source d y) (shares_from No_stored d.shares cuts))
+    (λ y. made d (ground_source d y) (uses_of_children No_stored d.shares cuts))
 
 -- ---- what a ground cut is
 -- the cuts are Bound cuts of these children, one of each, in their order

@@ -7,7 +7,7 @@ ghost use Rattle.cut_defs.specs.Data.{RowsRise};
 ghost use Rattle.cut_defs.specs.Stored.StoredUses.{No_stored};
 ghost use Rattle.cut_proof.specs.Answers.{Makes};
 ghost use Rattle.cut_proof.specs.View.{uses_content};
-ghost use Rattle.dual_assemble.specs.Ground.{quotients_from, shares_from, ground_walk, AreOfChildren, IsGroundFrom};
+ghost use Rattle.dual_assemble.specs.Ground.{quotients_from, uses_of_children, ground_walk, AreOfChildren, IsGroundFrom};
 
 use cut_defs::{CutKind, Share};
 use cut_proof::{Cut, CutFault, NodeDatum, Record, SharedCut, Used, push_nonzero};
@@ -47,7 +47,7 @@ fn quotients(
 
 /// The cuts in the order of the children, each with its child's share as weight.
 fn with_shares(alloc: Global, shares: &[Share], children: &[SharedCut]) -> Result<Vec<Used>, Memory>
-    ensures { IfOk result (λ v. uses_content v.items ≡ shares_from No_stored shares.now children.now) }
+    ensures { IfOk result (λ v. uses_content v.items ≡ uses_of_children No_stored shares.now children.now) }
 {
     let mut used = Vec::new(alloc);
     for (place, share) in shares.iter().enumerate() {

@@ -3,7 +3,7 @@ use Rattle.scen_defs.specs.Values.{at}
 use Rattle.cut_defs.specs.declared.kinds.CutKind.TheVariants.{Bound}
 use Rattle.cut_defs.specs.Stored.StoredUses.{No_stored}
 use Rattle.cut_proof.specs.View.{uses_content}
-use Rattle.dual_assemble.specs.Ground.{quotients_from, shares_from}
+use Rattle.dual_assemble.specs.Ground.{quotients_from, uses_of_children}
 use Rattle.dual_assemble.proofs.Grounds.{ground_ends}
 use Rattle.dual_assemble.proofs.ground.ground_cut.Goals as goal
 
@@ -13,5 +13,5 @@ returns-clause-made c h =
     c.bounds-rising.ensures.datum
     (λ i. record { node = c.node-2.ensures i; kind = Bound; rows_version = c.rows_version.ensures i; costs_version = c.costs_version.ensures i; multipliers = c.in_ok-multipliers.multipliers })
     (sym (ap₂ (λ n rs. quotients_from c.args.total (at c.args.dual.now n) [] rs) c.node.ensures c.rows.ensures) ∙ c.in_ok-multipliers.ensures)
-    (c.in_ok-used.ensures ∙ ap (λ ss. shares_from No_stored ss c.args.children.now) c.shares.ensures)
+    (c.in_ok-used.ensures ∙ ap (λ ss. uses_of_children No_stored ss c.args.children.now) c.shares.ensures)
     c.in_ok-cut.ensures.made c.in_ok-cut.ensures.walk c.in_ok-shared.ensures h
