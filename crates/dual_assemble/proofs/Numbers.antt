@@ -9,7 +9,7 @@ use Rattle.scen_defs.specs.Values.{At, at}
 use Rattle.cut_defs.specs.Stored.{Stored}
 use Rattle.cut_defs.specs.Current.{stored_flat}
 use Rattle.dual_assemble.specs.Walks.{form_at, flat_from}
-use Rattle.dual_assemble.specs.Values.{fits, number_at, node_values, values_from}
+use Rattle.dual_assemble.specs.Values.{is_place, number_at, node_values, numbers_by_node}
 use Rattle.dual_assemble.proofs.FlatEnds.{flats_are_exact}
 
 none_below : (n c : ℕ) (f : List Entry) → Ascending n f → c < n → coefficient f c ≡ zero_ℚ
@@ -28,7 +28,7 @@ apart m n c i f = go (eqb m n) refl (eqb c i) refl
 
 -- a number at another place is passed over
 skip : (m n c i : ℕ) (q : ℚ) (ys : List At) → (m ≡ n → c ≡ i → ⊥) → at (number_at m c q ++ ys) n i ≡ at ys n i
-skip m n c i q ys h = go (fits m c)
+skip m n c i q ys h = go (is_place m c)
   where
     go : (b : Bool) → at (pick b (record { node = m; index = c; value = q } ∷ []) [] ++ ys) n i ≡ at ys n i
     go true = ap (λ b. pick b q (at ys n i)) (apart m n c i h)
@@ -37,7 +37,7 @@ skip m n c i q ys h = go (fits m c)
 -- the number at its place is found
 found : (n i c : ℕ) (q : ℚ) (ys : List At) → n < 4294967296 → i < 4294967296 → c ≡ i → at (number_at n c q ++ ys) n i ≡ q
 found n i c q ys h k e =
-    let fit : fits n c ≡ true = ap₂ ◌&&◌ (lt-ltb n 4294967296 h) (lt-ltb c 4294967296 (omega arith)) in
+    let fit : is_place n c ≡ true = ap₂ ◌&&◌ (lt-ltb n 4294967296 h) (lt-ltb c 4294967296 (omega arith)) in
     ap (λ b. at (pick b (record { node = n; index = c; value = q } ∷ []) [] ++ ys) n i) fit ∙ ap₂ (λ a b. pick (a && b) q (at ys n i)) (eq-eqb n n refl) (eq-eqb c i e)
 
 other_node : (m n i : ℕ) (f : List Entry) (ys : List At) → (m ≡ n → ⊥) → at (node_values m f ++ ys) n i ≡ at ys n i
@@ -57,21 +57,21 @@ this_node k n i (e ∷ f) ys a h g z = ap (λ l. at l n i) (append_assoc (number
     go false p ih = skip n n e.column i e.value (node_values n f ++ ys) (λ _ q. eqb-false e.column i p q) ∙ ih ∙ sym (zero_add_ℚ (coefficient f i))
 
 -- forms from node m on have no number at an earlier one
-values_none : (n m i : ℕ) (fs : List (List Entry)) → n < m → at (values_from m fs) n i ≡ zero_ℚ
+values_none : (n m i : ℕ) (fs : List (List Entry)) → n < m → at (numbers_by_node m fs) n i ≡ zero_ℚ
 values_none n m i [] h = refl
-values_none n m i (f ∷ fs) h = other_node m n i f (values_from (m + 1) fs) (λ e. absurd (omega arith)) ∙ values_none n (m + 1) i fs (omega arith)
+values_none n m i (f ∷ fs) h = other_node m n i f (numbers_by_node (m + 1) fs) (λ e. absurd (omega arith)) ∙ values_none n (m + 1) i fs (omega arith)
 
-values_at : (m k n i : ℕ) (fs : List (List Entry)) → n ≡ m + k → Each IsForm fs → n < 4294967296 → i < 4294967296 → at (values_from m fs) n i ≡ coefficient (form_at fs k) i
+values_at : (m k n i : ℕ) (fs : List (List Entry)) → n ≡ m + k → Each IsForm fs → n < 4294967296 → i < 4294967296 → at (numbers_by_node m fs) n i ≡ coefficient (form_at fs k) i
 values_at m k n i [] e w h g = refl
 values_at m zero n i (f ∷ fs) e w h g =
     let here : m ≡ n = omega arith in
-    ap (λ (x : ℕ). at (node_values x f ++ values_from (m + 1) fs) n i) here ∙ this_node 0 n i f (values_from (m + 1) fs) w.0.rises h g (values_none n (m + 1) i fs (omega arith))
-values_at m (suc k) n i (f ∷ fs) e w h g = other_node m n i f (values_from (m + 1) fs) (λ p. absurd (omega arith)) ∙ values_at (m + 1) k n i fs (omega arith) w.1 h g
+    ap (λ (x : ℕ). at (node_values x f ++ numbers_by_node (m + 1) fs) n i) here ∙ this_node 0 n i f (numbers_by_node (m + 1) fs) w.0.rises h g (values_none n (m + 1) i fs (omega arith))
+values_at m (suc k) n i (f ∷ fs) e w h g = other_node m n i f (numbers_by_node (m + 1) fs) (λ p. absurd (omega arith)) ∙ values_at (m + 1) k n i fs (omega arith) w.1 h g
 
 -- the number at (n, i) is that of the form at node n
-pub values_are_numbers : (fs : List (List Entry)) (v : List At) → v ≡ values_from 0 fs → Each IsForm fs → (n i : ℕ) → n < 4294967296 → i < 4294967296 → at v n i ≡ coefficient (form_at fs n) i
+pub values_are_numbers : (fs : List (List Entry)) (v : List At) → v ≡ numbers_by_node 0 fs → Each IsForm fs → (n i : ℕ) → n < 4294967296 → i < 4294967296 → at v n i ≡ coefficient (form_at fs n) i
 values_are_numbers fs v e w n i h g = ap (λ (l : List At). at l n i) e ∙ values_at 0 n n i fs (omega arith) w h g
 
 -- of a flat dual it is the flat dual's
-pub numbers_are_flat : (cut : Stored) (fs : List (List Entry)) (v : List At) → flat_from [] one_ℚ cut ≡ Ok fs → v ≡ values_from 0 fs → Each IsForm fs → (n i : ℕ) → n < 4294967296 → i < 4294967296 → at v n i ≡ stored_flat cut n i
+pub numbers_are_flat : (cut : Stored) (fs : List (List Entry)) (v : List At) → flat_from [] one_ℚ cut ≡ Ok fs → v ≡ numbers_by_node 0 fs → Each IsForm fs → (n i : ℕ) → n < 4294967296 → i < 4294967296 → at v n i ≡ stored_flat cut n i
 numbers_are_flat cut fs v f e w n i h g = values_are_numbers fs v e w n i h g ∙ flats_are_exact cut fs n i f

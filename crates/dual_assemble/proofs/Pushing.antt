@@ -7,7 +7,7 @@ use Rattle.scen_defs.specs.Lists.{Each, pick}
 use Rattle.scen_defs.specs.Values.{At, IsBefore, EndsBefore}
 use Rattle.scen_defs.proofs.NodeReads.{drop_read}
 use Rattle.scen_defs.proofs.ValueLaws.{each-push}
-use Rattle.dual_assemble.specs.Values.{fits, number_at, node_values}
+use Rattle.dual_assemble.specs.Values.{is_place, number_at, node_values}
 
 -- the numbers end before each entry of a form at node n
 abbrev pub Ready : ℕ → List Entry → List At → Type 0
@@ -28,7 +28,7 @@ next_node n (a ∷ values) h = (record { node = omega (arith, h.0.node); index =
 
 -- ---- one more number
 pushed : (n i m c : ℕ) (q : ℚ) (values all : List At) → EndsBefore values n i → IsBefore n i (record { node = m; index = c; value = q }) → all ≡ values ++ number_at m c q → EndsBefore all n i
-pushed n i m c q values all h k e = subst (λ (l : List At). EndsBefore l n i) (sym e) (go (fits m c))
+pushed n i m c q values all h k e = subst (λ (l : List At). EndsBefore l n i) (sym e) (go (is_place m c))
   where
     go : (b : Bool) → EndsBefore (values ++ pick b (record { node = m; index = c; value = q } ∷ []) []) n i
     go true = each-push (IsBefore n i) values (record { node = m; index = c; value = q }) h k

@@ -17,7 +17,7 @@ use Rattle.cut_proof.specs.declared.cut.Used.{Used}
 use Rattle.cut_proof.specs.View.{uses_content}
 use Rattle.cut_proof.proofs.RepairLaws.{content_snoc}
 use Rattle.cut_proof.proofs.Rising.{AllEndBelow, put_below}
-use Rattle.dual_assemble.specs.Ground.{quotients_from, shares_from}
+use Rattle.dual_assemble.specs.Ground.{quotients_from, uses_of_children}
 
 -- a form ends below each of the rows
 abbrev pub Writable : List NodeRow → List Entry → Type 0
@@ -83,8 +83,8 @@ quotient_by_zero a = walk_fits Div a zero_ℚ (ap too_wide (over_zero a) ∙ zer
 
 -- ---- one more used cut
 pub shares_next : (shares : List Share) (cuts : List Stored) (i : ℕ) (s : Share) (c d : Stored) (all more : List Used) (whole : StoredUses) → i < length shares → s ≡ get_or shares i s → i < length cuts → c ≡ get_or cuts i c → d ≡ c
-    → more ≡ all ++ record { weight = s.share; cut = d } ∷ [] → shares_from (uses_content all) (drop i shares) (drop i cuts) ≡ whole → shares_from (uses_content more) (drop (i + 1) shares) (drop (i + 1) cuts) ≡ whole
+    → more ≡ all ++ record { weight = s.share; cut = d } ∷ [] → uses_of_children (uses_content all) (drop i shares) (drop i cuts) ≡ whole → uses_of_children (uses_content more) (drop (i + 1) shares) (drop (i + 1) cuts) ≡ whole
 shares_next shares cuts i s c d all more whole h e g f same w k =
-    ap (λ l. shares_from (uses_content l) (drop (i + 1) shares) (drop (i + 1) cuts)) (w ∙ ap (λ x. all ++ record { weight = s.share; cut = x } ∷ []) same)
-    ∙ ap (λ l. shares_from l (drop (i + 1) shares) (drop (i + 1) cuts)) (content_snoc all (record { weight = s.share; cut = c }))
-    ∙ sym (ap₂ (shares_from (uses_content all)) (drop_read shares i s h e) (drop_read cuts i c g f)) ∙ k
+    ap (λ l. uses_of_children (uses_content l) (drop (i + 1) shares) (drop (i + 1) cuts)) (w ∙ ap (λ x. all ++ record { weight = s.share; cut = x } ∷ []) same)
+    ∙ ap (λ l. uses_of_children l (drop (i + 1) shares) (drop (i + 1) cuts)) (content_snoc all (record { weight = s.share; cut = c }))
+    ∙ sym (ap₂ (uses_of_children (uses_content all)) (drop_read shares i s h e) (drop_read cuts i c g f)) ∙ k

@@ -7,7 +7,7 @@ ghost use Rattle.cut_defs.specs.Data.{RowsRise};
 ghost use Rattle.cut_defs.specs.Stored.StoredUses.{No_stored};
 ghost use Rattle.cut_proof.specs.Answers.{Makes};
 ghost use Rattle.cut_proof.specs.View.{uses_content};
-ghost use Rattle.dual_assemble.specs.Ground.{quotients_from, shares_from, ground_walk};
+ghost use Rattle.dual_assemble.specs.Ground.{quotients_from, uses_of_children, ground_walk, AreOfChildren, IsGroundFrom};
 
 use cut_defs::{CutKind, Share};
 use cut_proof::{Cut, CutFault, NodeDatum, Record, SharedCut, Used, push_nonzero};
@@ -47,7 +47,7 @@ fn quotients(
 
 /// The cuts in the order of the children, each with its child's share as weight.
 fn with_shares(alloc: Global, shares: &[Share], children: &[SharedCut]) -> Result<Vec<Used>, Memory>
-    ensures { IfOk result (λ v. uses_content v.items ≡ shares_from No_stored shares.now children.now) }
+    ensures { IfOk result (λ v. uses_content v.items ≡ uses_of_children No_stored shares.now children.now) }
 {
     let mut used = Vec::new(alloc);
     for (place, share) in shares.iter().enumerate() {
@@ -66,6 +66,7 @@ fn with_shares(alloc: Global, shares: &[Share], children: &[SharedCut]) -> Resul
 /// The Bound cut of a node from a dual: its multipliers are the dual's numbers at the node, divided by the node's
 /// total; its used cuts are the children's ground cuts, in the order of the children, each with the child's share as
 /// weight. First come the quotients by row, then the cut by `Cut::of`; `Passed` names the first operation that passes.
+/// Where the children's cuts are Bound cuts, one of each child, the cut is made from the datum.
 pub fn ground_cut(
     alloc: Global,
     datum: &NodeDatum,
@@ -73,7 +74,8 @@ pub fn ground_cut(
     dual: &Values,
     children: &[SharedCut],
 ) -> Result<SharedCut, CutFault>
-    ensures { Makes (ground_walk datum.now total dual.now children.now) result }
+    ensures walk { Makes (ground_walk datum.now total dual.now children.now) result }
+    ensures made { AreOfChildren datum.now.shares children.now → IfOk result (λ cut. IsGroundFrom datum.now total dual.now cut) }
 {
     let _rising = datum.bounds();
     let multipliers = quotients(alloc, datum.rows(), datum.node(), total, dual)?;

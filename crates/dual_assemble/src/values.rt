@@ -8,7 +8,7 @@ ghost use Rattle.scen_defs.specs.Lists.{Each};
 ghost use Rattle.scen_defs.specs.Values.{EndsBefore, at};
 ghost use Rattle.cut_defs.specs.Current.{stored_flat};
 ghost use Rattle.dual_assemble.specs.Walks.{form_at};
-ghost use Rattle.dual_assemble.specs.Values.{fits, number_at, node_values, values_from, assembled, point_form};
+ghost use Rattle.dual_assemble.specs.Values.{is_place, number_at, node_values, numbers_by_node, assembled, point_entries};
 
 use crate::flat::flat_forms;
 use cut_proof::Cut;
@@ -17,8 +17,8 @@ use scen_defs::Values;
 use std::alloc::Global;
 
 /// Whether a place and a column have 32 bits.
-fn fits(place: usize, column: u64) -> bool
-    ensures { result ≡ fits place column }
+fn is_place(place: usize, column: u64) -> bool
+    ensures { result ≡ is_place place column }
 {
     (place as u64) < 4294967296 && column < 4294967296
 }
@@ -29,7 +29,7 @@ fn push_at(values: &mut Values, place: usize, column: u64, value: Frac) -> Resul
     requires nonzero { value ≢ zero_ℚ }
     ensures { OnOk result (values.new ≡ values.old ++ number_at place column value) }
 {
-    if fits(place, column) {
+    if is_place(place, column) {
         values.push(place as u32, column as u32, value)?;
     }
     Ok(())
@@ -51,7 +51,7 @@ fn push_form(values: &mut Values, place: usize, form: &Form) -> Result<(), Memor
 
 /// The numbers of forms by node.
 fn values_of(alloc: Global, forms: &[Form]) -> Result<Values, Memory>
-    ensures values { IfOk result (λ v. v ≡ values_from 0 forms.now) }
+    ensures values { IfOk result (λ v. v ≡ numbers_by_node 0 forms.now) }
     ensures forms { IfOk result (λ _. Each IsForm forms.now) }
 {
     let mut values = Values::empty(alloc);
@@ -76,9 +76,9 @@ pub fn assemble(alloc: Global, cut: &Cut) -> Result<Values, FormFault>
 /// Pushes the numbers of a point, where there is one.
 fn push_point(values: &mut Values, place: usize, point: &Option<Form>) -> Result<(), Memory>
     requires { EndsBefore values.old place 0 }
-    ensures numbers { OnOk result (values.new ≡ values.old ++ node_values place (point_form point.now)) }
+    ensures numbers { OnOk result (values.new ≡ values.old ++ node_values place (point_entries point.now)) }
     ensures ends { OnOk result (EndsBefore values.new (place + 1) 0) }
-    ensures form { IsForm (point_form point.now) }
+    ensures form { IsForm (point_entries point.now) }
 {
     match point {
         None => Ok(()),
@@ -88,8 +88,8 @@ fn push_point(values: &mut Values, place: usize, point: &Option<Form>) -> Result
 
 /// The numbers of points by node.
 fn points_of(alloc: Global, points: &[Option<Form>]) -> Result<Values, Memory>
-    ensures values { IfOk result (λ v. v ≡ values_from 0 (map point_form points.now)) }
-    ensures forms { IfOk result (λ _. Each IsForm (map point_form points.now)) }
+    ensures values { IfOk result (λ v. v ≡ numbers_by_node 0 (map point_entries points.now)) }
+    ensures forms { IfOk result (λ _. Each IsForm (map point_entries points.now)) }
 {
     let mut values = Values::empty(alloc);
     for (place, point) in points.iter().enumerate() {
@@ -102,8 +102,8 @@ fn points_of(alloc: Global, points: &[Option<Form>]) -> Result<Values, Memory>
 /// no numbers. A number at a node or a column above 32 bits is left out.
 pub fn join_policy(alloc: Global, points: &[Option<Form>]) -> Result<Values, Memory>
     ensures numbers { IfOk result (λ v. (n j : ℕ) → n < 2 ^ 32 → j < 2 ^ 32 → at v n j ≡
-        coefficient (form_at (map point_form points.now) n) j) }
-    ensures values { IfOk result (λ v. v ≡ values_from 0 (map point_form points.now)) }
+        coefficient (form_at (map point_entries points.now) n) j) }
+    ensures values { IfOk result (λ v. v ≡ numbers_by_node 0 (map point_entries points.now)) }
 {
     let values = points_of(alloc, points)?;
     Ok(values)
