@@ -1,17 +1,24 @@
--- The program that the texts mean is a tree.
-use Rattle.std.proofs.Common.{◌≡◌, ◌∙◌, ap, sym, refl, subst, ℕ, zero, suc, List, [], ◌∷◌, length, get_or, replicate, arith, Option, Some, None, Ok}
+-- The program that the texts mean keeps all that programs keep, and is a tree.
+use Rattle.std.proofs.Common.{◌≡◌, ◌∙◌, ap, sym, refl, subst, ℕ, zero, suc, false, List, [], ◌∷◌, length, get_or, replicate, arith, Option, Some, None, Ok}
 use Rattle.rationals.specs.Sparse.{Entry}
 use Rattle.core_defs.specs.declared.program.Core.{Core}
 use Rattle.core_defs.specs.Core.{IsCore}
+use Rattle.scen_defs.specs.Lists.{Each}
 use Rattle.scen_defs.specs.Program.{Program, view_of, IsTree}
+use Rattle.scen_defs.specs.Valid.{IsField, IsProgram}
+use Rattle.scen_defs.proofs.Valid.{programs_are_trees}
+use Rattle.smps_words.proofs.NumberedNames.{numbered_snoc, none_numbered}
+use Rattle.time_defs.specs.Periods.{ArePeriods}
+use Rattle.time_defs.proofs.Texts as time_texts
 use Rattle.time_defs.specs.Means.{Stages, IsReached, entries_at}
 use Rattle.stoch_defs.specs.Random.{Random}
 use Rattle.stoch_defs.proofs.Texts.{laws}
-use Rattle.tree_build.specs.Walks.{Fits, build_walk}
+use Rattle.tree_build.specs.Walks.{Fits, build_over, build_walk}
 use Rattle.tree_laws.specs.Law.{IsStaged, AreCases}
 use Rattle.tree_laws.proofs.Cases.{read_cases_hold}
-use Rattle.tree_laws.proofs.Trees.{built_are_trees}
-use Rattle.program_files.specs.Meant.{MeansPeriods, MeansRandom}
+use Rattle.tree_laws.proofs.Fields.{read_periods_are_named}
+use Rattle.tree_laws.proofs.Programs.{built_are_programs}
+use Rattle.program_files.specs.Meant.{single_stages, MeansPeriods, MeansRandom}
 
 -- all columns are of the first stage
 first_stage : (stage n j : ℕ) → get_or (replicate n stage) j stage ≡ stage
@@ -37,6 +44,30 @@ cases : (core : Core) (p : Stages) (stoch : Option (List ℕ)) (random : Random)
 cases core p None random is = subst (AreCases p) (sym is) tt
 cases core p (Some text) random mean = read_cases_hold core p text random (sym (laws.one core p text (Ok random) mean.0))
 
+-- a single period
+single_named : Each IsField ((80 ∷ 49 ∷ []) ∷ [])
+single_named = (record { some = omega arith; unbroken = (refl, (refl, tt)) }, tt)
+
+single_periods : (core : Core) → ArePeriods (single_stages core)
+single_periods core = record {
+  some = omega arith;
+  few = omega arith;
+  differ = numbered_snoc [] (80 ∷ 49 ∷ []) none_numbered refl;
+  rows = λ i below. let e = first_stage 0 (length core.rows.items) i in omega (arith, e);
+  columns = λ j below. let e = first_stage 0 (length core.columns.items) j in omega (arith, e);
+}
+
+periods : (core : Core) (time : Option (List ℕ)) (p : Stages) → MeansPeriods core time p → ArePeriods p × Each IsField p.names
+periods core None p is = subst (λ (q : Stages). ArePeriods q × Each IsField q.names) (sym is) (single_periods core, single_named)
+periods core (Some text) p mean = (time_texts.laws.periods core text p (sym (time_texts.laws.one core text (Ok p) mean.0)), read_periods_are_named core text p mean.1)
+
+-- the program that the texts mean keeps all that programs keep
+pub program_of : (core : Core) (time : Option (List ℕ)) (p : Stages) (stoch : Option (List ℕ)) (random : Random) (program : Program) → IsCore core → Fits core p → MeansPeriods core time p → MeansRandom core p stoch random →
+    build_over core p random ≡ false → build_walk core p random ≡ Ok program → IsProgram program
+program_of core time p stoch random program is_core fits mean random_mean within e =
+    let named = periods core time p mean in
+    built_are_programs core p random program is_core (staged core time p fits mean) named.0 named.1 (cases core p stoch random random_mean) within e
+
 pub tree_of : (core : Core) (time : Option (List ℕ)) (p : Stages) (stoch : Option (List ℕ)) (random : Random) (program : Program) → IsCore core → Fits core p → MeansPeriods core time p → MeansRandom core p stoch random →
-    build_walk core p random ≡ Ok program → IsTree (view_of program)
-tree_of core time p stoch random program is_core fits mean random_mean e = built_are_trees core p random program is_core (staged core time p fits mean) (cases core p stoch random random_mean) e
+    build_over core p random ≡ false → build_walk core p random ≡ Ok program → IsTree (view_of program)
+tree_of core time p stoch random program is_core fits mean random_mean within e = (programs_are_trees program (program_of core time p stoch random program is_core fits mean random_mean within e)).0

@@ -3,6 +3,7 @@ ghost use Rattle.std.specs.Prelude.{◌≡◌, ◌≤◌, Some, IfOk, IfSome, le
 ghost use Rattle.core_defs.specs.declared.cause.Cause.{Cause};
 ghost use Rattle.core_defs.specs.Core.{IsCore};
 ghost use Rattle.scen_defs.specs.Program.{content, view_of, IsTree};
+ghost use Rattle.scen_defs.specs.Valid.{IsProgram};
 ghost use Rattle.stoch_defs.specs.Random.{content as content_of};
 ghost use Rattle.smps_time.specs.View.{stages_view};
 ghost use Rattle.input_files.specs.Fetched.{file_limit};
@@ -115,6 +116,7 @@ fn with_cases(
     requires periods { MeansPeriods core (text_of texts.now.time) (stages_view periods.now) }
     requires cases { MeansRandom core (stages_view periods.now) (text_of texts.now.stoch) (content_of stoch.now) }
     ensures means { MeansOrRefused (texts_view texts.now) result }
+    ensures keeps { IfOk result (λ program. IsProgram (content program)) }
     ensures tree { IfOk result (λ program. IsTree (view_of (content program))) }
 {
     match build(alloc, &core, periods, stoch) {
@@ -136,6 +138,7 @@ fn with_periods(
     requires fits { Fits core (stages_view periods.now) }
     requires periods { MeansPeriods core (text_of texts.now.time) (stages_view periods.now) }
     ensures means { MeansOrRefused (texts_view texts.now) result }
+    ensures keeps { IfOk result (λ program. IsProgram (content program)) }
     ensures tree { IfOk result (λ program. IsTree (view_of (content program))) }
 {
     match read_cases(alloc, &texts.stoch, &core, periods) {
@@ -150,6 +153,7 @@ fn with_core(alloc: Global, texts: &Texts, core: Core) -> Result<Program, Unread
     requires core { MeansCore texts.now.core.items core }
     requires is_core { IsCore core }
     ensures means { MeansOrRefused (texts_view texts.now) result }
+    ensures keeps { IfOk result (λ program. IsProgram (content program)) }
     ensures tree { IfOk result (λ program. IsTree (view_of (content program))) }
 {
     match read_periods(alloc, &texts.time, &core) {
@@ -159,11 +163,12 @@ fn with_core(alloc: Global, texts: &Texts, core: Core) -> Result<Program, Unread
 }
 
 /// The program that the texts mean; else the first fault: that of the core, then of the time file, then of the stoch file, and
-/// at last that of building, which is told at line 0 of the stoch file, or of the core file where there is none. What is given is a
-/// tree: the parents, stages, entries, paths and totals of its nodes fit together.
+/// at last that of building, which is told at line 0 of the stoch file, or of the core file where there is none. What is given
+/// keeps all that programs keep (names, nodes, paths, probabilities that add up to 1), and so is a tree.
 pub fn read_program(alloc: Global, texts: &Texts) -> Result<Program, Unread>
     requires { AreWithin (texts_view texts.now) }
     ensures means { MeansOrRefused (texts_view texts.now) result }
+    ensures keeps { IfOk result (λ program. IsProgram (content program)) }
     ensures tree { IfOk result (λ program. IsTree (view_of (content program))) }
 {
     match read_core(alloc, &texts.core) {

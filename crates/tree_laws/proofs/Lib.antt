@@ -1,5 +1,7 @@
 pub mod Lists
 pub mod Numbers
+pub mod Marks
+pub mod Nests
 pub mod Values
 pub mod NodeValues
 pub mod Nodes
@@ -9,3 +11,7 @@ pub mod Totals
 pub mod Trees
 pub mod Tables
 pub mod Cases
+pub mod Programs
+pub mod Certain
+pub mod Fields
+pub mod Names

@@ -1,5 +1,5 @@
 -- Lists by their places.
-use Rattle.std.proofs.Common.{◌≡◌, ℕ, zero, suc, ◌<◌, Bool, true, List, [], ◌∷◌, length, get_or, arith}
+use Rattle.std.proofs.Common.{◌≡◌, refl, ℕ, zero, suc, ◌<◌, ◌≤◌, Bool, true, List, [], ◌∷◌, length, get_or, arith}
 use Rattle.scen_defs.specs.Lists.{Each, passes_at}
 
 pub each_get : {A : Type 0} (P : A → Type 0) (xs : List A) (i : ℕ) (d : A) → Each P xs → P d → P (get_or xs i d)
@@ -25,3 +25,8 @@ pub get_passes : {A : Type 0} (test : A → Bool) (n : ℕ) (xs : List A) (d : A
 get_passes test n [] d below is = absurd (omega (arith, below))
 get_passes test zero (x ∷ xs) d below is = is
 get_passes test (suc n) (x ∷ xs) d below is = get_passes test n xs d (omega (arith, below)) is
+
+pub past_end : {A : Type 0} (xs : List A) (i : ℕ) (d : A) → length xs ≤ i → get_or xs i d ≡ d
+past_end [] i d past = refl
+past_end (x ∷ xs) zero d past = absurd (omega (arith, past))
+past_end (x ∷ xs) (suc i) d past = past_end xs i d (omega (arith, past))

@@ -16,27 +16,27 @@ pub record Extends (seen all : List Debut) : Type 0 where
   pub more : List Debut
   pub is : all ≡ seen ++ more
 
-itself : (seen : List Debut) → Extends seen seen
+pub itself : (seen : List Debut) → Extends seen seen
 itself seen = record { more = []; is = sym (append-nil seen) }
 
-through : (one two three : List Debut) → Extends one two → Extends two three → Extends one three
+pub through : (one two three : List Debut) → Extends one two → Extends two three → Extends one three
 through one two three a b = record { more = a.more ++ b.more; is = b.is ∙ ap (λ (xs : List Debut). xs ++ b.more) a.is ∙ append_assoc one a.more b.more }
 
-extends_one : (seen : List Debut) (debut : Debut) → Extends seen (with_debut seen debut)
+pub extends_one : (seen : List Debut) (debut : Debut) → Extends seen (with_debut seen debut)
 extends_one seen debut = go (has_key (keys_of seen) (key_of debut))
   where
     go : (b : Bool) → Extends seen (if b then seen else seen ++ debut ∷ [])
     go true = itself seen
     go false = record { more = debut ∷ []; is = refl }
 
-extends_all : (seen debuts : List Debut) → Extends seen (debuts_from seen debuts)
+pub extends_all : (seen debuts : List Debut) → Extends seen (debuts_from seen debuts)
 extends_all seen [] = itself seen
 extends_all seen (debut ∷ debuts) = through seen (with_debut seen debut) (debuts_from (with_debut seen debut) debuts) (extends_one seen debut) (extends_all (with_debut seen debut) debuts)
 
-kept : (seen all : List Debut) (n : ℕ) → Extends seen all → n < length seen → get_or all n no_debut ≡ get_or seen n no_debut
+pub kept : (seen all : List Debut) (n : ℕ) → Extends seen all → n < length seen → get_or all n no_debut ≡ get_or seen n no_debut
 kept seen all n e below = ap (λ (xs : List Debut). get_or xs n no_debut) e.is ∙ get_or_append_left seen e.more no_debut n below
 
-longer : (seen all : List Debut) → Extends seen all → length seen ≤ length all
+pub longer : (seen all : List Debut) → Extends seen all → length seen ≤ length all
 longer seen all e = omega (arith, ap length e.is, length-append seen e.more)
 
 -- ---- the number of a node
@@ -48,7 +48,7 @@ both false b e = cc
 same_stage : (n m : ℕ) → nat_eq n m ≡ true → m ≡ n
 same_stage n m e = grind (arith, nat_tests, e)
 
-found_at : (seen : List Debut) (debut : Debut) → has_key (keys_of seen) (key_of debut) ≡ true →
+pub found_at : (seen : List Debut) (debut : Debut) → has_key (keys_of seen) (key_of debut) ≡ true →
     (number_of (keys_of seen) (key_of debut) < length seen) × ((get_or seen (number_of (keys_of seen) (key_of debut)) no_debut).stage ≡ debut.stage)
 found_at [] debut h = cc
 found_at (first ∷ seen) debut h = go (same_key (key_of debut) (key_of first)) refl h (found_at seen debut)
@@ -64,7 +64,7 @@ found_at (first ∷ seen) debut h = go (same_key (key_of debut) (key_of first)) 
     go true is h rest = (omega arith, same_stage debut.stage first.stage (both (nat_eq debut.stage first.stage) (nat_eq debut.key first.key) is))
     go false is h rest = later (1 + number_of (keys_of seen) (key_of debut)) (omega arith) (rest h)
 
-not_found : (seen : List Debut) (debut : Debut) → has_key (keys_of seen) (key_of debut) ≡ false → number_of (keys_of seen) (key_of debut) ≡ length seen
+pub not_found : (seen : List Debut) (debut : Debut) → has_key (keys_of seen) (key_of debut) ≡ false → number_of (keys_of seen) (key_of debut) ≡ length seen
 not_found [] debut h = refl
 not_found (first ∷ seen) debut h = go (same_key (key_of debut) (key_of first)) h (not_found seen debut)
   where
@@ -78,7 +78,7 @@ pub record IsNumber (all : List Debut) (stage n : ℕ) : Type 0 where
   pub within : n < length all
   pub stage_is : (get_or all n no_debut).stage ≡ stage
 
-new_at : (seen all : List Debut) (debut : Debut) (n : ℕ) → Extends (seen ++ debut ∷ []) all → n ≡ length seen → get_or all n no_debut ≡ debut
+pub new_at : (seen all : List Debut) (debut : Debut) (n : ℕ) → Extends (seen ++ debut ∷ []) all → n ≡ length seen → get_or all n no_debut ≡ debut
 new_at seen all debut n e is =
     ap (λ (k : ℕ). get_or all k no_debut) is
     ∙ kept (seen ++ debut ∷ []) all (length seen) e (omega (arith, length_push seen debut))
@@ -114,7 +114,7 @@ stands_at all k (n ∷ path) zero stands below = subst (λ (s : ℕ). IsNumber a
 stands_at all k (n ∷ path) (suc i) stands below =
     subst (λ (s : ℕ). IsNumber all s (get_or path i 0)) (let e : suc k + i ≡ k + suc i = omega arith in e) (stands_at all (suc k) path i stands.1 (omega (arith, below)))
 
-abbrev the_debut : ℕ → ℕ → ℕ → Debut
+abbrev pub the_debut : ℕ → ℕ → ℕ → Debut
 the_debut scenario stage key = record { scenario = scenario; stage = stage; key = key }
 
 row_stands : (seen all : List Debut) (s k : ℕ) (row : List ℕ) → Extends (debuts_from seen (row_debuts s k row)) all → Stands all k (numbers_from seen (row_debuts s k row))
@@ -125,7 +125,7 @@ row_stands seen all s k (key ∷ keys) e =
       row_stands next all s (suc k) keys e,
     )
 
-split : (seen all : List Debut) (s : ℕ) (row : List ℕ) (rows : List (List ℕ)) → Extends (debuts_from seen (all_debuts s (row ∷ rows))) all →
+pub split : (seen all : List Debut) (s : ℕ) (row : List ℕ) (rows : List (List ℕ)) → Extends (debuts_from seen (all_debuts s (row ∷ rows))) all →
     Extends (debuts_from (debuts_from seen (row_debuts s 0 row)) (all_debuts (suc s) rows)) all
 split seen all s row rows e = subst (λ (xs : List Debut). Extends xs all) (debuts_append seen (row_debuts s 0 row) (all_debuts (suc s) rows)) e
 
@@ -157,14 +157,18 @@ pub record Appears (path : List ℕ) (k : ℕ) (debut : Debut) (n : ℕ) : Type 
   pub stage : debut.stage ≡ k + place
   pub within : place < length path
   pub number : get_or path place 0 ≡ n
+  -- the nodes before it on the path have smaller numbers
+  pub earlier : (i : ℕ) → i < place → get_or path i 0 < n
 
 pub record IsOn (paths : List (List ℕ)) (s : ℕ) (debut : Debut) (n : ℕ) : Type 0 where
   pub place : ℕ
   pub scenario : debut.scenario ≡ s + place
   pub within : place < length paths
   pub appears : Appears (get_or paths place []) 0 debut n
+  -- so have the nodes of all paths before it
+  pub sooner : (i j : ℕ) → i < place → j < length (get_or paths i []) → get_or (get_or paths i []) j 0 < n
 
-abbrev after : List Debut → ℕ → ℕ → ℕ → List Debut
+abbrev pub after : List Debut → ℕ → ℕ → ℕ → List Debut
 after seen s k key = with_debut seen (the_debut s k key)
 
 abbrev IsNew : List Debut → List ℕ → ℕ → ℕ → ℕ → Type 0
@@ -187,17 +191,24 @@ row_new seen all s k (key ∷ keys) n e low high = choose (nat_lt n (length (aft
             stage = ap (λ (d : Debut). d.stage) read ∙ (let z : k ≡ k + 0 = omega arith in z);
             within = omega arith;
             number = not_found seen (the_debut s k key) is ∙ sym last;
+            earlier = λ i below. absurd (omega (arith, below));
           },
         )
 
-    later : IsNew all (numbers_from (after seen s k key) (row_debuts s (suc k) keys)) s (suc k) n → IsNew all (numbers_from seen (row_debuts s k (key ∷ keys))) s k n
-    later h = (
+    before : (place : ℕ) → length (after seen s k key) ≤ n → ((i : ℕ) → i < place → get_or (numbers_from (after seen s k key) (row_debuts s (suc k) keys)) i 0 < n) →
+        (i : ℕ) → i < suc place → get_or (numbers_from seen (row_debuts s k (key ∷ keys))) i 0 < n
+    before place past rest zero below = let first = numbered seen (after seen s k key) (the_debut s k key) (itself (after seen s k key)) in omega (arith, first.within, past)
+    before place past rest (suc i) below = rest i (omega (arith, below))
+
+    later : length (after seen s k key) ≤ n → IsNew all (numbers_from (after seen s k key) (row_debuts s (suc k) keys)) s (suc k) n → IsNew all (numbers_from seen (row_debuts s k (key ∷ keys))) s k n
+    later past h = (
       h.0,
       record {
         place = suc h.1.place;
         stage = h.1.stage ∙ (let z : suc k + h.1.place ≡ k + suc h.1.place = omega arith in z);
         within = omega (arith, h.1.within);
         number = h.1.number;
+        earlier = before h.1.place past h.1.earlier;
       },
     )
 
@@ -207,7 +218,7 @@ row_new seen all s k (key ∷ keys) n e low high = choose (nat_lt n (length (aft
         here (has_key (keys_of seen) (key_of (the_debut s k key))) refl
         (through (after seen s k key) (debuts_from (after seen s k key) (row_debuts s (suc k) keys)) all (extends_all (after seen s k key) (row_debuts s (suc k) keys)) e)
         (grind (arith, nat_tests, is))
-    choose false is more = later (more (grind (arith, nat_tests, is)))
+    choose false is more = let past : length (after seen s k key) ≤ n = grind (arith, nat_tests, is) in later past (more past)
 
 all_new : (seen all : List Debut) (s : ℕ) (rows : List (List ℕ)) (n : ℕ) → Extends (debuts_from seen (all_debuts s rows)) all → length seen ≤ n → n < length (debuts_from seen (all_debuts s rows)) →
     IsOn (paths_from seen s rows) s (get_or all n no_debut) n
@@ -217,6 +228,14 @@ all_new seen all s (row ∷ rows) n e low high =
     (λ past. all_new (debuts_from seen (row_debuts s 0 row)) all (suc s) rows n (split seen all s row rows e) past
     (subst (λ (xs : List Debut). n < length xs) (debuts_append seen (row_debuts s 0 row) (all_debuts (suc s) rows)) high))
   where
+    before : length (debuts_from seen (row_debuts s 0 row)) ≤ n → (place : ℕ) →
+        ((i j : ℕ) → i < place → j < length (get_or (paths_from (debuts_from seen (row_debuts s 0 row)) (suc s) rows) i []) → get_or (get_or (paths_from (debuts_from seen (row_debuts s 0 row)) (suc s) rows) i []) j 0 < n) →
+        (i j : ℕ) → i < suc place → j < length (get_or (paths_from seen s (row ∷ rows)) i []) → get_or (get_or (paths_from seen s (row ∷ rows)) i []) j 0 < n
+    before past place rest zero j low inside =
+        let number = stands_at (debuts_from seen (row_debuts s 0 row)) 0 (numbers_from seen (row_debuts s 0 row)) j (row_stands seen (debuts_from seen (row_debuts s 0 row)) s 0 row (itself (debuts_from seen (row_debuts s 0 row)))) inside in
+        omega (arith, number.within, past)
+    before past place rest (suc i) j low inside = rest i j (omega (arith, low)) inside
+
     choose : (b : Bool) → nat_lt n (length (debuts_from seen (row_debuts s 0 row))) ≡ b →
         (length (debuts_from seen (row_debuts s 0 row)) ≤ n → IsOn (paths_from (debuts_from seen (row_debuts s 0 row)) (suc s) rows) (suc s) (get_or all n no_debut) n) →
         IsOn (paths_from seen s (row ∷ rows)) s (get_or all n no_debut) n
@@ -224,10 +243,17 @@ all_new seen all s (row ∷ rows) n e low high =
         let rest = split seen all s row rows e in
         let mid = debuts_from seen (row_debuts s 0 row) in
         let h = row_new seen all s 0 row n (through mid (debuts_from mid (all_debuts (suc s) rows)) all (extends_all mid (all_debuts (suc s) rows)) rest) low (grind (arith, nat_tests, is)) in
-        record { place = 0; scenario = h.0 ∙ (let z : s ≡ s + 0 = omega arith in z); within = omega arith; appears = h.1 }
+        record { place = 0; scenario = h.0 ∙ (let z : s ≡ s + 0 = omega arith in z); within = omega arith; appears = h.1; sooner = λ i j low inside. absurd (omega (arith, low)) }
     choose false is more =
-        let h = more (grind (arith, nat_tests, is)) in
-        record { place = suc h.place; scenario = h.scenario ∙ (let z : suc s + h.place ≡ s + suc h.place = omega arith in z); within = omega (arith, h.within); appears = h.appears }
+        let past : length (debuts_from seen (row_debuts s 0 row)) ≤ n = grind (arith, nat_tests, is) in
+        let h = more past in
+        record {
+          place = suc h.place;
+          scenario = h.scenario ∙ (let z : suc s + h.place ≡ s + suc h.place = omega arith in z);
+          within = omega (arith, h.within);
+          appears = h.appears;
+          sooner = before past h.place h.sooner;
+        }
 
 -- each path goes through a node of each stage, and each node first appears on a path
 pub record Outlines (debuts : List Debut) (paths : List (List ℕ)) : Type 0 where

@@ -2,7 +2,7 @@
 use Rattle.std.proofs.Common.{◌≡◌, ◌∙◌, ap, sym, refl, subst, ℕ, suc, ◌+◌, ◌-◌, ◌<◌, ◌≤◌, Bool, true, false, eqb, List, [], ◌∷◌, map, length, get_or, nat_eq, arith, Option, Some, None, Ok, if◌then◌else◌}
 use Rattle.std.proofs.lemmas.List.{length-map, get_or-map}
 use Rattle.std.proofs.lemmas.Bool.Decides.{nat_tests}
-use Rattle.rationals.specs.Rational.{zero_ℚ, ◌<ℚ◌}
+use Rattle.rationals.specs.Rational.{zero_ℚ, one_ℚ, ◌<ℚ◌}
 use Rattle.rationals.specs.Sparse.{Entry as Term}
 use Rattle.core_defs.specs.declared.program.Core.{Core}
 use Rattle.core_defs.specs.Core.{IsCore}
@@ -14,6 +14,8 @@ use Rattle.scen_defs.specs.Ends.{InOrder}
 use Rattle.scen_defs.specs.Lists.{Each, Once, Distinct, is_in, passes_at}
 use Rattle.scen_defs.specs.Program.{Node, Scenario, Program, View, view_of, is_live, node_at, or_root, IsLive, HasPlace, IsEntry, IsRow, IsNode, IsPath, IsColumnOf, IsTree, total}
 use Rattle.scen_defs.specs.Program.HasPlace.{is_first, is_below}
+use Rattle.scen_defs.specs.Valid.{AreNames}
+use Rattle.tree_laws.proofs.Names.{name_of, block_names, stated_names}
 use Rattle.scen_defs.proofs.SumLaws.{each-map}
 use Rattle.scen_defs.proofs.Valid.{each-place, once-passes}
 use Rattle.scen_tree.specs.declared.position.Position.{Position}
@@ -30,34 +32,37 @@ use Rattle.tree_build.specs.Branches.{branch_rows}
 use Rattle.tree_build.specs.Nodes.{no_values, node_in}
 use Rattle.tree_build.specs.Finish.{position_at, parent_in, no_debut, value_nodes, block_paths, branch_paths, finish_walk}
 use Rattle.tree_build.specs.Walks.{debuts_of, paths_of, block_rows, block_all, branch_all, blocks_walk, branches_walk}
-use Rattle.tree_laws.specs.Law.{IsStaged, IsBranch, BuiltAreTrees}
+use Rattle.tree_laws.specs.Law.{IsStaged, IsBlock, AreBranches, BuiltAreTrees}
+use Rattle.build_defs.specs.Laws.{IsCertain}
+use Rattle.rationals.specs.Sums.{sum_ℚ}
+use Rattle.tree_laws.proofs.Certain.{blocks_certain, branches_certain}
 use Rattle.tree_laws.proofs.Lists.{each_at}
 use Rattle.tree_laws.proofs.Numbers.{Stands, stands_at, Outlines, outlines, paths_length, paths_long}
 use Rattle.tree_laws.proofs.Values.{IsOf, IsUpTo}
-use Rattle.tree_laws.proofs.NodeValues.{AreSound, blocks_sound, branches_sound}
+use Rattle.tree_laws.proofs.NodeValues.{AreSound, stages_low, blocks_sound, branches_sound}
 use Rattle.tree_laws.proofs.Nodes.{rows_made, AreMade, nodes_made, live_within, IsThere, made_at}
 use Rattle.tree_laws.proofs.Columns.{each_column, is_of, column_stage, stands_once, bounds_in_order}
-use Rattle.tree_laws.proofs.Scenarios.{HavePaths, HasCases, blocks_have, branches_have, rows_length, rows_long}
+use Rattle.tree_laws.proofs.Scenarios.{HavePaths, has_cases, block_rows_long, block_rows_length, blocks_have, branches_have, rows_length, rows_long}
 use Rattle.tree_laws.proofs.Totals.{path_of, is_in_at, total_above}
 
-abbrev positions_of : List (List ℕ) → List Debut → List Position
+abbrev pub positions_of : List (List ℕ) → List Debut → List Position
 positions_of paths debuts = map (position_at paths) debuts
 
 -- what the parts of a program keep
-record Parts (core : Core) (p : Stages) (debuts : List Debut) (paths : List (List ℕ)) (all : List Values) (scenarios : List Scenario) (nodes : List (Option Node)) : Type 0 where
-  is_core : IsCore core
-  staged : IsStaged core p
-  outlines : Outlines debuts paths
-  sound : AreSound p debuts all
-  have : HavePaths scenarios paths
-  made : AreMade core.rows.items debuts (positions_of paths debuts) 0 all nodes
+pub record Parts (core : Core) (p : Stages) (debuts : List Debut) (paths : List (List ℕ)) (all : List Values) (scenarios : List Scenario) (nodes : List (Option Node)) : Type 0 where
+  pub is_core : IsCore core
+  pub staged : IsStaged core p
+  pub outlines : Outlines debuts paths
+  pub sound : AreSound p debuts all
+  pub have : HavePaths scenarios paths
+  pub made : AreMade core.rows.items debuts (positions_of paths debuts) 0 all nodes
 
 module _ (core : Core) (p : Stages) (debuts : List Debut) (paths : List (List ℕ)) (all : List Values) (scenarios : List Scenario) (nodes : List (Option Node)) (parts : Parts core p debuts paths all scenarios nodes) where
-  abbrev view : View
+  abbrev pub view : View
   view = view_of (program_of core p nodes scenarios)
 
   -- node n
-  there : (n : ℕ) → n < length debuts → IsThere core.rows.items (get_or debuts n no_debut) (position_at paths (get_or debuts n no_debut)) (get_or all n no_values) nodes n
+  pub there : (n : ℕ) → n < length debuts → IsThere core.rows.items (get_or debuts n no_debut) (position_at paths (get_or debuts n no_debut)) (get_or all n no_values) nodes n
   there n below =
       let h = made_at core.rows.items debuts (positions_of paths debuts) 0 all nodes n parts.made (omega (arith, below, parts.sound.same)) in
       let zero_n : 0 + n ≡ n = omega arith in
@@ -65,20 +70,20 @@ module _ (core : Core) (p : Stages) (debuts : List Debut) (paths : List (List �
       subst (λ (q : Position). IsThere core.rows.items (get_or debuts n no_debut) q (get_or all n no_values) nodes n) position
       (subst (λ (k : ℕ). IsThere core.rows.items (get_or debuts k no_debut) (get_or (positions_of paths debuts) k Root) (get_or all n no_values) nodes n) zero_n h)
 
-  live : (n : ℕ) → n < length debuts → IsLive view n
+  pub live : (n : ℕ) → n < length debuts → IsLive view n
   live n below = once-passes is_live n nodes (there n below).live
 
-  within : (n : ℕ) → passes_at is_live n nodes ≡ true → n < length debuts
+  pub within : (n : ℕ) → passes_at is_live n nodes ≡ true → n < length debuts
   within n is = omega (arith, live_within core.rows.items debuts (positions_of paths debuts) 0 all nodes n parts.made is, parts.sound.same)
 
-  stage_of_node : (n : ℕ) → n < length debuts → (node_at nodes n).stage ≡ (get_or debuts n no_debut).stage
+  pub stage_of_node : (n : ℕ) → n < length debuts → (node_at nodes n).stage ≡ (get_or debuts n no_debut).stage
   stage_of_node n below = ap (λ (x : Node). x.stage) (there n below).is
 
   parent_of_node : (n : ℕ) → n < length debuts → or_root (node_at nodes n).parent ≡ or_root (parent_in (position_at paths (get_or debuts n no_debut)))
   parent_of_node n below = ap (λ (x : Node). or_root x.parent) (there n below).is
 
   -- its place in the tree
-  place : (n : ℕ) → n < length debuts → HasPlace view n
+  pub place : (n : ℕ) → n < length debuts → HasPlace view n
   place n below = go (nat_eq (get_or debuts n no_debut).stage 0) refl (parent_of_node n below)
     where
       debut_stage : ℕ
@@ -109,7 +114,7 @@ module _ (core : Core) (p : Stages) (debuts : List Debut) (paths : List (List �
           (subst (IsLive view) m (live (get_or (get_or paths on.place []) (k - 1) 0) number.within))
           (subst (λ (x : ℕ). (node_at nodes n).stage ≡ suc (node_at nodes x).stage) m one_less)
 
-  column_is : (s : ℕ) (e : Term) → IsOf p s e → Once e.column (view.columns s)
+  pub column_is : (s : ℕ) (e : Term) → IsOf p s e → Once e.column (view.columns s)
   column_is s e h = stands_once p e.column s core.columns.items (omega (arith, h.there, parts.staged.columns)) h.stage_is
 
   entry_is : (s : ℕ) (e : Term) → IsUpTo p s e → IsEntry view s e
@@ -155,7 +160,7 @@ module _ (core : Core) (p : Stages) (debuts : List Debut) (paths : List (List �
   paths_are [] stands = tt
   paths_are (s ∷ ss) stands = (record { live = path_live 0 s.path stands.0; distinct = path_distinct 0 s.path stands.0 }, paths_are ss stands.1)
 
-  total_is : (n : ℕ) → passes_at is_live n nodes ≡ true → zero_ℚ <ℚ total view n
+  pub total_is : (n : ℕ) → passes_at is_live n nodes ≡ true → zero_ℚ <ℚ total view n
   total_is n is =
       let on = parts.outlines.starts n (within n is) in
       let on_path : is_in n (get_or paths on.place []) ≡ true = is_in_at (get_or paths on.place []) on.appears.place n on.appears.within on.appears.number in
@@ -178,32 +183,68 @@ module _ (core : Core) (p : Stages) (debuts : List Debut) (paths : List (List �
     totals = each-place (λ n. zero_ℚ <ℚ total view n) is_live nodes total_is;
   }
 
-finished : (core : Core) (p : Stages) (debuts : List Debut) (paths : List (List ℕ)) (scenarios : List Scenario) (all : List Values) (program : Program) → IsCore core → IsStaged core p → Outlines debuts paths →
-    AreSound p debuts all → HavePaths scenarios paths → finish_walk core p debuts (positions_of paths debuts) scenarios all ≡ Ok program → IsTree (view_of program)
-finished core p debuts paths scenarios all program is_core staged outline sound have e =
-    let chances = then_is (chances_walk (positions_of paths debuts) scenarios) _ program e in
-    let nodes = then_is (value_nodes core.rows.items debuts (positions_of paths debuts) [] all) _ program chances.2 in
-    let parts : Parts core p debuts paths all scenarios nodes.0 = record { is_core = is_core; staged = staged; outlines = outline; sound = sound; have = have; made = nodes_made core.rows.items debuts (positions_of paths debuts) all nodes.0 nodes.1 } in
-    subst (λ (x : Program). IsTree (view_of x)) (sym (fine_is (program_of core p nodes.0 scenarios) program nodes.2)) (tree core p debuts paths all scenarios nodes.0 parts)
+-- what is built: its parts
+pub record Made (core : Core) (p : Stages) (rows : List (List ℕ)) (program : Program) : Type 0 where
+  pub all : List Values
+  pub scenarios : List Scenario
+  pub nodes : List (Option Node)
+  pub parts : Parts core p (debuts_of rows) (paths_of rows) all scenarios nodes
+  pub is : program ≡ program_of core p nodes scenarios
+  pub long : Each (λ (path : List ℕ). length path ≡ length p.names) (paths_of rows)
+  pub certain : sum_ℚ (λ (s : Scenario). s.probability) scenarios ≡ one_ℚ
+  pub named : length (paths_of rows) < 50000 → AreNames (map name_of scenarios)
 
-from_blocks : (core : Core) (p : Stages) (blocks : List Block) (program : Program) → IsCore core → IsStaged core p → Each (HasCases p) blocks → blocks_walk core p blocks ≡ Ok program → IsTree (view_of program)
-from_blocks core p blocks program is_core staged cases e =
+finished : (core : Core) (p : Stages) (rows : List (List ℕ)) (scenarios : List Scenario) (all : List Values) (program : Program) → IsCore core → IsStaged core p →
+    AreSound p (debuts_of rows) all → HavePaths scenarios (paths_of rows) → Each (λ (path : List ℕ). length path ≡ length p.names) (paths_of rows) → sum_ℚ (λ (s : Scenario). s.probability) scenarios ≡ one_ℚ →
+    (length (paths_of rows) < 50000 → AreNames (map name_of scenarios)) → finish_walk core p (debuts_of rows) (positions_of (paths_of rows) (debuts_of rows)) scenarios all ≡ Ok program → Made core p rows program
+finished core p rows scenarios all program is_core staged sound have long certain named e =
+    let positions = positions_of (paths_of rows) (debuts_of rows) in
+    let chances = then_is (chances_walk positions scenarios) _ program e in
+    let nodes = then_is (value_nodes core.rows.items (debuts_of rows) positions [] all) _ program chances.2 in
+    record {
+      all = all;
+      scenarios = scenarios;
+      nodes = nodes.0;
+      parts = record { is_core = is_core; staged = staged; outlines = outlines rows; sound = sound; have = have; made = nodes_made core.rows.items (debuts_of rows) positions all nodes.0 nodes.1 };
+      is = fine_is (program_of core p nodes.0 scenarios) program nodes.2;
+      long = long;
+      certain = certain;
+      named = named;
+    }
+
+all_certain : (p : Stages) (blocks : List Block) → Each (IsBlock p) blocks → Each IsCertain blocks
+all_certain p [] all = tt
+all_certain p (block ∷ blocks) all = (all.0.certain, all_certain p blocks all.1)
+
+pub made_of_blocks : (core : Core) (p : Stages) (blocks : List Block) (program : Program) → IsCore core → IsStaged core p → Each (IsBlock p) blocks → blocks_walk core p blocks ≡ Ok program →
+    Made core p (block_rows (length p.names) (wheels_of (length p.names) blocks)) program
+made_of_blocks core p blocks program is_core staged all e =
     let wheels = wheels_of (length p.names) blocks in
     let rows = block_rows (length p.names) wheels in
     let scenarios = then_is (block_paths blocks wheels [] (paths_of rows)) _ program e in
-    finished core p (debuts_of rows) (paths_of rows) scenarios.0 (block_all core p blocks wheels rows) program is_core staged (outlines rows)
-    (blocks_sound core p blocks wheels (debuts_of rows) staged cases) (blocks_have p blocks (length p.names) (paths_of rows) scenarios.0 cases scenarios.1) scenarios.2
+    let long = paths_long [] 0 (length p.names) rows (block_rows_long (length p.names) wheels) in
+    finished core p rows scenarios.0 (block_all core p blocks wheels rows) program is_core staged
+    (blocks_sound core p blocks wheels (debuts_of rows) staged (has_cases p blocks all) (stages_low (length p.names) (debuts_of rows) (paths_of rows) (outlines rows) long))
+    (blocks_have p blocks (length p.names) (paths_of rows) scenarios.0 all scenarios.1) long
+    (blocks_certain (length p.names) blocks (paths_of rows) scenarios.0 (all_certain p blocks all) (paths_length [] 0 rows ∙ block_rows_length (length p.names) wheels) scenarios.1)
+    (λ low. block_names blocks wheels (paths_of rows) scenarios.0 low scenarios.1) scenarios.2
 
-from_branches : (core : Core) (p : Stages) (branches : List Branch) (program : Program) → IsCore core → IsStaged core p → Each (IsBranch p (length branches)) branches → branches_walk core p branches ≡ Ok program → IsTree (view_of program)
-from_branches core p branches program is_core staged all e =
+pub made_of_branches : (core : Core) (p : Stages) (branches : List Branch) (program : Program) → IsCore core → IsStaged core p → AreBranches p branches →
+    branches_walk core p branches ≡ Ok program → Made core p (branch_rows (length p.names) [] branches) program
+made_of_branches core p branches program is_core staged cases e =
     let rows = branch_rows (length p.names) [] branches in
     let scenarios = then_is (branch_paths branches [] (paths_of rows)) _ program e in
     let same : length (paths_of rows) ≡ length branches = paths_length [] 0 rows ∙ (let z : length rows ≡ length branches = omega (arith, rows_length (length p.names) [] branches) in z) in
-    let known = subst (λ (n : ℕ). Each (IsBranch p n) branches) (sym same) all in
-    finished core p (debuts_of rows) (paths_of rows) scenarios.0 (branch_all core p branches rows) program is_core staged (outlines rows)
-    (branches_sound core p branches (paths_of rows) (debuts_of rows) staged known (paths_long [] 0 (length p.names) rows (rows_long (length p.names) [] branches tt)) (outlines rows))
-    (branches_have p (length branches) branches (paths_of rows) scenarios.0 all same scenarios.1) scenarios.2
+    let long = paths_long [] 0 (length p.names) rows (rows_long (length p.names) [] branches tt) in
+    finished core p rows scenarios.0 (branch_all core p branches rows) program is_core staged
+    (branches_sound core p branches (paths_of rows) (debuts_of rows) staged cases.all cases.ancestral long (outlines rows))
+    (branches_have p branches (paths_of rows) scenarios.0 cases.all same scenarios.1) long (branches_certain branches (paths_of rows) scenarios.0 cases.certain same scenarios.1)
+    (λ low. stated_names branches (paths_of rows) scenarios.0 same cases.names scenarios.1) scenarios.2
+
+tree_of : (core : Core) (p : Stages) (rows : List (List ℕ)) (program : Program) → Made core p rows program → IsTree (view_of program)
+tree_of core p rows program m = subst (λ (x : Program). IsTree (view_of x)) (sym m.is) (tree core p (debuts_of rows) (paths_of rows) m.all m.scenarios m.nodes m.parts)
 
 pub built_are_trees : BuiltAreTrees
-built_are_trees core p (Blocks blocks) program is_core staged cases e = from_blocks core p blocks program is_core staged cases e
-built_are_trees core p (Branches branches) program is_core staged cases e = from_branches core p branches program is_core staged cases e
+built_are_trees core p (Blocks blocks) program is_core staged cases e = tree_of core p (block_rows (length p.names) (wheels_of (length p.names) blocks)) program (made_of_blocks core p blocks program is_core staged cases e)
+built_are_trees core p (Branches branches) program is_core staged cases e =
+    tree_of core p (branch_rows (length p.names) [] branches) program (made_of_branches core p branches program is_core staged cases e)

@@ -1,5 +1,5 @@
 -- The values of a node: costs of columns of its stage, and entries of columns of that stage or earlier ones.
-use Rattle.std.proofs.Common.{◌≡◌, ◌∙◌, ap, sym, refl, subst, ℕ, zero, suc, ◌+◌, ◌<◌, ◌≤◌, Bool, true, false, ◌&&◌, List, [], ◌∷◌, map, length, get_or, nat_eq, nat_lt, eqb, arith, eqb-true, if◌then◌else◌, ℤ, pos}
+use Rattle.std.proofs.Common.{◌≡◌, ◌∙◌, ap, ap₂, sym, refl, subst, ℕ, zero, suc, ◌+◌, ◌<◌, ◌≤◌, Bool, true, false, ◌&&◌, List, [], ◌∷◌, map, length, get_or, nat_eq, nat_lt, eqb, arith, eqb-true, if◌then◌else◌, ℤ, pos}
 use Rattle.std.specs.Ordering.{int_eq}
 use Rattle.std.proofs.lemmas.Bool.Decides.{nat_tests}
 use Rattle.rationals.specs.Rational.{ℚ, zero_ℚ, ◌+ℚ◌, zero_add_ℚ}
@@ -37,6 +37,8 @@ pub record IsLine (p : Stages) (stage : ℕ) (r : RowValues) : Type 0 where
 pub record AreOf (p : Stages) (stage : ℕ) (d : Values) : Type 0 where
   pub cost : Each (IsOf p stage) d.cost
   pub rows : Each (IsLine p stage) d.rows
+  -- exactly the rows of the stage
+  pub numbers : map (λ (r : RowValues). r.row) d.rows ≡ rows_at stage p.rows
 
 -- ---- forms
 
@@ -96,6 +98,7 @@ pub base_are : (core : Core) (p : Stages) (stage : ℕ) → IsStaged core p → 
 base_are core p stage staged = record {
   cost = each_form (IsOf p stage) (λ at. nat_eq at stage) (λ j. value_in core [] (Cost j)) 0 p.columns 0 cost_is;
   rows = each_mapped (rows_at stage p.rows) (each-place (λ i. IsLine p stage (row_values core [] i)) (λ at. nat_eq at stage) p.rows row_is);
+  numbers = own_numbers (rows_at stage p.rows);
 }
   where
     same : (n m : ℕ) → nat_eq n m ≡ true → n ≡ m
@@ -126,6 +129,10 @@ base_are core p stage staged = record {
           entries = each_form (IsUpTo p stage) (λ (column : ColumnDef). true) (λ j. value_in core [] (Matrix i j)) 0 core.columns.items no_column (λ k below is some. entry_is i at k below some);
         }
 
+    own_numbers : (rows : List ℕ) → map (λ (r : RowValues). r.row) (map (row_values core []) rows) ≡ rows
+    own_numbers [] = refl
+    own_numbers (i ∷ rows) = ap (λ (rest : List ℕ). i ∷ rest) (own_numbers rows)
+
     each_mapped : (rows : List ℕ) → Each (λ i. IsLine p stage (row_values core [] i)) rows → Each (IsLine p stage) (map (row_values core []) rows)
     each_mapped [] all = tt
     each_mapped (i ∷ rows) all = (all.0, each_mapped rows all.1)
@@ -144,11 +151,20 @@ each_at_row p stage i change (r ∷ rows) keeps all = (go (nat_eq r.row i) refl,
         same n m e = grind (arith, nat_tests, e)
     go false is = all.0
 
+-- the numbers of the rows stay
+same_numbers : (i : ℕ) (change : RowValues → RowValues) (rows : List RowValues) → ((r : RowValues) → (change r).row ≡ r.row) → map (λ (r : RowValues). r.row) (at_row i change rows) ≡ map (λ (r : RowValues). r.row) rows
+same_numbers i change [] keeps = refl
+same_numbers i change (r ∷ rows) keeps = ap₂ (λ (n : ℕ) (rest : List ℕ). n ∷ rest) (go (nat_eq r.row i)) (same_numbers i change rows keeps)
+  where
+    go : (b : Bool) → (if b then change r else r).row ≡ r.row
+    go true = keeps r
+    go false = refl
+
 set_are : (core : Core) (p : Stages) (stage : ℕ) (d : Values) (entry : Entry) (v : ℚ) → IsStaged core p → is_late p entry ≡ false → AreOf p stage d → AreOf p stage (with_set core p stage d entry v)
 set_are core p stage d (Cost j) v staged timely are = go (nat_lt j (length p.columns)) refl (nat_eq (get_or p.columns j 0) stage) refl
   where
     go : (b : Bool) → nat_lt j (length p.columns) ≡ b → (a : Bool) → nat_eq (get_or p.columns j 0) stage ≡ a → AreOf p stage (if b && a then record { cost = put_at j v d.cost; rows = d.rows } else d)
-    go true within true is = record { cost = each_put_at (IsOf p stage) j v d.cost (record { there = below j (length p.columns) within; stage_is = same (get_or p.columns j 0) stage is }) are.cost; rows = are.rows }
+    go true within true is = record { cost = each_put_at (IsOf p stage) j v d.cost (record { there = below j (length p.columns) within; stage_is = same (get_or p.columns j 0) stage is }) are.cost; rows = are.rows; numbers = are.numbers }
       where
         below : (n m : ℕ) → nat_lt n m ≡ true → n < m
         below n m e = grind (arith, nat_tests, e)
@@ -176,10 +192,10 @@ set_are core p stage d (Matrix i j) v staged timely are = go (nat_lt j (length c
         }
 
     go : (b : Bool) → nat_lt j (length core.columns.items) ≡ b → AreOf p stage (if b then record { cost = d.cost; rows = at_row i (with_entry j v) d.rows } else d)
-    go true within = record { cost = are.cost; rows = each_at_row p stage i (with_entry j v) d.rows (keeps (below j (length core.columns.items) within)) are.rows }
+    go true within = record { cost = are.cost; rows = each_at_row p stage i (with_entry j v) d.rows (keeps (below j (length core.columns.items) within)) are.rows; numbers = same_numbers i (with_entry j v) d.rows (λ r. refl) ∙ are.numbers }
     go false within = are
 set_are core p stage d (Rhs i) v staged timely are =
-    record { cost = are.cost; rows = each_at_row p stage i (with_rhs v) d.rows (λ r at line. record { stage_is = line.stage_is; entries = line.entries }) are.rows }
+    record { cost = are.cost; rows = each_at_row p stage i (with_rhs v) d.rows (λ r at line. record { stage_is = line.stage_is; entries = line.entries }) are.rows; numbers = same_numbers i (with_rhs v) d.rows (λ r. refl) ∙ are.numbers }
 
 pub sets_are : (core : Core) (p : Stages) (stage : ℕ) (d : Values) (sets : Sets) → IsStaged core p → AreTimely p sets → AreOf p stage d → AreOf p stage (with_sets core p stage d sets)
 sets_are core p stage d [] staged timely are = are

@@ -6,7 +6,7 @@ use Rattle.program_files.specs.Views.{text_of, MeansOrRefused, unbuilt_of}
 use Rattle.smps_time.specs.View.{stages_view}
 use Rattle.stoch_defs.specs.Random.{content as content_of}
 use Rattle.program_files.proofs.RefusedLemmas.{stops_build}
-use Rattle.program_files.proofs.TreeLemmas.{tree_of}
+use Rattle.program_files.proofs.TreeLemmas.{program_of, tree_of}
 use Rattle.scen_defs.specs.Program.{content}
 use Rattle.program_files.proofs.reading.with_cases.Goals as goal
 
@@ -15,7 +15,12 @@ returns-in-Err-clause-means c = subst (λ (u : Unread). MeansOrRefused (texts_vi
     (subst (λ (file : FileKind). MeansOrRefused (texts_view c.args.texts.now) (Err (unbuilt_of file c.in-Err.fault c.args.core))) (sym c.build_file.ensures)
     (stops_build c.args.texts.now c.args.core c.requires.core (stages_view c.args.periods.now) c.requires.periods (content_of c.args.stoch.now) c.requires.cases c.in-Err.fault c.in-Err.ensures))
 
+pub returns-in-Ok-clause-keeps : goal.returns-in-Ok-clause-keeps
+returns-in-Ok-clause-keeps c =
+    program_of c.args.core (text_of c.args.texts.now.time) (stages_view c.args.periods.now) (text_of c.args.texts.now.stoch) (content_of c.args.stoch.now) (content c.in-Ok.program)
+    c.requires.is_core c.requires.fits c.requires.periods c.requires.cases c.in-Ok.ensures.0 c.in-Ok.ensures.1
+
 pub returns-in-Ok-clause-tree : goal.returns-in-Ok-clause-tree
 returns-in-Ok-clause-tree c =
     tree_of c.args.core (text_of c.args.texts.now.time) (stages_view c.args.periods.now) (text_of c.args.texts.now.stoch) (content_of c.args.stoch.now) (content c.in-Ok.program)
-    c.requires.is_core c.requires.fits c.requires.periods c.requires.cases c.in-Ok.ensures.1
+    c.requires.is_core c.requires.fits c.requires.periods c.requires.cases c.in-Ok.ensures.0 c.in-Ok.ensures.1
