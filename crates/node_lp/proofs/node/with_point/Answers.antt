@@ -1,0 +1,8 @@
+use Rattle.std.proofs.Common.{sym, ◌∙◌}
+use Rattle.node_lp.proofs.AnswerShows.{point_with_cut}
+use Rattle.node_lp.proofs.node.with_point.Goals as goal
+
+pub returns-in-Ok-clause-answer : goal.returns-in-Ok-clause-answer
+returns-in-Ok-clause-answer c =
+    point_with_cut c.args.task.now c.args.point c.args.value c.args.multipliers c.in-Ok.cut c.requires.problem c.requires.sound (sym c.is_priced.ensures ∙ c.if-is_priced.true)
+    c.in-Ok.ensures.walk c.in-Ok.ensures.made
