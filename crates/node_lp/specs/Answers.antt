@@ -63,4 +63,4 @@ IsAnswer t (solved.NoPoint cut) = RayAnswer t cut
 IsAnswer t solved.Loose = LooseAnswer t
 IsAnswer t solved.PivotsEnded = Unit {0}
 IsAnswer t (solved.Passed in_cut o) = Unit {0}
-IsAnswer t solved.NotGood = Unit {0}
+IsAnswer t solved.NotGood = ⊥

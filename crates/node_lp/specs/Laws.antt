@@ -29,8 +29,8 @@ pub record NodeLaws : Type 0 where
   pub loose : (p : Problem) (limits : Limits) (x d : ℕ → ℚ) → IsProblem p → IsWritten (plain_of p) limits
       → lp_shows.IsUnbounded (standard_of limits) x d → HasNoLeast p
   -- it never comes where nothing has a cost
-  pub costless : (p : Problem) (limits : Limits) (x d : ℕ → ℚ) → IsProblem p → p.priced ≡ false → p.cost ≡ [] → IsWritten (plain_of p) limits
-      → lp_shows.IsUnbounded (standard_of limits) x d → ⊥
+  pub costless : (p : Problem) (limits : Limits) (x d : ℕ → ℚ) → IsProblem p → p.priced ≡ false → p.cost ≡ []
+      → IsWritten (plain_of p) limits → lp_shows.IsUnbounded (standard_of limits) x d → ⊥
   -- and never where all own columns and all children's costs are bounded
   pub held : (p : Problem) (limits : Limits) (x d : ℕ → ℚ) → IsProblem p → IsHeld p → IsWritten (plain_of p) limits
       → lp_shows.IsUnbounded (standard_of limits) x d → ⊥
