@@ -1,16 +1,12 @@
 -- A record whose used ends are finite always has sums: the making of its cut never ends for want of one.
-use Rattle.std.proofs.Common.{◌≡◌, ℕ, Bool, true, false, eqb, List, [], ◌∷◌, ◌++◌, Option, Some, None, Result, Ok, Err, refl, sym, ap, ap₂, subst, ◌∙◌}
-use Rattle.std.specs.Prelude.{IfOk}
-use Rattle.rationals.specs.Rational.{ℚ, zero_ℚ, one_ℚ, neg_ℚ, ◌+ℚ◌, ◌-ℚ◌, ◌*ℚ◌, by_ring, by_eqs, terms, mul_zero_ℚ}
-use Rattle.rationals.specs.Ring.Eqs.{done, by_eq}
+use Rattle.std.proofs.Common.{◌≡◌, ℕ, Bool, true, false, eqb, List, [], ◌∷◌, ◌++◌, None, Ok, refl, sym, ap₂, ◌∙◌}
+use Rattle.rationals.specs.Rational.{ℚ, zero_ℚ, neg_ℚ, ◌+ℚ◌, ◌-ℚ◌, ◌*ℚ◌, by_ring, terms, mul_zero_ℚ}
 use Rattle.rationals.specs.Sums.{sum_ℚ, sum-append}
 use Rattle.rationals.specs.Sparse.{Entry, coefficient, value_if}
-use Rattle.scen_defs.specs.Ends.{worth}
 use Rattle.scen_defs.specs.declared.program.NodeRow.{NodeRow}
 use Rattle.interval_form.specs.Parts.{entry}
 use Rattle.cut_defs.specs.Data.{Datum}
-use Rattle.cut_defs.specs.declared.datum.ColumnBounds.{ColumnBounds}
-use Rattle.cut_defs.specs.Stored.{Source, Stored, StoredUses, form_of, form_sum, constant_sum, slope_of, reduced_of, OnRows, WeightsFit, IsMadeFrom}
+use Rattle.cut_defs.specs.Stored.{Source, StoredUses, form_of, form_sum, slope_of, OnRows, WeightsFit}
 use Rattle.cut_defs.specs.Stored.StoredUses.{No_stored, Use_stored}
 use Rattle.cut_proof.specs.Walks.{made}
 use Rattle.cut_proof.proofs.NotGood.{nothing_is_made}
