@@ -35,9 +35,11 @@ use Rattle.node_lp.specs.Plain.{plain_of}
 use Rattle.node_lp.specs.Records.{IsPointOf, ShowsNoPoint, shared_cost, cost_at}
 use Rattle.node_lp.specs.Points.{point_of, costs_from, costs_of, own_of, weights_of}
 use Rattle.node_lp.specs.Walk.{node_parts, point_from, child_walk, children_from, cost_walk, multipliers_from, tested_walk, end_walk}
+use Rattle.node_lp.specs.Places.{OfRows, OfColumns}
 use Rattle.node_lp.specs.Shows.{IsSound}
 use Rattle.node_lp.proofs.EndLemmas.{put_next}
 use Rattle.node_lp.proofs.NodeShows.{node_laws}
+use Rattle.node_lp.proofs.PlaceShows.{own_rows, own_columns}
 
 -- ---- what the walks give
 
@@ -106,6 +108,11 @@ module _ (p : Problem) (limits : Limits) (h : IsProblem p) (w : IsWritten (plain
         shows = same_point p b.0 (point_of p (place_value (node_parts p) x)) d.0 (cost_at p (point_of p (place_value (node_parts p) x)) (costs_of p (place_value (node_parts p) x))) a.0 (own_of p (signed limits y)) (weights_of p (signed limits y))
             point value (multipliers_are [] p.rows (signed limits y) a.0 a.1) (node_laws.point p limits x y h w c);
         held = λ k. tt;
+        costless = λ k f. tt;
+        places = (
+          subst (OfColumns p.bounds) (sym point) (own_columns p h (place_value (node_parts p) x)),
+          subst (λ (f : List Entry). OfRows p.rows f) (sym (multipliers_are [] p.rows (signed limits y) a.0 a.1)) (own_rows p (signed limits y)),
+        );
       }
   end_shows standard (Nowhere y) all c e =
       let a = after_ok (multipliers_from [] p.rows (turned_back limits.rows.items y)) (λ own. then_walk (tested_walk standard y) (λ _. Ok (found.NoPoint (record { rows = own; weights = (weights_of p (turned_back limits.rows.items y)) })))) all e in
@@ -113,7 +120,9 @@ module _ (p : Problem) (limits : Limits) (h : IsProblem p) (w : IsWritten (plain
       subst (IsSound p) (ok_same (found.NoPoint (record { rows = a.0; weights = (weights_of p (signed limits y)) })) all b.2) record {
         shows = subst (λ (f : List Entry). ShowsNoPoint p f (weights_of p (signed limits y))) (sym (multipliers_are [] p.rows (signed limits y) a.0 a.1)) (node_laws.no_point p limits y h w c);
         held = λ k. tt;
+        costless = λ k f. tt;
+        places = subst (λ (f : List Entry). OfRows p.rows f) (sym (multipliers_are [] p.rows (signed limits y) a.0 a.1)) (own_rows p (signed limits y));
       }
-  end_shows standard (Endless x d) all c e = subst (IsSound p) (ok_same found.Loose all e) record { shows = node_laws.loose p limits x d h w c; held = λ k. node_laws.held p limits x d h k w c }
-  end_shows standard Cut_off all c e = subst (IsSound p) (ok_same found.PivotsEnded all e) record { shows = tt; held = λ k. tt }
+  end_shows standard (Endless x d) all c e = subst (IsSound p) (ok_same found.Loose all e) record { shows = node_laws.loose p limits x d h w c; held = λ k. node_laws.held p limits x d h k w c; costless = λ k f. node_laws.costless p limits x d h k f w c; places = tt }
+  end_shows standard Cut_off all c e = subst (IsSound p) (ok_same found.PivotsEnded all e) record { shows = tt; held = λ k. tt; costless = λ k f. tt; places = tt }
   end_shows standard (Passes k o) all c e = never o all (Err o) refl e

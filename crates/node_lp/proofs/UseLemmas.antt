@@ -1,5 +1,5 @@
 -- Used cuts one by one are those of the whole list.
-use Rattle.std.proofs.Common.{◌≡◌, ℕ, ◌+◌, ◌<◌, Bool, true, false, List, [], ◌∷◌, ◌++◌, length, get_or, drop, refl, sym, ap, ap₂, ◌∙◌, arith, pos}
+use Rattle.std.proofs.Common.{◌≡◌, ℕ, ◌+◌, ◌<◌, Bool, true, false, List, [], ◌∷◌, ◌++◌, length, get_or, drop, refl, sym, ap, ap₂, ◌∙◌, pos}
 use Rattle.std.specs.Cmp.{signed_Decides}
 use Rattle.rationals.specs.Rational.{ℚ, zero_ℚ}
 use Rattle.rationals.specs.Forms.{is_zero}
@@ -10,15 +10,12 @@ use Rattle.cut_defs.specs.Stored.StoredUses.{No_stored, Use_stored}
 use Rattle.cut_proof.specs.declared.cut.Used.{Used}
 use Rattle.cut_proof.specs.Repairing.{snoc}
 use Rattle.cut_proof.specs.View.{uses_content}
+use Rattle.cut_proof.proofs.RepairLaws.{content_snoc}
 use Rattle.node_lp.specs.Stored.{stored_uses}
 use Rattle.node_lp.specs.Uses.{first, with_use, uses_joined}
 use Rattle.node_lp.proofs.EndLemmas.{next_item}
 
 -- ---- one more
-content_snoc : (xs : List Used) (u : Used) → uses_content (xs ++ u ∷ []) ≡ snoc (uses_content xs) u.weight u.cut
-content_snoc [] u = refl
-content_snoc (x ∷ xs) u = ap (λ r. Use_stored x.weight x.cut r) (content_snoc xs u)
-
 pub with_none : (done : StoredUses) (w : ℚ) (c : Stored) → w ≡ zero_ℚ → done ≡ with_use done w c
 with_none done w c e = let z : is_zero w ≡ true = (signed_Decides w.num (pos 0)).1 (num_zero w e) in sym (ap (λ b. pick b done (snoc done w c)) z)
 

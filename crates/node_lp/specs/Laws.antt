@@ -1,5 +1,5 @@
 -- What the ends of the path of a node's program show.
-use Rattle.std.specs.Prelude.{ℕ, List}
+use Rattle.std.specs.Prelude.{◌≡◌, ℕ, false, List, []}
 use Rattle.rationals.specs.Rational.{ℚ}
 use Rattle.lp_defs.specs.Certificates as lp_shows
 use Rattle.slack_form.specs.declared.limits.Limits.{Limits}
@@ -28,6 +28,9 @@ pub record NodeLaws : Type 0 where
   -- an unbounded end says that there is no least cost
   pub loose : (p : Problem) (limits : Limits) (x d : ℕ → ℚ) → IsProblem p → IsWritten (plain_of p) limits
       → lp_shows.IsUnbounded (standard_of limits) x d → HasNoLeast p
-  -- and never comes where all own columns and all children's costs are bounded
+  -- it never comes where nothing has a cost
+  pub costless : (p : Problem) (limits : Limits) (x d : ℕ → ℚ) → IsProblem p → p.priced ≡ false → p.cost ≡ []
+      → IsWritten (plain_of p) limits → lp_shows.IsUnbounded (standard_of limits) x d → ⊥
+  -- and never where all own columns and all children's costs are bounded
   pub held : (p : Problem) (limits : Limits) (x d : ℕ → ℚ) → IsProblem p → IsHeld p → IsWritten (plain_of p) limits
       → lp_shows.IsUnbounded (standard_of limits) x d → ⊥

@@ -4,7 +4,9 @@ ghost use Rattle.cut_proof.specs.Answers.{Makes};
 ghost use Rattle.cut_proof.specs.View.{uses_content};
 ghost use Rattle.node_lp.specs.Problem.{is_priced};
 ghost use Rattle.node_lp.specs.Stored.{stored_uses};
-ghost use Rattle.node_lp.specs.Told.{stored_of, stored_cuts, cut_made};
+ghost use Rattle.node_lp.specs.Told.{stored_of, stored_cuts, record_of, cut_made};
+ghost use Rattle.cut_proof.specs.Conditions.{MayBeMade};
+ghost use Rattle.cut_defs.specs.Stored.{constant_of, form_of, IsMadeFrom};
 ghost use Rattle.node_lp.specs.Uses.{first, with_use};
 
 use crate::found::Multipliers;
@@ -84,7 +86,10 @@ pub(crate) fn cut_of(
     kind: CutKind,
     multipliers: Multipliers,
 ) -> Result<SharedCut, CutFault>
-    ensures { Makes (cut_made task.now.datum kind (stored_cuts (is_priced task.now.kind) task.now.children.items) multipliers) result }
+    ensures walk { Makes (cut_made task.now.datum kind (stored_cuts (is_priced task.now.kind) task.now.children.items) multipliers) result }
+    ensures made { let uses = stored_uses multipliers.weights (stored_cuts (is_priced task.now.kind) task.now.children.items) in
+        MayBeMade task.now.datum (record_of task.now.datum kind multipliers) uses → IfOk result (λ cut.
+        IsMadeFrom task.now.datum (record_of task.now.datum kind multipliers) uses (constant_of cut) (form_of cut)) }
 {
     let cuts = taken_cuts(alloc, is_priced(task.kind), &task.children)?;
     let used = used(alloc, &multipliers.weights, &cuts)?;

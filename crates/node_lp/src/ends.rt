@@ -18,7 +18,7 @@ use scen_defs::NodeRow;
 use std::alloc::Global;
 
 /// Adds a number, unless it is 0.
-fn push_nonzero(form: &mut Form, number: u64, value: Frac) -> Result<(), Memory>
+pub(crate) fn push_nonzero(form: &mut Form, number: u64, value: Frac) -> Result<(), Memory>
     requires { EndsBelow number form.old }
     ensures value { OnOk result (form.new ≡ form.old ++ put number value []) }
     ensures before { OnOk result (EndsBelow (suc number) form.new) }

@@ -3,6 +3,7 @@ ghost use Rattle.std.specs.Prelude.{◌≡◌, IfOk};
 ghost use Rattle.node_lp.specs.Problem.{IsProblem, problem_of};
 ghost use Rattle.node_lp.specs.declared.found.Found.TheVariants as found;
 ghost use Rattle.node_lp.specs.Shows.{IsSound};
+ghost use Rattle.node_lp.specs.Answers.{IsAnswer};
 ghost use Rattle.node_lp.specs.Told.{told_of, node_solved};
 ghost use Rattle.node_lp.specs.ToldFaults.{StoppedInCut};
 ghost use Rattle.node_lp.specs.Walk.{found_in};
@@ -39,28 +40,35 @@ fn with_point(
     value: Frac,
     multipliers: Multipliers,
 ) -> Result<Solved, Memory>
-    ensures { IfOk result (λ all. all ≡ told_of task.now (found.Point point value multipliers)) }
+    requires problem { IsProblem (problem_of task.now) }
+    requires sound { IsSound (problem_of task.now) (found.Point point value multipliers) }
+    ensures told { IfOk result (λ all. all ≡ told_of task.now (found.Point point value multipliers)) }
+    ensures answer { IfOk result (IsAnswer task.now) }
 {
-    if !is_priced(task.kind) {
-        return Ok(Solved::Point {
+    if is_priced(task.kind) {
+        match cut_of(alloc, task, CutKind::Bound, multipliers) {
+            Ok(cut) => Ok(Solved::Point {
+                point,
+                value,
+                cut: Some(cut),
+            }),
+            Err(fault) => stopped_in_cut(fault),
+        }
+    } else {
+        Ok(Solved::Point {
             point,
             value,
             cut: None,
-        });
-    }
-    match cut_of(alloc, task, CutKind::Bound, multipliers) {
-        Ok(cut) => Ok(Solved::Point {
-            point,
-            value,
-            cut: Some(cut),
-        }),
-        Err(fault) => stopped_in_cut(fault),
+        })
     }
 }
 
 /// What is told where there is no point.
 fn without_point(alloc: Global, task: &Task, multipliers: Multipliers) -> Result<Solved, Memory>
-    ensures { IfOk result (λ all. all ≡ told_of task.now (found.NoPoint multipliers)) }
+    requires problem { IsProblem (problem_of task.now) }
+    requires sound { IsSound (problem_of task.now) (found.NoPoint multipliers) }
+    ensures told { IfOk result (λ all. all ≡ told_of task.now (found.NoPoint multipliers)) }
+    ensures answer { IfOk result (IsAnswer task.now) }
 {
     match cut_of(alloc, task, CutKind::Ray, multipliers) {
         Ok(cut) => Ok(Solved::NoPoint { cut }),
@@ -91,6 +99,7 @@ pub fn solve_node(alloc: Global, task: &Task) -> Result<Solved, Memory>
     requires { IsProblem (problem_of task.now) }
     ensures exact { IfOk result (λ all. all ≡ node_solved task.now) }
     ensures sound { IfOk result (λ _. IsSound (problem_of task.now) (found_in (problem_of task.now) task.now.pivots)) }
+    ensures answer { IfOk result (IsAnswer task.now) }
 {
     match find(alloc, task)? {
         Found::Point(point, value, multipliers) => {

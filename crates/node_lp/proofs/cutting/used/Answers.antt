@@ -1,4 +1,4 @@
-use Rattle.std.proofs.Common.{◌≡◌, ℕ, ◌≤◌, length, drop, [], ap, refl, ◌∙◌, arith}
+use Rattle.std.proofs.Common.{drop}
 use Rattle.std.proofs.lemmas.List.{drop_all}
 use Rattle.cut_proof.specs.View.{uses_content}
 use Rattle.node_lp.proofs.UseLemmas.{use_next, use_ends}
