@@ -1,13 +1,14 @@
 -- What `solve` prints for a program of several periods.
 use Rattle.std.specs.Prelude.{◌≡◌, ℕ, List}
 use Rattle.core_defs.specs.declared.cause.Cause.{Cause}
-use Rattle.scen_defs.specs.Program.{content, view_of}
+use Rattle.scen_defs.specs.Program.{content}
 use Rattle.scen_defs.specs.declared.program.Program.{Program}
 use Rattle.scen_defs.specs.declared.report.Report.{Report}
 use Rattle.command_words.specs.Words.{Budget}
 use Rattle.input_files.specs.Fetched.{Texts}
 use Rattle.program_files.specs.Meant.{MeansProgram}
-use Rattle.report_defs.specs.Truth.{IsTrue}
+use Rattle.report_defs.specs.Seen.{seen}
+use Rattle.report_defs.specs.Truth.{IsTrue, HasCounts}
 use Rattle.report_text.specs.Text.{report_text}
 use Rattle.smps_session.specs.Reasons.{told_reasons}
 use Rattle.smps_cli.specs.declared.status.Status.{Status}
@@ -24,8 +25,9 @@ pub record PrintsTreeReport (budget : Budget) (texts : Texts) (output : List ℕ
   pub report : Report
   pub text : output ≡ report_text program report
   pub told : status ≡ command_status report.finding
-  -- its ends are shown by its lists, its finding by its reason
-  pub truth : IsTrue (view_of (content program)) (told_reasons budget.solves) report
+  -- its ends are shown by its lists, its finding by its reason; and its counts are the program's
+  pub truth : IsTrue (seen program) (told_reasons budget.solves) report
+  pub counts : HasCounts (seen program) report
 
 -- What the texts of the files may come to: a report, or the first fault.
 abbrev pub MayBeSolvedOnTree : Budget → Texts → Status → List ℕ → Type 0

@@ -1,6 +1,7 @@
 //! The command `solve` on the files of a program of several periods.
 ghost use Rattle.std.specs.Prelude.{◌≡◌, IfOk};
 ghost use Rattle.scen_defs.specs.Program.{IsTree, content, view_of};
+ghost use Rattle.scen_defs.specs.Valid.{IsProgram};
 ghost use Rattle.command_words.specs.Views.{budget_view};
 ghost use Rattle.input_files.specs.Unfetched.{texts_view};
 ghost use Rattle.program_files.specs.Meant.{AreWithin, MeansProgram};
@@ -36,6 +37,7 @@ fn solved_program(
     budget: Budget,
 ) -> Result<Answer, Memory>
     requires means { MeansProgram (texts_view texts.now) (content program.now) }
+    requires keeps { IsProgram (content program.now) }
     requires tree { IsTree (view_of (content program.now)) }
     ensures { IfOk result (λ answer. PrintsTreeReport (budget_view budget) (texts_view texts.now) answer.output.items answer.status) }
 {

@@ -14,5 +14,6 @@ returns c = IfOk-weaker c.printed.result _
       text = h.0;
       told = h.1;
       truth = c.in_ok-report.ensures.truth c.requires.tree;
+      counts = c.in_ok-report.ensures.counts c.requires.keeps.small;
     })
     c.printed.ensures
