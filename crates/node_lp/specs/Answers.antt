@@ -30,14 +30,14 @@ pub record IsCutOf (t : Task) (kind : CutKind) (m : Weighed) (cut : Stored) : Ty
   pub made : IsMadeFrom t.datum (source_of cut) (uses_of cut) (constant_of cut) (form_of cut)
 
 -- its value at the trial is this
-pub record HasBound (t : Task) (value : ℚ) (m : Weighed) (cut : Stored) : Type 0 where
+pub record IsBoundAt (t : Task) (value : ℚ) (m : Weighed) (cut : Stored) : Type 0 where
   pub cut_of : IsCutOf t cut_kind.Bound m cut
   pub value_is : value_at_trial cut t.trial ≡ value
 
 -- there is a cut exactly where the children are priced
 abbrev pub HasCut : Task → ℚ → Weighed → Option Stored → Type 0
 HasCut t value m None = is_priced t.kind ≡ false
-HasCut t value m (Some cut) = HasBound t value m cut
+HasCut t value m (Some cut) = IsBoundAt t value m cut
 
 -- a point of the task's program and its value, over own columns, with multipliers and weights whose cut has this value at the trial
 pub record PointAnswer (t : Task) (x : List Entry) (value : ℚ) (cut : Option Stored) : Type 0 where

@@ -12,22 +12,11 @@ ghost use Rattle.cut_defs.specs.Data.{RowsRise};
 ghost use Rattle.node_lp.specs.Walk.{point_from, child_walk, children_from, total_walk, multipliers_from};
 
 use cut_defs::{ColumnBounds, Share};
+use cut_proof::push_nonzero;
 use frac128::{Form, FormFault, Frac, Memory, Passed, Term};
 use interval_form::{Part, Vector, limit_count, part_at, split, sum, value};
 use scen_defs::NodeRow;
 use std::alloc::Global;
-
-/// Adds a number, unless it is 0.
-pub(crate) fn push_nonzero(form: &mut Form, number: u64, value: Frac) -> Result<(), Memory>
-    requires { EndsBelow number form.old }
-    ensures value { OnOk result (form.new ≡ form.old ++ put number value []) }
-    ensures before { OnOk result (EndsBelow (suc number) form.new) }
-{
-    if value.is_zero() {
-        return Ok(());
-    }
-    form.push(number, value)
-}
 
 /// The multipliers of the own rows that aren't 0, by the number of the row.
 pub(crate) fn own_multipliers(

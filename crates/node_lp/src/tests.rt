@@ -1,10 +1,9 @@
 //! A node with one child, worked by hand: the child's column y costs 1, and x + y is at least 5.
 ghost use Rattle.std.specs.Prelude.{◌≡◌, ◌<◌, ◌^◌, length};
 
-use crate::ends::push_nonzero;
 use crate::{ChildCuts, Solved, Task, fits, solve_node};
 use cut_defs::{ColumnBounds, Share};
-use cut_proof::{NodeDatum, SharedCut};
+use cut_proof::{NodeDatum, SharedCut, push_nonzero};
 use frac128::{Form, Frac, Memory, print};
 use scen_defs::{Kind, NodeRow};
 use std::alloc::Global;
