@@ -53,7 +53,8 @@ lower_report report (Passes operation) = report
 
 abbrev pub ends_report : Report → Tested → Tested → Report
 ends_report blank upper lower =
-    lower_report (upper_report (record blank { finding = ends_finding (shown_number lower) (shown_number upper) blank.finding }) upper) lower
+    let told = ends_finding (shown_number lower) (shown_number upper) blank.finding in
+    lower_report (upper_report (record blank { finding = told }) upper) lower
 
 -- a ray that shows its number is INFEASIBLE
 abbrev pub ray_report : Report → Tested → Report

@@ -96,7 +96,8 @@ fn slope(program: &Program, direction: &Values) -> Result<Option<Frac>, Halt>
 /// The cost of a direction that is one.
 fn falling_cost(program: &Program, direction: &Values) -> Result<Option<Frac>, Halt>
     ensures { let d = at direction.now in
-        Gives direction.now (where_meets (direction_walk (seen program.now) d) (by_cost direction.now (cost_walk (seen program.now) d))) result }
+        let cost = by_cost direction.now (cost_walk (seen program.now) d) in
+        Gives direction.now (where_meets (direction_walk (seen program.now) d) cost) result }
 {
     if is_direction(program, direction)? {
         let slope = cost(program, direction)?;
