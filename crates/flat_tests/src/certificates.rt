@@ -26,8 +26,10 @@ ghost use Rattle.std.specs.Prelude.{◌<◌, ◌-◌, ◌^◌, length};
 use frac128::{Frac, parse};
 use mps_core::read_core;
 use one_period::solve_program;
+use proved_report::{Claim, Open, report};
 use scen_model::{
-    Finding, Program, Report, Values, cost, dual_value, feasible, fits, is_direction, zero_value,
+    Finding, Place, Program, Report, Values, cost, dual_value, feasible, fits, is_direction,
+    zero_value,
 };
 use smps_build::single;
 use std::alloc::Global;
@@ -420,19 +422,46 @@ fn is_unbounded(program: &Program, report: &Report, numbers: &str) -> Result<boo
     }
 }
 
-/// Whether a core file's report is so, and the flat calls show it.
+/// Whether a report is so, and the flat calls show it.
+fn is_shown(program: &Program, report: &Report, expected: &str) -> Result<bool, Fail> {
+    let (word, numbers) = expected.split_once(' ').ok_or("no numbers")?;
+    match (report.finding, word) {
+        (Finding::Optimal, "OPTIMAL") => is_optimal(program, report, numbers),
+        (Finding::Infeasible, "INFEASIBLE") => is_infeasible(program, report, numbers),
+        (Finding::Unbounded, "UNBOUNDED") => is_unbounded(program, report, numbers),
+        _ => Ok(false),
+    }
+}
+
+/// What a report's lists claim.
+fn claim_of(report: Report) -> Result<Claim, Fail> {
+    match report.finding {
+        Finding::Infeasible => {
+            let ray = report.ray.ok_or("no ray")?;
+            Ok(Claim::Nowhere { ray })
+        }
+        Finding::Unbounded => {
+            let policy = report.policy.ok_or("no policy")?;
+            let direction = report.direction.ok_or("no direction")?;
+            Ok(Claim::Endless { policy, direction })
+        }
+        _ => Ok(Claim::Ends {
+            policy: report.policy,
+            dual: report.dual,
+        }),
+    }
+}
+
+/// Whether a core file's report is so, and the flat calls show it; and the same of the report of its lists alone.
 fn agrees(alloc: Global, text: &str, expected: &str) -> Result<bool, Fail> {
     if text.len() > 1000 {
         return Err(Fail::from("a long core file"));
     }
-    let (program, report) = solved(alloc, text.as_bytes())?;
-    let (word, numbers) = expected.split_once(' ').ok_or("no numbers")?;
-    match (report.finding, word) {
-        (Finding::Optimal, "OPTIMAL") => is_optimal(&program, &report, numbers),
-        (Finding::Infeasible, "INFEASIBLE") => is_infeasible(&program, &report, numbers),
-        (Finding::Unbounded, "UNBOUNDED") => is_unbounded(&program, &report, numbers),
-        _ => Ok(false),
-    }
+    let (program, first) = solved(alloc, text.as_bytes())?;
+    let is_first = is_shown(&program, &first, expected)?;
+    let claim = claim_of(first)?;
+    let again = report(&program, 2, claim, Place::Cost(1), Open::Solves(1), 1)?;
+    Ok(is_first && is_shown(&program, &again, expected)?)
 }
 
 #[test]

@@ -96,7 +96,7 @@ fn scenario(alloc: Global, name: &str, last: u32) -> Result<Scenario, Fail> {
     })
 }
 
-fn cover(alloc: Global) -> Result<Program, Fail> {
+pub(crate) fn cover(alloc: Global) -> Result<Program, Fail> {
     let root = Node {
         stage: 0,
         parent: None,
@@ -121,7 +121,7 @@ fn cover(alloc: Global) -> Result<Program, Fail> {
 }
 
 /// The values of a row of a table.
-fn values(alloc: Global, text: &str) -> Result<Values, Fail> {
+pub(crate) fn values(alloc: Global, text: &str) -> Result<Values, Fail> {
     let mut values = Values::empty(alloc);
     for item in text.split(',') {
         if let Some((place, value)) = item.rsplit_once(' ') {
@@ -175,7 +175,7 @@ fn agrees_at_point(
 }
 
 /// Appends the value of multipliers, behind a blank.
-fn put(alloc: Global, value: Option<Frac>, line: &mut Vec<u8>) -> Result<(), Memory> {
+pub(crate) fn put(alloc: Global, value: Option<Frac>, line: &mut Vec<u8>) -> Result<(), Memory> {
     line.extend_from_slice(b" ")?;
     match value {
         Some(value) => frac128::print(alloc, value, line),

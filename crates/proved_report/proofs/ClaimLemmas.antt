@@ -17,7 +17,7 @@ use Rattle.proved_report.specs.declared.tested.Tested.{Tested}
 use Rattle.proved_report.specs.declared.tested.Tested.TheVariants.{Shows, Fails, Passes}
 use Rattle.proved_report.specs.Open.{given, finding_of}
 use Rattle.proved_report.specs.Tested.{or_before, policy_test, direction_test, ray_test, some_policy_test, some_dual_test}
-use Rattle.proved_report.specs.Reports.{IsFilled, IsClaimed, claimed_report, blank_report, ends_report, nowhere_report, endless_report}
+use Rattle.proved_report.specs.Reports.{IsFilled, IsClaimed, claimed_report, blank_report, ends_report, ray_report, falling_report}
 use Rattle.proved_report.proofs.ShownLemmas.{policy-shown, direction-shown, ray-shown, some-policy-shown, some-dual-shown, policy-names, direction-names, ray-names, some-policy-names, some-dual-names}
 use Rattle.proved_report.proofs.ReportLemmas.{IsLeftOpen, left-open, before-given, ends_true, ends_names, nowhere_true, nowhere_names, endless_true, endless_names}
 
@@ -59,12 +59,12 @@ ends_counts b (Passes p) (Shows l dual) = (refl, refl, refl)
 ends_counts b (Passes p) Fails = (refl, refl, refl)
 ends_counts b (Passes p) (Passes q) = (refl, refl, refl)
 
-nowhere_counts : (b : Report) (ray : Tested) → ((nowhere_report b ray).number ≡ b.number) × ((nowhere_report b ray).nodes ≡ b.nodes) × ((nowhere_report b ray).scenarios ≡ b.scenarios)
+nowhere_counts : (b : Report) (ray : Tested) → ((ray_report b ray).number ≡ b.number) × ((ray_report b ray).nodes ≡ b.nodes) × ((ray_report b ray).scenarios ≡ b.scenarios)
 nowhere_counts b (Shows q ray) = (refl, refl, refl)
 nowhere_counts b Fails = (refl, refl, refl)
 nowhere_counts b (Passes p) = (refl, refl, refl)
 
-endless_counts : (b : Report) (upper slope : Tested) → ((endless_report b upper slope).number ≡ b.number) × ((endless_report b upper slope).nodes ≡ b.nodes) × ((endless_report b upper slope).scenarios ≡ b.scenarios)
+endless_counts : (b : Report) (upper slope : Tested) → ((falling_report b upper slope).number ≡ b.number) × ((falling_report b upper slope).nodes ≡ b.nodes) × ((falling_report b upper slope).scenarios ≡ b.scenarios)
 endless_counts b (Shows u policy) (Shows q direction) = (refl, refl, refl)
 endless_counts b (Shows u policy) Fails = (refl, refl, refl)
 endless_counts b (Shows u policy) (Passes p) = (refl, refl, refl)
@@ -85,17 +85,17 @@ ends_claimed program number policy dual place why solves b r filled is e =
     record { is = e ∙ ap (λ (x : Report). ends_report x (some_policy_test program policy) (some_dual_test program dual)) (blank-by b r number _ filled.number_is nodes scenarios is) }
 
 pub nowhere_claimed : (program : Program) (number : ℕ) (ray : List At) (why : Open) (solves : ℕ) (b r : Report) → IsFilled program number b
-    → b ≡ blank_report b.number b.nodes b.scenarios (finding_of (or_before (ray_test program ray) Dual why) solves) → r ≡ nowhere_report b (ray_test program ray) → IsClaimed program number Dual why solves (Nowhere ray) r
+    → b ≡ blank_report b.number b.nodes b.scenarios (finding_of (or_before (ray_test program ray) Dual why) solves) → r ≡ ray_report b (ray_test program ray) → IsClaimed program number Dual why solves (Nowhere ray) r
 nowhere_claimed program number ray why solves b r filled is e =
     let counts = nowhere_counts b (ray_test program ray) in
     let nodes : r.nodes ≡ b.nodes = ap (λ (x : Report). x.nodes) e ∙ counts.1 in
     let scenarios : r.scenarios ≡ b.scenarios = ap (λ (x : Report). x.scenarios) e ∙ counts.2 in
-    record { is = e ∙ ap (λ (x : Report). nowhere_report x (ray_test program ray)) (blank-by b r number _ filled.number_is nodes scenarios is) }
+    record { is = e ∙ ap (λ (x : Report). ray_report x (ray_test program ray)) (blank-by b r number _ filled.number_is nodes scenarios is) }
 
 pub endless_claimed : (program : Program) (number : ℕ) (policy direction : List At) (place : Place) (why : Open) (solves : ℕ) (b r : Report) → IsFilled program number b
-    → b ≡ blank_report b.number b.nodes b.scenarios (finding_of (or_before (policy_test program policy) place (or_before (direction_test program direction) place why)) solves) → r ≡ endless_report b (policy_test program policy) (direction_test program direction) → IsClaimed program number place why solves (Endless policy direction) r
+    → b ≡ blank_report b.number b.nodes b.scenarios (finding_of (or_before (policy_test program policy) place (or_before (direction_test program direction) place why)) solves) → r ≡ falling_report b (policy_test program policy) (direction_test program direction) → IsClaimed program number place why solves (Endless policy direction) r
 endless_claimed program number policy direction place why solves b r filled is e =
     let counts = endless_counts b (policy_test program policy) (direction_test program direction) in
     let nodes : r.nodes ≡ b.nodes = ap (λ (x : Report). x.nodes) e ∙ counts.1 in
     let scenarios : r.scenarios ≡ b.scenarios = ap (λ (x : Report). x.scenarios) e ∙ counts.2 in
-    record { is = e ∙ ap (λ (x : Report). endless_report x (policy_test program policy) (direction_test program direction)) (blank-by b r number _ filled.number_is nodes scenarios is) }
+    record { is = e ∙ ap (λ (x : Report). falling_report x (policy_test program policy) (direction_test program direction)) (blank-by b r number _ filled.number_is nodes scenarios is) }

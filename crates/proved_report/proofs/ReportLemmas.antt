@@ -26,7 +26,7 @@ use Rattle.proved_report.specs.declared.tested.Tested.TheVariants.{Shows, Fails,
 use Rattle.proved_report.specs.Open.{given, finding_of}
 use Rattle.report_defs.specs.Seen.{seen}
 use Rattle.proved_report.specs.Tested.{or_before}
-use Rattle.proved_report.specs.Reports.{IsFilled, blank_report, ends_report, nowhere_report, endless_report}
+use Rattle.proved_report.specs.Reports.{IsFilled, blank_report, ends_report, ray_report, falling_report}
 use Rattle.proved_report.proofs.ShownLemmas.{IfShown, IsSlope, HasNames}
 use Rattle.proved_report.proofs.CountLemmas.{node_places, scenario_places}
 
@@ -107,7 +107,7 @@ module _ (v : View) (why : Reasons) where
     ends_true (Passes p) Fails high low = left_true None None None None tt tt
     ends_true (Passes p) (Passes q) high low = left_true None None None None tt tt
 
-    pub nowhere_true : (ray : Tested) → IfShown (ShowsNothing v) ray → IsTrue v why (nowhere_report (blank_report number nodes scenarios finding) ray)
+    pub nowhere_true : (ray : Tested) → IfShown (ShowsNothing v) ray → IsTrue v why (ray_report (blank_report number nodes scenarios finding) ray)
     nowhere_true (Shows q values) shown = record {
       lower = tt;
       upper = tt;
@@ -120,7 +120,7 @@ module _ (v : View) (why : Reasons) where
     nowhere_true (Passes p) shown = left_true None None None None tt tt
 
     unbounded_true : (tree : IsTree v) (upper slope : ℚ) (policy direction : List At) → ShowsUpper v upper policy → IsSlope v slope direction
-        → IsTrue v why (endless_report (blank_report number nodes scenarios finding) (Shows upper policy) (Shows slope direction))
+        → IsTrue v why (falling_report (blank_report number nodes scenarios finding) (Shows upper policy) (Shows slope direction))
     unbounded_true tree upper slope policy direction high falls = record {
       lower = tt;
       upper = high;
@@ -139,7 +139,7 @@ module _ (v : View) (why : Reasons) where
       extra = refl;
     }
 
-    pub endless_true : (tree : IsTree v) (upper slope : Tested) → IfShown (ShowsUpper v) upper → IfShown (IsSlope v) slope → IsTrue v why (endless_report (blank_report number nodes scenarios finding) upper slope)
+    pub endless_true : (tree : IsTree v) (upper slope : Tested) → IfShown (ShowsUpper v) upper → IfShown (IsSlope v) slope → IsTrue v why (falling_report (blank_report number nodes scenarios finding) upper slope)
     endless_true tree (Shows u policy) (Shows q direction) high falls = unbounded_true tree u q policy direction high falls
     endless_true tree (Shows u policy) Fails high falls = left_true None (Some u) None (Some policy) tt high
     endless_true tree (Shows u policy) (Passes p) high falls = left_true None (Some u) None (Some policy) tt high
@@ -162,12 +162,12 @@ module _ (program : Program) (number nodes scenarios : ℕ) (finding : Finding) 
   ends_names (Passes p) Fails high low = blank_names
   ends_names (Passes p) (Passes q) high low = blank_names
 
-  pub nowhere_names : (ray : Tested) → HasNames (length program.rows.items) ray → ListsHaveNames program (nowhere_report (blank_report number nodes scenarios finding) ray)
+  pub nowhere_names : (ray : Tested) → HasNames (length program.rows.items) ray → ListsHaveNames program (ray_report (blank_report number nodes scenarios finding) ray)
   nowhere_names (Shows q values) h = record { policy = tt; direction = tt; dual = tt; ray = h }
   nowhere_names Fails h = blank_names
   nowhere_names (Passes p) h = blank_names
 
-  pub endless_names : (upper slope : Tested) → HasNames (length program.columns.items) upper → HasNames (length program.columns.items) slope → ListsHaveNames program (endless_report (blank_report number nodes scenarios finding) upper slope)
+  pub endless_names : (upper slope : Tested) → HasNames (length program.columns.items) upper → HasNames (length program.columns.items) slope → ListsHaveNames program (falling_report (blank_report number nodes scenarios finding) upper slope)
   endless_names (Shows u policy) (Shows q direction) h k = record { policy = h; direction = k; dual = tt; ray = tt }
   endless_names (Shows u policy) Fails h k = record { policy = h; direction = tt; dual = tt; ray = tt }
   endless_names (Shows u policy) (Passes p) h k = record { policy = h; direction = tt; dual = tt; ray = tt }
@@ -187,12 +187,12 @@ module _ (program : Program) (number : ℕ) (blank : Report) (h : IsFilled progr
   ends_filled (Passes p) Fails = record { number_is = h.number_is; nodes = h.nodes; scenarios = h.scenarios }
   ends_filled (Passes p) (Passes q) = record { number_is = h.number_is; nodes = h.nodes; scenarios = h.scenarios }
 
-  pub nowhere_filled : (ray : Tested) → IsFilled program number (nowhere_report blank ray)
+  pub nowhere_filled : (ray : Tested) → IsFilled program number (ray_report blank ray)
   nowhere_filled (Shows q values) = record { number_is = h.number_is; nodes = h.nodes; scenarios = h.scenarios }
   nowhere_filled Fails = h
   nowhere_filled (Passes p) = h
 
-  pub endless_filled : (upper slope : Tested) → IsFilled program number (endless_report blank upper slope)
+  pub endless_filled : (upper slope : Tested) → IsFilled program number (falling_report blank upper slope)
   endless_filled (Shows u policy) (Shows q direction) = record { number_is = h.number_is; nodes = h.nodes; scenarios = h.scenarios }
   endless_filled (Shows u policy) Fails = record { number_is = h.number_is; nodes = h.nodes; scenarios = h.scenarios }
   endless_filled (Shows u policy) (Passes p) = record { number_is = h.number_is; nodes = h.nodes; scenarios = h.scenarios }

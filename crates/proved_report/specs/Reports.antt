@@ -12,7 +12,7 @@ use Rattle.scen_defs.specs.declared.report.Report.{Report}
 use Rattle.proved_report.specs.declared.tested.Tested.{Tested}
 use Rattle.proved_report.specs.declared.tested.Tested.TheVariants.{Shows, Fails, Passes}
 use Rattle.report_defs.specs.Seen.{seen}
-use Rattle.proved_report.specs.Tested.{number_of, or_before, policy_test, direction_test, ray_test, some_policy_test, some_dual_test}
+use Rattle.proved_report.specs.Tested.{shown_number, or_before, policy_test, direction_test, ray_test, some_policy_test, some_dual_test}
 use Rattle.proved_report.specs.declared.open.Open.{Open}
 use Rattle.proved_report.specs.declared.claim.Claim.{Claim}
 use Rattle.proved_report.specs.declared.claim.Claim.TheVariants.{Ends, Nowhere, Endless}
@@ -53,13 +53,14 @@ lower_report report (Passes operation) = report
 
 abbrev pub ends_report : Report → Tested → Tested → Report
 ends_report blank upper lower =
-    lower_report (upper_report (record blank { finding = ends_finding (number_of lower) (number_of upper) blank.finding }) upper) lower
+    let told = ends_finding (shown_number lower) (shown_number upper) blank.finding in
+    lower_report (upper_report (record blank { finding = told }) upper) lower
 
 -- a ray that shows its number is INFEASIBLE
-abbrev pub nowhere_report : Report → Tested → Report
-nowhere_report blank (Shows number ray) = record blank { finding = Infeasible; extra = Some number; ray = Some ray }
-nowhere_report blank Fails = blank
-nowhere_report blank (Passes operation) = blank
+abbrev pub ray_report : Report → Tested → Report
+ray_report blank (Shows number ray) = record blank { finding = Infeasible; extra = Some number; ray = Some ray }
+ray_report blank Fails = blank
+ray_report blank (Passes operation) = blank
 
 -- a direction that shows its cost is UNBOUNDED
 abbrev pub direction_report : Report → Tested → Report
@@ -68,10 +69,10 @@ direction_report report Fails = report
 direction_report report (Passes operation) = report
 
 -- a policy and a direction, or a policy alone
-abbrev pub endless_report : Report → Tested → Tested → Report
-endless_report blank (Shows upper policy) slope = direction_report (record blank { upper = Some upper; policy = Some policy }) slope
-endless_report blank Fails slope = blank
-endless_report blank (Passes operation) slope = blank
+abbrev pub falling_report : Report → Tested → Tested → Report
+falling_report blank (Shows upper policy) slope = direction_report (record blank { upper = Some upper; policy = Some policy }) slope
+falling_report blank Fails slope = blank
+falling_report blank (Passes operation) slope = blank
 
 -- The report of a claim, with these counts: ends that were tested; a ray; a policy and a direction. Where they leave it open, the
 -- first operation that passes is told, of a dual or a ray at Dual.
@@ -82,11 +83,11 @@ claimed_report program number nodes scenarios place why solves (Ends policy dual
     ends_report (blank_report number nodes scenarios (finding_of (or_before upper place (or_before lower Dual why)) solves)) upper lower
 claimed_report program number nodes scenarios place why solves (Nowhere ray) =
     let shown = ray_test program ray in
-    nowhere_report (blank_report number nodes scenarios (finding_of (or_before shown Dual why) solves)) shown
+    ray_report (blank_report number nodes scenarios (finding_of (or_before shown Dual why) solves)) shown
 claimed_report program number nodes scenarios place why solves (Endless policy direction) =
     let upper = policy_test program policy in
     let slope = direction_test program direction in
-    endless_report (blank_report number nodes scenarios (finding_of (or_before upper place (or_before slope place why)) solves)) upper slope
+    falling_report (blank_report number nodes scenarios (finding_of (or_before upper place (or_before slope place why)) solves)) upper slope
 
 -- this is the report of the claim
 pub record IsClaimed (program : Program) (number : ℕ) (place : Place) (why : Open) (solves : ℕ) (claim : Claim) (report : Report)

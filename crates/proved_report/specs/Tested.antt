@@ -84,10 +84,10 @@ Gives values tested (Err (halt.Passed place p)) = tested ≡ Passes p
 Gives values tested (Err halt.Memory) = Unit {0}
 
 -- the number that is shown
-abbrev pub number_of : Tested → Option ℚ
-number_of (Shows number values) = Some number
-number_of Fails = None
-number_of (Passes p) = None
+abbrev pub shown_number : Tested → Option ℚ
+shown_number (Shows number values) = Some number
+shown_number Fails = None
+shown_number (Passes p) = None
 
 -- why a report is left open where this test comes first
 abbrev pub or_before : Tested → Place → Open → Open

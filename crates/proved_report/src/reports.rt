@@ -7,8 +7,8 @@ ghost use Rattle.scen_defs.specs.Valid.{IsSmall};
 ghost use Rattle.report_defs.specs.Truth.{IsTrue, HasCounts};
 ghost use Rattle.proved_report.specs.Open.{given};
 ghost use Rattle.report_defs.specs.Seen.{seen};
-ghost use Rattle.proved_report.specs.Reports.{ends_finding, upper_report, lower_report, ends_report, nowhere_report};
-ghost use Rattle.proved_report.specs.Reports.{direction_report, endless_report, IsClaimed, IsFilled, IsBlank};
+ghost use Rattle.proved_report.specs.Reports.{ends_finding, upper_report, lower_report, ends_report, ray_report};
+ghost use Rattle.proved_report.specs.Reports.{direction_report, falling_report, IsClaimed, IsFilled, IsBlank};
 
 use crate::claim::Claim;
 use crate::counts::{live_nodes, scenario_count};
@@ -164,7 +164,7 @@ fn with_lower(report: Report, lower: Tested) -> Report
 
 /// The report with a ray, where that shows its number.
 fn with_ray(blank: Report, ray: Tested) -> Report
-    ensures { result ≡ nowhere_report blank ray }
+    ensures { result ≡ ray_report blank ray }
 {
     match ray {
         Tested::Shows(number, values) => Report {
@@ -179,7 +179,7 @@ fn with_ray(blank: Report, ray: Tested) -> Report
 
 /// The report with a policy and a direction, or with a policy alone.
 fn with_slope(blank: Report, upper: Tested, slope: Tested) -> Report
-    ensures { result ≡ endless_report blank upper slope }
+    ensures { result ≡ falling_report blank upper slope }
 {
     if upper.number().is_some() {
         with_direction(with_upper(blank, upper), slope)

@@ -8,7 +8,7 @@ ghost use Rattle.scen_model.specs.Walks.{cost_walk, dual_walk, feasible_walk, di
 ghost use Rattle.report_defs.specs.Seen.{seen};
 ghost use Rattle.proved_report.specs.declared.tested.Tested.{Tested as TestedOf};
 ghost use Rattle.proved_report.specs.Tested.{where_meets, where_above, by_cost, by_value, policy_test, dual_test};
-ghost use Rattle.proved_report.specs.Tested.{direction_test, ray_test, some_policy_test, some_dual_test, Gives, number_of, or_before};
+ghost use Rattle.proved_report.specs.Tested.{direction_test, ray_test, some_policy_test, some_dual_test, Gives, shown_number, or_before};
 
 use crate::open::Open;
 use frac128::{Frac, Memory, Passed};
@@ -96,7 +96,8 @@ fn slope(program: &Program, direction: &Values) -> Result<Option<Frac>, Halt>
 /// The cost of a direction that is one.
 fn falling_cost(program: &Program, direction: &Values) -> Result<Option<Frac>, Halt>
     ensures { let d = at direction.now in
-        Gives direction.now (where_meets (direction_walk (seen program.now) d) (by_cost direction.now (cost_walk (seen program.now) d))) result }
+        let cost = by_cost direction.now (cost_walk (seen program.now) d) in
+        Gives direction.now (where_meets (direction_walk (seen program.now) d) cost) result }
 {
     if is_direction(program, direction)? {
         let slope = cost(program, direction)?;
@@ -206,7 +207,7 @@ impl Tested {
 
     /// The number that is shown.
     pub(crate) fn number(&self) -> Option<Frac>
-        ensures { result ≡ number_of self.now }
+        ensures { result ≡ shown_number self.now }
     {
         match self {
             Tested::Shows(number, _) => Some(*number),

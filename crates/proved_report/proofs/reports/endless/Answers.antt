@@ -4,7 +4,7 @@ use Rattle.proved_report.specs.declared.open.Open.{Open}
 use Rattle.proved_report.specs.declared.tested.Tested.{Tested}
 use Rattle.proved_report.specs.Open.{finding_of}
 use Rattle.proved_report.specs.Tested.{or_before, policy_test, direction_test}
-use Rattle.proved_report.specs.Reports.{IsFilled, blank_report, endless_report}
+use Rattle.proved_report.specs.Reports.{IsFilled, blank_report, falling_report}
 use Rattle.proved_report.proofs.ReportLemmas.{endless_filled}
 use Rattle.proved_report.proofs.ClaimLemmas.{endless_claimed}
 use Rattle.proved_report.proofs.reports.endless.Goals as goal
@@ -18,4 +18,4 @@ returns-clause-exact c =
     let why_is : c.or_before-left.result ≡ (or_before (policy_test c.args.program.now c.args.policy) c.args.place (or_before (direction_test c.args.program.now c.args.direction) c.args.place c.args.why)) = c.or_before-left.ensures ∙ ap₂ (λ (t : Tested) (w : Open). or_before t c.args.place w) c.in_ok-upper.ensures inner in
     endless_claimed c.args.program.now c.args.number c.args.policy c.args.direction c.args.place c.args.why c.args.solves c.blank-blank.result c.with_slope.result c.blank-blank.ensures.filled
     (c.blank-blank.ensures.is ∙ ap (λ (f : Finding). blank_report c.blank-blank.result.number c.blank-blank.result.nodes c.blank-blank.result.scenarios f) (c.open_finding.ensures ∙ ap (λ (w : Open). finding_of w c.args.solves) why_is))
-    (c.with_slope.ensures ∙ ap₂ (λ (s t : Tested). endless_report c.blank-blank.result s t) c.in_ok-upper.ensures c.in_ok-slope.ensures)
+    (c.with_slope.ensures ∙ ap₂ (λ (s t : Tested). falling_report c.blank-blank.result s t) c.in_ok-upper.ensures c.in_ok-slope.ensures)
