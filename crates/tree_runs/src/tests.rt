@@ -16,6 +16,7 @@ use std::test::Fail;
 use trees::{COVER, COVER_CASES, COVER_PERIODS, TREES};
 
 /// A run: its words, its status, its files and what it prints.
+#[derive(Drop)]
 struct Case<'a> {
     words: &'a str,
     status: &'a str,
