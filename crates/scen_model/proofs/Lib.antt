@@ -5,3 +5,7 @@ pub mod CostEnds
 pub mod DualEnds
 pub mod FeasibleEnds
 pub mod ContentLemmas
+pub mod Gathers
+pub mod BelowLemmas
+pub mod Reduces
+pub mod QuickLemmas

@@ -35,7 +35,12 @@ derived_bound Recession absent bound = zero_bound absent bound
 derived_bound Cost absent bound = bound
 
 abbrev pub derived_column : Kind → Column → Column
-derived_column kind c = record { name = c.name; stage = c.stage; lower = derived_bound kind (neg_ℚ one_ℚ) c.lower; upper = derived_bound kind one_ℚ c.upper }
+derived_column kind c = record {
+  name = c.name;
+  stage = c.stage;
+  lower = derived_bound kind (neg_ℚ one_ℚ) c.lower;
+  upper = derived_bound kind one_ℚ c.upper;
+}
 
 abbrev pub derived_row : Kind → NodeRow → NodeRow
 derived_row kind r = record { row = r.row; entries = r.entries; low = derived_end kind r.low; high = derived_end kind r.high }

@@ -1,4 +1,5 @@
 pub mod Walks
+pub mod Gathered
 pub mod Answers
 pub mod Laws
 pub mod Derived

@@ -44,7 +44,8 @@ totals_walk v (n ∷ ns) = then_walk (total_walk v n) (λ t. totals_walk v ns)
 
 -- s and, for a node with these costs and values, the total times the cost of the values
 abbrev pub cost_step : List Scenario → List Entry → (ℕ → ℚ) → ℕ → ℚ → Result ℚ Operation
-cost_step scenarios costs x n s = then_walk (product_from x zero_ℚ costs) (λ c. then_walk (total_from n zero_ℚ scenarios) (λ t. add_product_walk s t c))
+cost_step scenarios costs x n s =
+    then_walk (product_from x zero_ℚ costs) (λ c. then_walk (total_from n zero_ℚ scenarios) (λ t. add_product_walk s t c))
 
 abbrev pub costs_walk : View → (ℕ → ℕ → ℚ) → Result ℚ Operation
 costs_walk v x = fold_walk (λ s n. cost_step v.scenarios (v.cost n) (x n) n s) zero_ℚ v.live
@@ -148,7 +149,9 @@ test false = Err Decided
 -- the rows of a node where the columns along its path have the values x
 abbrev pub rows_test : (Option ℚ → Option ℚ) → (ℕ → ℚ) → List NodeRow → Result (Unit {0}) Stop
 rows_test ends x [] = Ok tt
-rows_test ends x (r ∷ rs) = then_walk (stopping (product_from x zero_ℚ r.entries)) (λ s. then_walk (test (is_between (ends r.low) (ends r.high) s)) (λ _. rows_test ends x rs))
+rows_test ends x (r ∷ rs) =
+    then_walk (stopping (product_from x zero_ℚ r.entries))
+    (λ s. then_walk (test (is_between (ends r.low) (ends r.high) s)) (λ _. rows_test ends x rs))
 
 abbrev pub all_rows_test : (Option ℚ → Option ℚ) → View → (ℕ → ℕ → ℚ) → Result (Unit {0}) Stop
 all_rows_test ends v x = fold_walk (λ _ n. rows_test ends (along v x n) (v.rows n)) tt v.live

@@ -1,7 +1,8 @@
 // The form of a program that a run solves.
 ghost use Rattle.std.specs.Prelude.{◌≡◌, IfOk, map};
 ghost use Rattle.scen_defs.specs.Program.{content, node_content, place_content, nodes_content, scenario_content, scenarios_content};
-ghost use Rattle.scen_model.specs.Derived.{derived, derived_bound, derived_column, derived_cost, derived_end, derived_node, derived_place, derived_row};
+ghost use Rattle.scen_model.specs.Derived.{derived, derived_bound, derived_column, derived_cost};
+ghost use Rattle.scen_model.specs.Derived.{derived_end, derived_node, derived_place, derived_row};
 
 use frac128::{Form, Frac, Memory};
 use scen_defs::{Column, Kind, Node, NodeRow, Program, Row, Scenario};

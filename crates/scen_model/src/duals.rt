@@ -6,14 +6,18 @@ ghost use Rattle.scen_defs.specs.Program.{content, view_of};
 ghost use Rattle.scen_defs.specs.Flat.{without_costs, is_above};
 ghost use Rattle.scen_defs.specs.Lists.{pick};
 ghost use Rattle.scen_model.specs.Answers.{AnswersOption};
-ghost use Rattle.scen_model.specs.Walks.{costs_of, rows_from, all_rows, less_from, less_all, reduced_walk, bound_step, columns_step, all_columns, dual_by, dual_walk};
+ghost use Rattle.scen_model.specs.Walks.{costs_of, rows_from, all_rows, less_from, less_all, reduced_walk};
+ghost use Rattle.scen_model.specs.Walks.{bound_step, columns_step, all_columns, dual_by, dual_walk};
 
 use crate::ends::add_worth;
+use crate::quick::quick_value;
 use crate::stop::Stop;
 use crate::totals::{total, totals};
 use crate::tree::{Costs, cost_at, is_above, stage};
+use crate::unfinished::Ended;
 use frac128::{Frac, Passed};
 use scen_defs::{Halt, NodeRow, Place, Program, Values};
+use std::alloc::Global;
 
 /// The sum, and row by row the multiplier times the end that it uses.
 fn add_rows(rows: &[NodeRow], values: &Values, node: u64, start: Frac) -> Result<Frac, Stop>
@@ -28,7 +32,7 @@ fn add_rows(rows: &[NodeRow], values: &Values, node: u64, start: Frac) -> Result
 }
 
 /// The rows of all nodes.
-fn add_all_rows(program: &Program, values: &Values) -> Result<Frac, Stop>
+pub(crate) fn add_all_rows(program: &Program, values: &Values) -> Result<Frac, Stop>
     ensures { result ≡ all_rows (view_of (content program.now)) (at values.now) }
 {
     let mut sum = Frac::zero();
@@ -68,7 +72,8 @@ fn less_node(
     column: u64,
     start: Frac,
 ) -> Result<Frac, Passed>
-    ensures { result ≡ pick (is_above (view_of (content program.now)) top node) (less_from column (at values.now node) start rows.now) (Ok start) }
+    ensures { let v = view_of (content program.now) in
+        result ≡ pick (is_above v top node) (less_from column (at values.now node) start rows.now) (Ok start) }
 {
     if is_above(program, top, node) {
         less_rows(rows, values, node, column, start)
@@ -104,7 +109,7 @@ fn reduced(
     node: u64,
     column: u64,
 ) -> Result<Frac, Passed>
-    ensures { result ≡ reduced_walk (costs_of costs (view_of (content program.now))) (view_of (content program.now)) (at values.now) node column }
+    ensures { let v = view_of (content program.now) in result ≡ reduced_walk (costs_of costs v) v (at values.now) node column }
 {
     let total = total(&program.scenarios, node)?;
     let start = total.mul(cost_at(program, costs, node, column))?;
@@ -122,7 +127,8 @@ fn add_column(
     upper: Option<Frac>,
     sum: Frac,
 ) -> Result<Frac, Stop>
-    ensures { result ≡ bound_step (reduced_walk (costs_of costs (view_of (content program.now))) (view_of (content program.now)) (at values.now) node column) lower upper sum }
+    ensures { let v = view_of (content program.now) in
+        result ≡ bound_step (reduced_walk (costs_of costs v) v (at values.now) node column) lower upper sum }
 {
     let reduced = reduced(program, costs, values, node, column)?;
     add_worth(lower, upper, reduced, sum)
@@ -136,7 +142,7 @@ fn add_columns(
     node: u64,
     start: Frac,
 ) -> Result<Frac, Stop>
-    ensures { result ≡ columns_step (costs_of costs (view_of (content program.now))) (view_of (content program.now)) (at values.now) start node }
+    ensures { let v = view_of (content program.now) in result ≡ columns_step (costs_of costs v) v (at values.now) start node }
 {
     let stage = stage(program, node);
     let mut sum = start;
@@ -177,13 +183,30 @@ fn add_all_columns(
     Ok(sum)
 }
 
-/// The totals, then the rows, then the columns.
-fn value_by(program: &Program, costs: Costs, values: &Values) -> Result<Frac, Stop>
+/// The totals, then the rows, then the columns, each total and each reduced cost by itself.
+fn value_by_walk(program: &Program, costs: Costs, values: &Values) -> Result<Frac, Stop>
     ensures { result ≡ dual_by (costs_of costs (view_of (content program.now))) (view_of (content program.now)) (at values.now) }
 {
     totals(program)?;
     let sum = add_all_rows(program, values)?;
     add_all_columns(program, costs, values, sum)
+}
+
+/// The same, with all totals at once and with all reduced costs of a node at once.
+fn value_by(
+    alloc: Global,
+    program: &Program,
+    costs: Costs,
+    values: &Values,
+) -> Result<Option<Frac>, Halt>
+    ensures { let v = view_of (content program.now) in AnswersOption (dual_by (costs_of costs v) v (at values.now)) result }
+{
+    match quick_value(alloc, program, costs, values) {
+        Ok(sum) => Ok(Some(sum)),
+        Err(Ended::Decided) => Ok(None),
+        Err(Ended::Walk) => answer(value_by_walk(program, costs, values)),
+        Err(Ended::Memory) => Err(Halt::Memory),
+    }
 }
 
 /// What multipliers are worth: by node and row the multiplier times the end of the row's interval that
@@ -194,17 +217,17 @@ fn value_by(program: &Program, costs: Costs, values: &Values) -> Result<Frac, St
 /// node and row, over the rows of the node and of all nodes below it. The totals by node come first.
 /// `None` comes exactly where a used end is not finite and no operation before it passes. `Passed` has
 /// place `Check` and names the first operation that passes.
-pub fn dual_value(program: &Program, dual: &Values) -> Result<Option<Frac>, Halt>
+pub fn dual_value(alloc: Global, program: &Program, dual: &Values) -> Result<Option<Frac>, Halt>
     ensures { AnswersOption (dual_walk (view_of (content program.now)) (at dual.now)) result }
 {
-    answer(value_by(program, Costs::Own, dual))
+    value_by(alloc, program, Costs::Own, dual)
 }
 
 /// What multipliers are worth where all costs are 0; else as `dual_value`.
-pub fn zero_value(program: &Program, ray: &Values) -> Result<Option<Frac>, Halt>
+pub fn zero_value(alloc: Global, program: &Program, ray: &Values) -> Result<Option<Frac>, Halt>
     ensures { AnswersOption (dual_walk (without_costs (view_of (content program.now))) (at ray.now)) result }
 {
-    answer(value_by(program, Costs::Zero, ray))
+    value_by(alloc, program, Costs::Zero, ray)
 }
 
 fn answer(value: Result<Frac, Stop>) -> Result<Option<Frac>, Halt>

@@ -1,6 +1,6 @@
 // Tests of numbers, and the end of an interval that a multiplier uses.
-ghost use Rattle.std.specs.Prelude.{◌≡◌};
-ghost use Rattle.rationals.specs.Rational.{at_most};
+ghost use Rattle.std.specs.Prelude.{◌≡◌, slice_index_or};
+ghost use Rattle.rationals.specs.Rational.{at_most, zero_ℚ};
 ghost use Rattle.scen_defs.specs.Ends.{used_end};
 ghost use Rattle.scen_model.specs.Walks.{worth_step};
 
@@ -11,6 +11,17 @@ pub(crate) fn is_at_most(a: Frac, b: Frac) -> bool
     ensures { result ≡ at_most a b }
 {
     a <= b
+}
+
+/// The number at a place, 0 where there is none.
+pub(crate) fn number_at(numbers: &[Frac], place: usize) -> Frac
+    ensures { result ≡ slice_index_or numbers.now place zero_ℚ }
+{
+    if place < numbers.len() {
+        numbers[place]
+    } else {
+        Frac::zero()
+    }
 }
 
 /// The low end for a multiplier above 0, the high end below 0, and 0 for 0.

@@ -1,18 +1,21 @@
 // Whether a policy meets all rows and bounds.
-ghost use Rattle.std.specs.Prelude.{◌≡◌, Ok, Err, true, false};
+ghost use Rattle.std.specs.Prelude.{◌≡◌, Ok, Err, true, false, IfOk};
 ghost use Rattle.rationals.specs.Rational.{zero_ℚ};
 ghost use Rattle.scen_defs.specs.Values.{at};
 ghost use Rattle.scen_defs.specs.Flat.{along};
 ghost use Rattle.scen_defs.specs.Program.{content, view_of};
 ghost use Rattle.scen_model.specs.Answers.{AnswersTest};
-ghost use Rattle.scen_model.specs.Walks.{product_from, end_of, is_between, test, rows_test, all_rows_test, bounds_test, all_bounds_test, meets_walk, feasible_walk, direction_walk};
+ghost use Rattle.scen_model.specs.Walks.{product_from, end_of, is_between, test, rows_test, all_rows_test};
+ghost use Rattle.scen_model.specs.Walks.{bounds_test, all_bounds_test, meets_walk, feasible_walk, direction_walk};
+ghost use Rattle.scen_model.specs.Gathered.{falls_walk};
 
 use crate::costs::cost_of;
 use crate::ends::is_at_most;
 use crate::stop::Stop;
 use crate::tree::{home, stage};
-use frac128::{Frac, Passed, Term};
+use frac128::{Frac, Memory, Passed, Term};
 use scen_defs::{Halt, NodeRow, Place, Program, Values};
+use std::alloc::Global;
 
 /// Which ends of intervals count.
 #[derive(Clone, Copy)]
@@ -137,20 +140,36 @@ fn test_all(program: &Program, ends: Ends, values: &Values) -> Result<(), Stop>
     test_all_rows(program, ends, values)
 }
 
-/// The bounds and rows with zero ends, and then the cost.
-fn test_direction(program: &Program, values: &Values) -> Result<(), Stop>
-    ensures { result ≡ direction_walk (view_of (content program.now)) (at values.now) }
+/// The cost, and whether it is below 0.
+fn test_cost(alloc: Global, program: &Program, values: &Values) -> Result<Result<(), Stop>, Memory>
+    ensures { IfOk result (λ tested. tested ≡ falls_walk (view_of (content program.now)) (at values.now)) }
 {
-    test_all(program, Ends::Zero, values)?;
-    let cost = cost_of(program, values)?;
-    test(!is_at_most(Frac::zero(), cost))
+    match cost_of(alloc, program, values) {
+        Ok(Ok(cost)) => Ok(test(!is_at_most(Frac::zero(), cost))),
+        Ok(Err(passed)) => Ok(Err(Stop::Passed(passed))),
+        Err(memory) => Err(memory),
+    }
+}
+
+/// The bounds and rows with zero ends, and then the cost.
+fn test_direction(
+    alloc: Global,
+    program: &Program,
+    values: &Values,
+) -> Result<Result<(), Stop>, Memory>
+    ensures { IfOk result (λ tested. tested ≡ direction_walk (view_of (content program.now)) (at values.now)) }
+{
+    match test_all(program, Ends::Zero, values) {
+        Ok(()) => test_cost(alloc, program, values),
+        Err(stop) => Ok(Err(stop)),
+    }
 }
 
 /// Whether every value lies in its bounds, and every row's sum along the path in its interval.
 ///
 /// First come the bounds, which take no operation; then the rows by node and row, the sum of each by column.
 /// What comes first decides: a test that fails, or an operation that passes. `Passed` has place `Check`.
-pub fn feasible(program: &Program, policy: &Values) -> Result<bool, Halt>
+pub fn feasible(_alloc: Global, program: &Program, policy: &Values) -> Result<bool, Halt>
     ensures { AnswersTest (feasible_walk (view_of (content program.now)) (at policy.now)) result }
 {
     answer(test_all(program, Ends::Own, policy))
@@ -160,10 +179,13 @@ pub fn feasible(program: &Program, policy: &Values) -> Result<bool, Halt>
 ///
 /// In the order of `feasible` and then of `cost`; what comes first decides, a test that fails or an
 /// operation that passes. `Passed` has place `Check`.
-pub fn is_direction(program: &Program, direction: &Values) -> Result<bool, Halt>
+pub fn is_direction(alloc: Global, program: &Program, direction: &Values) -> Result<bool, Halt>
     ensures { AnswersTest (direction_walk (view_of (content program.now)) (at direction.now)) result }
 {
-    answer(test_direction(program, direction))
+    match test_direction(alloc, program, direction) {
+        Ok(tested) => answer(tested),
+        Err(_memory) => Err(Halt::Memory),
+    }
 }
 
 fn answer(tested: Result<(), Stop>) -> Result<bool, Halt>

@@ -20,7 +20,7 @@ fn is_row_of(rows: &[Row], stage: u32, row: u64) -> bool
     }
 }
 
-fn is_column_of(columns: &[Column], stage: u32, column: u64) -> bool
+pub(crate) fn is_column_of(columns: &[Column], stage: u32, column: u64) -> bool
     ensures { result ≡ passes_at (λ (c : ColumnOf). eqb c.stage stage) column columns.now }
 {
     let place = column as usize;

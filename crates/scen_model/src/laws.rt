@@ -1,6 +1,7 @@
 // What holds of every program: weak duality, and what certificates show.
 ghost use Rattle.scen_defs.specs.Cover.{CoverLaws};
-ghost use Rattle.scen_defs.specs.Laws.{WeakDuality, InfeasibilityShown, UnboundednessShown, ProgramsAreTrees, RecessionsAreTrees, RecessionMakesGood};
+ghost use Rattle.scen_defs.specs.Laws.{WeakDuality, InfeasibilityShown, UnboundednessShown};
+ghost use Rattle.scen_defs.specs.Laws.{ProgramsAreTrees, RecessionsAreTrees, RecessionMakesGood};
 ghost use Rattle.scen_model.specs.Laws.{CostLaw, DualLaws, FeasibleLaws, DirectionLaws};
 
 /// A small program on a tree, worked out: it is a program, its policy costs 5 and its dual is worth 5.

@@ -1,6 +1,7 @@
 //! What points and multipliers of a program on a tree cost, meet and are worth.
 #![tactic(auto)]
 
+mod below;
 mod costs;
 mod derived;
 mod duals;
@@ -8,9 +9,12 @@ mod ends;
 mod feasibility;
 mod fitting;
 mod laws;
+mod quick;
+mod reduced;
 mod stop;
 mod totals;
 mod tree;
+mod unfinished;
 
 pub use costs::cost;
 pub use derived::derive;

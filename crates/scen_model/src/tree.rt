@@ -12,7 +12,8 @@ use scen_defs::{Column, Node, Program};
 /// The node of that number, where it is live.
 pub(crate) fn find(nodes: &[Option<Node>], node: u64) -> Option<&Node>
     ensures live { is_some result ≡ passes_at is_live node (nodes_content nodes.now) }
-    ensures node { MatchOption result (node_at (nodes_content nodes.now) node ≡ no_node) (λ found. node_at (nodes_content nodes.now) node ≡ node_content found.now) }
+    ensures node { MatchOption result
+        (node_at (nodes_content nodes.now) node ≡ no_node) (λ found. node_at (nodes_content nodes.now) node ≡ node_content found.now) }
 {
     let place = node as usize;
     if place >= nodes.len() {
@@ -35,7 +36,7 @@ pub(crate) fn stage(program: &Program, node: u64) -> u32
 }
 
 /// The parent's number, 0 where there is none.
-fn parent(program: &Program, node: u64) -> u64
+pub(crate) fn parent(program: &Program, node: u64) -> u64
     ensures { result ≡ (view_of (content program.now)).parent node }
 {
     match find(&program.nodes, node) {
