@@ -1,11 +1,13 @@
 //! The pools of all nodes: one bank for the Feasible and Cost runs, one for the Recession run.
+ghost use Rattle.std.specs.Prelude.{◌<◌, ◌-◌, ◌^◌};
 
-use crate::frame::Frame;
-use cut_pool::{Offer, Pool, SharedCut};
+use cut_defs::{Due, Part, Touch};
+use cut_pool::{Offer, Pool, SharedCut, Swept};
 use frac128::{Form, Memory};
 use node_lp::ChildCuts;
 use pass_table::Reading;
-use scen_defs::Kind;
+use run_data::Frame;
+use scen_defs::{Kind, Program};
 use std::alloc::Global;
 
 /// The pools of all nodes for one kind of runs, and their numbers.
@@ -29,6 +31,23 @@ pub(crate) struct Read {
     pub(crate) readings: Vec<Reading>,
 }
 
+/// Sweeps a touch from a pool, with its shift where it has one. The cuts that rest on it go, or are repaired.
+fn swept(alloc: Global, pool: &mut Pool, due: &Due) -> Result<Swept, Memory>
+    requires { pool.old.number < 2 ^ 64 - 1 }
+{
+    match due.shift {
+        Some(shift) if shift.version > 0 => {
+            let touch = Touch {
+                node: shift.node,
+                part: Part::Rows,
+                version: shift.version,
+            };
+            pool.sweep(alloc, touch, Some(shift))
+        }
+        _ => pool.sweep(alloc, due.touch, None),
+    }
+}
+
 impl Bank {
     fn empty(alloc: Global, nodes: u32) -> Result<Bank, Memory> {
         let mut pools = Vec::new(alloc);
@@ -38,6 +57,36 @@ impl Bank {
             numbers.push(0)?;
         }
         Ok(Bank { pools, numbers })
+    }
+
+    /// There are pools for so many nodes from now on; those of nodes that were dropped are empty.
+    fn fit(&mut self, alloc: Global, program: &Program, nodes: u32) -> Result<(), Memory> {
+        for (node, place) in (0..nodes).zip(&program.nodes) {
+            let index = node as usize;
+            if index >= self.pools.len() || index >= self.numbers.len() {
+                self.pools.push(Pool::empty(alloc, node))?;
+                self.numbers.push(0)?;
+            } else if place.is_none() {
+                self.pools[index] = Pool::empty(alloc, node);
+                self.numbers[index] = 0;
+            }
+        }
+        Ok(())
+    }
+
+    /// Sweeps a touch from the pool of a node. False where that can't be done, which never comes.
+    fn sweep(&mut self, alloc: Global, due: &Due) -> Result<bool, Memory> {
+        let place = due.pool as usize;
+        if place >= self.pools.len() || place >= self.numbers.len() {
+            return Ok(false);
+        }
+        let pool = &mut self.pools[place];
+        if pool.number() == u64::MAX {
+            return Ok(false);
+        }
+        swept(alloc, pool, due)?;
+        self.numbers[place] = pool.number();
+        Ok(true)
     }
 
     /// The pools of some children, as they are.
@@ -101,6 +150,25 @@ impl Banks {
             plain: Bank::empty(alloc, nodes)?,
             cone: Bank::empty(alloc, nodes)?,
         })
+    }
+
+    /// There are pools for so many nodes from now on; those of nodes that were dropped are empty.
+    pub(crate) fn fit(
+        &mut self,
+        alloc: Global,
+        program: &Program,
+        nodes: u32,
+    ) -> Result<(), Memory> {
+        self.plain.fit(alloc, program, nodes)?;
+        self.cone.fit(alloc, program, nodes)
+    }
+
+    /// Sweeps a touch from a pool of its bank. False where that can't be done, which never comes.
+    pub(crate) fn sweep(&mut self, alloc: Global, due: &Due) -> Result<bool, Memory> {
+        match due.bank {
+            cut_defs::Bank::Plain => self.plain.sweep(alloc, due),
+            cut_defs::Bank::Cone => self.cone.sweep(alloc, due),
+        }
     }
 
     /// The bank of a run of this kind.

@@ -6,7 +6,7 @@ use cut_proof::SharedCut;
 use dual_assemble::assemble;
 use frac128::{FormFault, Memory};
 use proved_report::{Claim, Open};
-use scen_defs::{Kind, Place, Values};
+use scen_defs::{Kind, Place, Value, Values};
 use std::alloc::Global;
 
 /// Why nothing is left to find.
@@ -41,7 +41,7 @@ enum Multipliers {
 impl State {
     /// How many solves there were.
     pub fn commits(&self) -> u64 {
-        self.commits
+        self.counts.all
     }
 
     /// Whether nothing is left to find, and why. The first case that holds is told.
@@ -54,7 +54,7 @@ impl State {
             Some(Settled::Optimal)
         } else if self.stop.is_some() {
             Some(Settled::Stopped)
-        } else if self.commits >= self.budget.solves {
+        } else if self.counts.since_report >= self.budget.solves {
             Some(Settled::Spent)
         } else {
             None
@@ -69,21 +69,36 @@ impl State {
         }
     }
 
+    /// Whether an edit may come, before which so many solves are asked for.
+    pub fn is_ripe(&self, work: u64) -> bool {
+        self.counts.since_item >= work || self.settled().is_some()
+    }
+
+    /// What was found, with the lists that show it. The next report may take as many solves again; what stopped the method stays only
+    /// where no later step of the run would do it again.
+    pub fn close(&mut self, alloc: Global) -> Result<Closed, Memory> {
+        let closed = self.found(alloc)?;
+        self.stop = self.lasting;
+        self.counts.since_report = 0;
+        self.counts.since_item = 0;
+        Ok(closed)
+    }
+
     /// What was found, with the lists that show it.
-    pub fn close(self, alloc: Global) -> Result<Closed, Memory> {
+    fn found(&self, alloc: Global) -> Result<Closed, Memory> {
         let why = self.why();
         match self.settled() {
-            Some(Settled::Infeasible) => nowhere(alloc, self.ends, why),
-            Some(Settled::Unbounded) => Ok(endless(self.ends, why)),
+            Some(Settled::Infeasible) => nowhere(alloc, &self.ends, why),
+            Some(Settled::Unbounded) => endless(alloc, &self.ends, why),
             Some(Settled::Optimal | Settled::Stopped | Settled::Spent) | None => {
-                between(alloc, self.ends, why)
+                between(alloc, &self.ends, why)
             }
         }
     }
 }
 
 /// The multipliers of a cut.
-fn multipliers_of(alloc: Global, cut: Option<SharedCut>) -> Result<Multipliers, Memory> {
+fn multipliers_of(alloc: Global, cut: Option<&SharedCut>) -> Result<Multipliers, Memory> {
     let Some(cut) = cut else {
         return Ok(Multipliers::Found(None));
     };
@@ -110,8 +125,8 @@ fn ends_of(policy: Option<Values>, dual: Option<Values>, why: Open) -> Closed {
 }
 
 /// What shows that no point is feasible.
-fn nowhere(alloc: Global, ends: Ends, why: Open) -> Result<Closed, Memory> {
-    match multipliers_of(alloc, ends.nowhere)? {
+fn nowhere(alloc: Global, ends: &Ends, why: Open) -> Result<Closed, Memory> {
+    match multipliers_of(alloc, ends.nowhere.as_ref())? {
         Multipliers::Found(Some(ray)) => Ok(Closed {
             claim: Claim::Nowhere { ray },
             why,
@@ -122,38 +137,50 @@ fn nowhere(alloc: Global, ends: Ends, why: Open) -> Result<Closed, Memory> {
 }
 
 /// What shows that the cost falls for ever.
-fn endless(ends: Ends, why: Open) -> Closed {
-    let policy = policy_of(ends.upper);
-    let direction = policy_of(ends.direction);
+fn endless(alloc: Global, ends: &Ends, why: Open) -> Result<Closed, Memory> {
+    let policy = policy_of(alloc, &ends.upper)?;
+    let direction = policy_of(alloc, &ends.direction)?;
     match (policy, direction) {
-        (Some(policy), Some(direction)) => Closed {
+        (Some(policy), Some(direction)) => Ok(Closed {
             claim: Claim::Endless { policy, direction },
             why,
-        },
-        (policy, None) => ends_of(policy, None, why),
-        (None, Some(_direction)) => ends_of(None, None, why),
+        }),
+        (policy, None) => Ok(ends_of(policy, None, why)),
+        (None, Some(_direction)) => Ok(ends_of(None, None, why)),
     }
 }
 
 /// What shows the ends that are known.
-fn between(alloc: Global, ends: Ends, why: Open) -> Result<Closed, Memory> {
-    let policy = policy_of(ends.upper);
-    match multipliers_of(alloc, cut_of(ends.lower))? {
+fn between(alloc: Global, ends: &Ends, why: Open) -> Result<Closed, Memory> {
+    let policy = policy_of(alloc, &ends.upper)?;
+    match multipliers_of(alloc, cut_of(&ends.lower))? {
         Multipliers::Found(dual) => Ok(ends_of(policy, dual, why)),
         Multipliers::Not(passed) => Ok(ends_of(policy, None, passed)),
     }
 }
 
-fn policy_of(found: Option<Priced>) -> Option<Values> {
+fn policy_of(alloc: Global, found: &Option<Priced>) -> Result<Option<Values>, Memory> {
     match found {
-        Some(found) => Some(found.policy),
-        None => None,
+        Some(found) => Ok(Some(copied(alloc, &found.policy)?)),
+        None => Ok(None),
     }
 }
 
-fn cut_of(found: Option<Bounded>) -> Option<SharedCut> {
+/// The same numbers once more.
+fn copied(alloc: Global, values: &Values) -> Result<Values, Memory> {
+    let mut copy = Values::empty(alloc);
+    for item in values.items() {
+        let Value { node, index, value } = *item;
+        if copy.ends_before(node, index) && !value.is_zero() {
+            copy.push(node, index, value)?;
+        }
+    }
+    Ok(copy)
+}
+
+fn cut_of(found: &Option<Bounded>) -> Option<&SharedCut> {
     match found {
-        Some(found) => Some(found.cut),
+        Some(found) => Some(&found.cut),
         None => None,
     }
 }

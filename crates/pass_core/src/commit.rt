@@ -25,7 +25,7 @@ impl State {
         begun: &Begun,
         solved: Solved,
     ) -> Result<(), Memory> {
-        self.commits = self.commits.saturating_add(1);
+        self.counts.raise();
         match solved {
             Solved::Point { point, value, cut } => {
                 self.point(node, begun, point, value, cut)?;
@@ -33,14 +33,14 @@ impl State {
             }
             Solved::NoPoint { cut } => self.no_point(node, begun, cut),
             Solved::PivotsEnded => {
-                self.left_open(Open::Pivots(self.commits));
+                self.left_open(Open::Pivots(self.counts.all));
                 Ok(())
             }
             Solved::Passed { in_cut, passed } => {
                 let place = if in_cut {
-                    Place::Cut(self.commits)
+                    Place::Cut(self.counts.all)
                 } else {
-                    Place::Solve(self.commits)
+                    Place::Solve(self.counts.all)
                 };
                 self.left_open(Open::Passed(place, passed));
                 Ok(())
@@ -142,7 +142,7 @@ impl State {
             Offer::Added => true,
             Offer::NotNeeded(_) => false,
             Offer::Passed(passed) => {
-                self.stop_at(Open::Passed(Place::Cut(self.commits), passed));
+                self.stop_for_run(Open::Passed(Place::Cut(self.counts.all), passed));
                 false
             }
             Offer::Stale { .. } => {
@@ -172,7 +172,7 @@ impl State {
                 if self.kind == Kind::Recession {
                     self.ends.direction = None;
                 }
-                self.stop_at(Open::Passed(Place::Cost(self.commits), passed));
+                self.stop_for_run(Open::Passed(Place::Cost(self.counts.all), passed));
                 Ok(())
             }
         }

@@ -1,8 +1,8 @@
 //! The table of what is fresh, for one worker.
 
-use crate::frame::Frame;
 use frac128::Memory;
 use pass_table::{Reading, Table, are_rising, are_within};
+use run_data::Frame;
 use std::alloc::Global;
 
 /// The one worker.

@@ -1,6 +1,5 @@
 //! The opening of the next run: each pool gets a cut that holds for every dual of the run before.
 
-use crate::datum::datum_of;
 use crate::flight;
 use crate::last::Lasts;
 use crate::state::State;
@@ -8,6 +7,7 @@ use cut_proof::{CutFault, SharedCut};
 use dual_assemble::{assemble, ground_cut};
 use frac128::Memory;
 use proved_report::Open;
+use run_data::datum_of;
 use scen_defs::{Kind, Place, Program, Values};
 use scen_tree::Tree;
 use std::alloc::Global;
@@ -17,6 +17,14 @@ fn next(kind: Kind) -> Kind {
     match kind {
         Kind::Feasible => Kind::Recession,
         Kind::Recession | Kind::Cost => Kind::Cost,
+    }
+}
+
+/// Whether a node stands at this place.
+fn is_live(program: &Program, node: u32) -> bool {
+    match program.nodes.get(node as usize) {
+        Some(place) => place.is_some(),
+        None => false,
     }
 }
 
@@ -93,7 +101,12 @@ impl State {
         let nodes = self.frame.nodes();
         let mut cuts = none(alloc, nodes)?;
         for node in (0..nodes).rev() {
-            let Some(datum) = datum_of(alloc, program, &self.frame, tree, kind, node)? else {
+            if !is_live(program, node) {
+                continue;
+            }
+            let version = self.versions.of(node);
+            let Some(datum) = datum_of(alloc, program, &self.frame, tree, version, kind, node)?
+            else {
                 return Err(CutFault::NotGood);
             };
             let below = shared(alloc, &cuts, self.frame.children(node))?;
@@ -122,6 +135,7 @@ impl State {
         self.kind = kind;
         self.lasts = Lasts::none(alloc, self.frame.nodes())?;
         self.ends.root = None;
+        self.lasting = None;
         flight::open(&mut self.table);
         Ok(())
     }

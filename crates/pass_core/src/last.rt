@@ -1,7 +1,7 @@
 //! The last solves of a run.
 
-use crate::frame::Frame;
 use frac128::{Form, FormFault, Frac, Memory};
+use run_data::Frame;
 use std::alloc::Global;
 
 /// What a node's last solve in the present run gave, where it has a point.

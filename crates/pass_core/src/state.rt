@@ -2,15 +2,14 @@
 
 use crate::banks::Banks;
 use crate::budget::Budget;
-use crate::datum::datum_of;
 use crate::ends::Ends;
 use crate::flight;
-use crate::frame::Frame;
 use crate::last::Lasts;
 use frac128::Memory;
 use node_lp::{Solved, Task, fits, solve_node};
 use pass_table::{Reading, Table};
 use proved_report::Open;
+use run_data::{Frame, Versions, datum_of};
 use scen_defs::{Kind, Program};
 use scen_tree::Tree;
 use std::alloc::Global;
@@ -21,6 +20,9 @@ use std::alloc::Global;
 /// falls for ever; the third, Cost, looks for the least cost. In each the nodes are solved again and again, from the least
 /// number that isn't up to date: a node takes the values of the columns above it as they are, and the cuts of its
 /// children in place of what is below; its own solve gives a cut to its pool. A run is closed where all nodes are up to date.
+///
+/// An edit of the program leaves the cuts that don't rest on what it touches, repairs those that it shifts, and retires the others;
+/// a Feasible run opens behind it.
 #[derive(Drop)]
 pub struct State {
     pub(crate) frame: Frame,
@@ -30,10 +32,43 @@ pub struct State {
     pub(crate) banks: Banks,
     pub(crate) lasts: Lasts,
     pub(crate) ends: Ends,
-    /// The first reason in the present run why the method can't go on.
+    /// How many edits touched the data of each node.
+    pub(crate) versions: Versions,
+    /// The first reason why the method can't go on, since the last report and in the present run.
     pub(crate) stop: Option<Open>,
-    /// How many solves there were.
-    pub(crate) commits: u64,
+    /// The first operation of an offer or of a policy's cost that passed in the present run: no later step would do it again.
+    pub(crate) lasting: Option<Open>,
+    pub(crate) counts: Counts,
+    /// Whether anything was done since the start or the last edit.
+    pub(crate) is_begun: bool,
+}
+
+/// How many solves there were.
+#[derive(Clone, Copy, Debug)]
+pub(crate) struct Counts {
+    /// Of all.
+    pub(crate) all: u64,
+    /// Since the last report.
+    pub(crate) since_report: u64,
+    /// Since the last edit or report.
+    pub(crate) since_item: u64,
+}
+
+impl Counts {
+    fn none() -> Counts {
+        Counts {
+            all: 0,
+            since_report: 0,
+            since_item: 0,
+        }
+    }
+
+    /// One more solve.
+    pub(crate) fn raise(&mut self) {
+        self.all = self.all.saturating_add(1);
+        self.since_report = self.since_report.saturating_add(1);
+        self.since_item = self.since_item.saturating_add(1);
+    }
 }
 
 /// A solve as it was begun.
@@ -63,8 +98,11 @@ impl State {
             banks: Banks::empty(alloc, nodes)?,
             lasts: Lasts::none(alloc, nodes)?,
             ends: Ends::none(),
+            versions: Versions::untouched(alloc, nodes)?,
             stop: None,
-            commits: 0,
+            lasting: None,
+            counts: Counts::none(),
+            is_begun: false,
         }))
     }
 
@@ -75,6 +113,7 @@ impl State {
         program: &Program,
         tree: &Tree,
     ) -> Result<bool, Memory> {
+        self.is_begun = true;
         if self.table.is_closed() && self.kind != Kind::Cost {
             self.open_next(alloc, program, tree)?;
             return Ok(true);
@@ -116,7 +155,9 @@ impl State {
         tree: &Tree,
         node: u32,
     ) -> Result<Option<Begun>, Memory> {
-        let Some(datum) = datum_of(alloc, program, &self.frame, tree, self.kind, node)? else {
+        let version = self.versions.of(node);
+        let Some(datum) = datum_of(alloc, program, &self.frame, tree, version, self.kind, node)?
+        else {
             return Ok(None);
         };
         let read = self.banks.read(alloc, self.kind, &self.frame, node)?;
@@ -136,6 +177,16 @@ impl State {
     pub(crate) fn stop_at(&mut self, stop: Open) {
         if self.stop.is_none() {
             self.stop = Some(stop);
+        }
+    }
+
+    /// Keeps a reason that lasts for the present run.
+    pub(crate) fn stop_for_run(&mut self, stop: Open) {
+        if self.lasting.is_none() {
+            self.lasting = Some(stop);
+        }
+        if self.stop.is_none() {
+            self.stop = self.lasting;
         }
     }
 

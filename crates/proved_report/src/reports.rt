@@ -18,6 +18,7 @@ use crate::tested::{
 };
 use frac128::{Frac, Memory};
 use scen_defs::{Finding, Place, Program, Report, Values};
+use std::alloc::Global;
 
 /// The report of what a method claims of a program, whose lists are tested.
 ///
@@ -30,6 +31,7 @@ use scen_defs::{Finding, Place, Program, Report, Values};
 /// operation that is told passes: it is done again. Where the one in `why` doesn't, which never comes of a correct
 /// method, `OpenSolves` tells `solves`.
 pub fn report(
+    alloc: Global,
     program: &Program,
     number: u32,
     claim: Claim,
@@ -44,16 +46,21 @@ pub fn report(
     ensures exact { IfOk result (IsClaimed program.now number place why solves claim) }
 {
     match claim {
-        Claim::Ends { policy, dual } => ends(program, number, policy, dual, place, why, solves),
-        Claim::Nowhere { ray } => nowhere(program, number, ray, why, solves),
+        Claim::Ends { policy, dual } => ends(
+            alloc, program, number, policy, dual, place, why, solves,
+        ),
+        Claim::Nowhere { ray } => nowhere(alloc, program, number, ray, why, solves),
         Claim::Endless { policy, direction } => {
-            endless(program, number, policy, direction, place, why, solves)
+            endless(
+                alloc, program, number, policy, direction, place, why, solves,
+            )
         }
     }
 }
 
 /// The report of a policy and a dual.
 fn ends(
+    alloc: Global,
     program: &Program,
     number: u32,
     policy: Option<Values>,
@@ -65,8 +72,8 @@ fn ends(
     ensures filled { IfOk result (IsFilled program.now number) }
     ensures exact { IfOk result (IsClaimed program.now number place why solves (Claim.Ends policy dual)) }
 {
-    let upper = test_some_policy(program, policy)?;
-    let lower = test_some_dual(program, dual)?;
+    let upper = test_some_policy(alloc, program, policy)?;
+    let lower = test_some_dual(alloc, program, dual)?;
     let left = upper.or_before(place, lower.or_before(Place::Dual, why));
     let blank = blank(program, number, open_finding(left, solves));
     Ok(with_ends(blank, upper, lower))
@@ -74,6 +81,7 @@ fn ends(
 
 /// The report of a ray.
 fn nowhere(
+    alloc: Global,
     program: &Program,
     number: u32,
     ray: Values,
@@ -83,7 +91,7 @@ fn nowhere(
     ensures filled { IfOk result (IsFilled program.now number) }
     ensures exact { IfOk result (IsClaimed program.now number Place.Dual why solves (Claim.Nowhere ray)) }
 {
-    let ray = test_ray(program, ray)?;
+    let ray = test_ray(alloc, program, ray)?;
     let left = ray.or_before(Place::Dual, why);
     let blank = blank(program, number, open_finding(left, solves));
     Ok(with_ray(blank, ray))
@@ -91,6 +99,7 @@ fn nowhere(
 
 /// The report of a policy and a direction.
 fn endless(
+    alloc: Global,
     program: &Program,
     number: u32,
     policy: Values,
@@ -102,8 +111,8 @@ fn endless(
     ensures filled { IfOk result (IsFilled program.now number) }
     ensures exact { IfOk result (IsClaimed program.now number place why solves (Claim.Endless policy direction)) }
 {
-    let upper = test_policy(program, policy)?;
-    let slope = test_direction(program, direction)?;
+    let upper = test_policy(alloc, program, policy)?;
+    let slope = test_direction(alloc, program, direction)?;
     let left = upper.or_before(place, slope.or_before(place, why));
     let blank = blank(program, number, open_finding(left, solves));
     Ok(with_slope(blank, upper, slope))

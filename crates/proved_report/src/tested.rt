@@ -14,6 +14,7 @@ use crate::open::Open;
 use frac128::{Frac, Memory, Passed};
 use scen_defs::{Halt, Place, Program, Values};
 use scen_model::{cost, dual_value, feasible, fits, is_direction, zero_value};
+use std::alloc::Global;
 
 /// What a test of a list comes to.
 #[derive(Drop)]
@@ -48,23 +49,23 @@ fn operation(halt: Halt) -> Result<Passed, Memory>
 }
 
 /// The cost of a policy that fits and is feasible.
-fn upper_end(program: &Program, policy: &Values) -> Result<Option<Frac>, Halt>
+fn upper_end(alloc: Global, program: &Program, policy: &Values) -> Result<Option<Frac>, Halt>
     ensures { Gives policy.now (policy_test program.now policy.now) result }
 {
     if fits(program, policy, false) {
-        feasible_cost(program, policy)
+        feasible_cost(alloc, program, policy)
     } else {
         Ok(None)
     }
 }
 
 /// The cost of a policy that is feasible.
-fn feasible_cost(program: &Program, policy: &Values) -> Result<Option<Frac>, Halt>
+fn feasible_cost(alloc: Global, program: &Program, policy: &Values) -> Result<Option<Frac>, Halt>
     ensures { let x = at policy.now in
         Gives policy.now (where_meets (feasible_walk (seen program.now) x) (by_cost policy.now (cost_walk (seen program.now) x))) result }
 {
-    if feasible(program, policy)? {
-        let upper = cost(program, policy)?;
+    if feasible(alloc, program, policy)? {
+        let upper = cost(alloc, program, policy)?;
         Ok(Some(upper))
     } else {
         Ok(None)
@@ -72,35 +73,35 @@ fn feasible_cost(program: &Program, policy: &Values) -> Result<Option<Frac>, Hal
 }
 
 /// The value of a dual that fits and is good.
-fn lower_end(program: &Program, dual: &Values) -> Result<Option<Frac>, Halt>
+fn lower_end(alloc: Global, program: &Program, dual: &Values) -> Result<Option<Frac>, Halt>
     ensures { Gives dual.now (dual_test program.now dual.now) result }
 {
     if fits(program, dual, true) {
-        dual_value(program, dual)
+        dual_value(alloc, program, dual)
     } else {
         Ok(None)
     }
 }
 
 /// The cost of a direction that fits and is one.
-fn slope(program: &Program, direction: &Values) -> Result<Option<Frac>, Halt>
+fn slope(alloc: Global, program: &Program, direction: &Values) -> Result<Option<Frac>, Halt>
     ensures { Gives direction.now (direction_test program.now direction.now) result }
 {
     if fits(program, direction, false) {
-        falling_cost(program, direction)
+        falling_cost(alloc, program, direction)
     } else {
         Ok(None)
     }
 }
 
 /// The cost of a direction that is one.
-fn falling_cost(program: &Program, direction: &Values) -> Result<Option<Frac>, Halt>
+fn falling_cost(alloc: Global, program: &Program, direction: &Values) -> Result<Option<Frac>, Halt>
     ensures { let d = at direction.now in
         let cost = by_cost direction.now (cost_walk (seen program.now) d) in
         Gives direction.now (where_meets (direction_walk (seen program.now) d) cost) result }
 {
-    if is_direction(program, direction)? {
-        let slope = cost(program, direction)?;
+    if is_direction(alloc, program, direction)? {
+        let slope = cost(alloc, program, direction)?;
         Ok(Some(slope))
     } else {
         Ok(None)
@@ -108,21 +109,21 @@ fn falling_cost(program: &Program, direction: &Values) -> Result<Option<Frac>, H
 }
 
 /// The value of a ray that fits and shows that no policy is feasible.
-fn ray_value(program: &Program, ray: &Values) -> Result<Option<Frac>, Halt>
+fn ray_value(alloc: Global, program: &Program, ray: &Values) -> Result<Option<Frac>, Halt>
     ensures { Gives ray.now (ray_test program.now ray.now) result }
 {
     if fits(program, ray, true) {
-        value_above_zero(program, ray)
+        value_above_zero(alloc, program, ray)
     } else {
         Ok(None)
     }
 }
 
 /// The value of a ray where that is above 0.
-fn value_above_zero(program: &Program, ray: &Values) -> Result<Option<Frac>, Halt>
+fn value_above_zero(alloc: Global, program: &Program, ray: &Values) -> Result<Option<Frac>, Halt>
     ensures { Gives ray.now (where_above (by_value ray.now (dual_walk (without_costs (seen program.now)) (at ray.now)))) result }
 {
-    match zero_value(program, ray)? {
+    match zero_value(alloc, program, ray)? {
         None => Ok(None),
         Some(number) => {
             if is_at_most_zero(number) {
@@ -141,54 +142,70 @@ fn is_at_most_zero(number: Frac) -> bool
 }
 
 /// Tests a policy.
-pub(crate) fn test_policy(program: &Program, policy: Values) -> Result<Tested, Memory>
+pub(crate) fn test_policy(
+    alloc: Global,
+    program: &Program,
+    policy: Values,
+) -> Result<Tested, Memory>
     ensures { IfOk result (λ tested. tested ≡ policy_test program.now policy) }
 {
-    let computed = upper_end(program, &policy);
+    let computed = upper_end(alloc, program, &policy);
     kept(policy, computed)
 }
 
 /// Tests a policy that may be wanting.
-pub(crate) fn test_some_policy(program: &Program, policy: Option<Values>) -> Result<Tested, Memory>
+pub(crate) fn test_some_policy(
+    alloc: Global,
+    program: &Program,
+    policy: Option<Values>,
+) -> Result<Tested, Memory>
     ensures { IfOk result (λ tested. tested ≡ some_policy_test program.now policy) }
 {
     match policy {
-        Some(values) => test_policy(program, values),
+        Some(values) => test_policy(alloc, program, values),
         None => Ok(Tested::Fails),
     }
 }
 
 /// Tests a dual that may be wanting.
-pub(crate) fn test_some_dual(program: &Program, dual: Option<Values>) -> Result<Tested, Memory>
+pub(crate) fn test_some_dual(
+    alloc: Global,
+    program: &Program,
+    dual: Option<Values>,
+) -> Result<Tested, Memory>
     ensures { IfOk result (λ tested. tested ≡ some_dual_test program.now dual) }
 {
     match dual {
-        Some(values) => test_dual(program, values),
+        Some(values) => test_dual(alloc, program, values),
         None => Ok(Tested::Fails),
     }
 }
 
 /// Tests a dual.
-fn test_dual(program: &Program, dual: Values) -> Result<Tested, Memory>
+fn test_dual(alloc: Global, program: &Program, dual: Values) -> Result<Tested, Memory>
     ensures { IfOk result (λ tested. tested ≡ dual_test program.now dual) }
 {
-    let computed = lower_end(program, &dual);
+    let computed = lower_end(alloc, program, &dual);
     kept(dual, computed)
 }
 
 /// Tests a direction.
-pub(crate) fn test_direction(program: &Program, direction: Values) -> Result<Tested, Memory>
+pub(crate) fn test_direction(
+    alloc: Global,
+    program: &Program,
+    direction: Values,
+) -> Result<Tested, Memory>
     ensures { IfOk result (λ tested. tested ≡ direction_test program.now direction) }
 {
-    let computed = slope(program, &direction);
+    let computed = slope(alloc, program, &direction);
     kept(direction, computed)
 }
 
 /// Tests a ray.
-pub(crate) fn test_ray(program: &Program, ray: Values) -> Result<Tested, Memory>
+pub(crate) fn test_ray(alloc: Global, program: &Program, ray: Values) -> Result<Tested, Memory>
     ensures { IfOk result (λ tested. tested ≡ ray_test program.now ray) }
 {
-    let computed = ray_value(program, &ray);
+    let computed = ray_value(alloc, program, &ray);
     kept(ray, computed)
 }
 

@@ -19,6 +19,21 @@ pub(crate) struct Found {
     pub(crate) place: Place,
 }
 
+/// The method on a program with its tree.
+#[derive(Drop)]
+pub(crate) struct Working {
+    state: State,
+    tree: Tree,
+}
+
+/// The nested method at work.
+#[derive(Drop)]
+pub(crate) enum Method {
+    Working(Working),
+    /// It can't begin, which never comes of a program that was built.
+    Idle(Open),
+}
+
 /// Nothing is claimed.
 fn nothing(why: Open) -> Found {
     Found {
@@ -31,40 +46,63 @@ fn nothing(why: Open) -> Found {
     }
 }
 
-/// What the nested method finds.
-pub(crate) fn find(alloc: Global, program: &Program, budget: Budget) -> Result<Found, Memory> {
-    if program.nodes.len() >= MANY {
-        return Ok(nothing(Open::Solves(budget.solves)));
-    }
-    match Tree::of(alloc, program) {
-        Ok(tree) => worked(alloc, program, &tree, budget),
-        Err(fault) => treeless(fault),
-    }
-}
-
-/// What is left where the totals or shares of the nodes don't fit, which never comes of a program that was built.
-fn treeless(fault: TreeFault) -> Result<Found, Memory> {
+/// Why there is no tree: its totals or shares don't fit, which never comes of a program that was built.
+fn treeless(fault: TreeFault) -> Result<Open, Memory> {
     match fault {
-        TreeFault::Passed(passed) => Ok(nothing(Open::Passed(Place::Dual, passed))),
+        TreeFault::Passed(passed) => Ok(Open::Passed(Place::Dual, passed)),
         TreeFault::Memory => Err(Memory),
     }
 }
 
-/// Takes steps until nothing is left to find.
-fn worked(alloc: Global, program: &Program, tree: &Tree, budget: Budget) -> Result<Found, Memory> {
-    let Some(mut state) = State::start(alloc, program, budget)? else {
-        return Ok(nothing(Open::Solves(budget.solves)));
-    };
-    for _ in 0..u64::MAX {
-        if state.settled().is_some() || !state.advance(alloc, program, tree)? {
-            break;
+impl Working {
+    /// Takes steps until nothing is left to find.
+    fn run(&mut self, alloc: Global, program: &Program) -> Result<(), Memory> {
+        for _ in 0..u64::MAX {
+            if self.state.settled().is_some() || !self.state.advance(alloc, program, &self.tree)? {
+                break;
+            }
+        }
+        Ok(())
+    }
+
+    /// What is found where nothing is left to find.
+    fn find(&mut self, alloc: Global, program: &Program) -> Result<Found, Memory> {
+        self.run(alloc, program)?;
+        let place = Place::Cost(self.state.commits());
+        let closed = self.state.close(alloc)?;
+        Ok(Found {
+            claim: closed.claim,
+            why: closed.why,
+            place,
+        })
+    }
+}
+
+impl Method {
+    /// The method before any solve.
+    pub(crate) fn begin(
+        alloc: Global,
+        program: &Program,
+        budget: Budget,
+    ) -> Result<Method, Memory> {
+        if program.nodes.len() >= MANY {
+            return Ok(Method::Idle(Open::Solves(budget.solves)));
+        }
+        let tree = match Tree::of(alloc, program) {
+            Ok(tree) => tree,
+            Err(fault) => return Ok(Method::Idle(treeless(fault)?)),
+        };
+        match State::start(alloc, program, budget)? {
+            Some(state) => Ok(Method::Working(Working { state, tree })),
+            None => Ok(Method::Idle(Open::Solves(budget.solves))),
         }
     }
-    let place = Place::Cost(state.commits());
-    let closed = state.close(alloc)?;
-    Ok(Found {
-        claim: closed.claim,
-        why: closed.why,
-        place,
-    })
+
+    /// What it finds of the program.
+    pub(crate) fn find(&mut self, alloc: Global, program: &Program) -> Result<Found, Memory> {
+        match self {
+            Method::Working(working) => working.find(alloc, program),
+            Method::Idle(why) => Ok(nothing(*why)),
+        }
+    }
 }

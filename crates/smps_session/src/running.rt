@@ -6,7 +6,7 @@ ghost use Rattle.scen_defs.specs.Valid.{IsSmall};
 ghost use Rattle.report_defs.specs.Truth.{IsTrue, HasCounts};
 ghost use Rattle.smps_session.specs.Reasons.{told_reasons};
 
-use crate::found::find;
+use crate::found::Method;
 use frac128::Memory;
 use pass_core::Budget;
 use proved_report::{Open, report};
@@ -24,13 +24,14 @@ pub fn session(alloc: Global, program: &Program, solves: u64, pivots: u64) -> Re
     ensures names { IfOk result (ListsHaveNames program.now) }
     ensures truth { IsTree (view_of (content program.now)) → IfOk result (IsTrue (view_of (content program.now)) (told_reasons solves)) }
 {
-    let found = find(alloc, program, Budget { solves, pivots })?;
+    let mut method = Method::begin(alloc, program, Budget { solves, pivots })?;
+    let found = method.find(alloc, program)?;
     let why = told(found.why, solves);
-    report(program, 1, found.claim, found.place, why, solves)
+    report(alloc, program, 1, found.claim, found.place, why, solves)
 }
 
 /// Why the report is open, with the number of solves that were allowed.
-fn told(why: Open, solves: u64) -> Open
+pub(crate) fn told(why: Open, solves: u64) -> Open
     ensures { (n : ℕ) → result ≡ Open.Solves n → n ≡ solves }
 {
     match why {

@@ -1,6 +1,7 @@
 //! The data of a node in a run.
 
 use crate::frame::Frame;
+use crate::versions::Version;
 use cut_proof::{ColumnBounds, NodeDatum, Share};
 use frac128::{Form, Frac, Memory};
 use scen_defs::{Kind, NodeRow, Program};
@@ -75,21 +76,22 @@ fn shares(alloc: Global, tree: &Tree, children: &[u32]) -> Result<Vec<Share>, Me
     Ok(all)
 }
 
-/// The data of a node in a run of this kind: without costs in a Feasible run; in a Recession run with 0 in place of each
+/// The data of a node of this version in a run of this kind: without costs in a Feasible run; in a Recession run with 0 in place of each
 /// finite end and bound, -1 of each absent lower and 1 of each absent upper bound. None where there is no such node.
-pub(crate) fn datum_of(
+pub fn datum_of(
     alloc: Global,
     program: &Program,
     frame: &Frame,
     tree: &Tree,
+    version: Version,
     kind: Kind,
     node: u32,
 ) -> Result<Option<NodeDatum>, Memory> {
     match program.nodes.get(node as usize) {
         Some(Some(stated)) => Ok(NodeDatum::try_new(
             node,
-            0,
-            0,
+            version.rows,
+            version.costs,
             cost(alloc, kind, &stated.cost)?,
             rows(alloc, kind, &stated.rows)?,
             bounds(alloc, kind, frame.columns(node))?,

@@ -1,4 +1,5 @@
 //! What stays the same in all runs: parents, children, and the columns of each stage.
+//! Nodes that were dropped keep their places, and are no node's children.
 
 use cut_proof::ColumnBounds;
 use frac128::Memory;
@@ -7,8 +8,8 @@ use std::alloc::Global;
 
 /// What stays the same in all runs. Numbers are those of the program.
 #[derive(Drop)]
-pub(crate) struct Frame {
-    /// The parent of each node; the root's own number for itself.
+pub struct Frame {
+    /// The parent of each node; 0 of the root and of what was dropped.
     parents: Vec<u32>,
     /// The children of each node, rising.
     children: Vec<Vec<u32>>,
@@ -53,11 +54,13 @@ fn put<T: Drop>(lists: &mut Vec<Vec<T>>, place: u32, member: T) -> Result<(), Me
 }
 
 /// The children of each node.
-fn children_of(alloc: Global, parents: &[u32]) -> Result<Vec<Vec<u32>>, Memory> {
-    let mut children = lists(alloc, parents.len())?;
-    for (node, parent) in (0..u32::MAX).zip(parents) {
-        if node > 0 {
-            put(&mut children, *parent, node)?;
+fn children_of(alloc: Global, nodes: &[Option<Node>]) -> Result<Vec<Vec<u32>>, Memory> {
+    let mut children = lists(alloc, nodes.len())?;
+    for (number, place) in (0..u32::MAX).zip(nodes) {
+        if let Some(node) = place {
+            if let Some(parent) = node.parent {
+                put(&mut children, parent, number)?;
+            }
         }
     }
     Ok(children)
@@ -83,7 +86,7 @@ fn columns_of(
 
 impl Frame {
     /// The frame of a program.
-    pub(crate) fn of(alloc: Global, program: &Program) -> Result<Frame, Memory> {
+    pub fn of(alloc: Global, program: &Program) -> Result<Frame, Memory> {
         let mut parents = Vec::new(alloc);
         let mut stages = Vec::new(alloc);
         for place in &program.nodes {
@@ -91,20 +94,20 @@ impl Frame {
             stages.push(stage_of(place))?;
         }
         Ok(Frame {
-            children: children_of(alloc, &parents)?,
+            children: children_of(alloc, &program.nodes)?,
             columns: columns_of(alloc, &program.columns, program.periods.len())?,
             parents,
             stages,
         })
     }
 
-    /// The parent of each node; the root's is 0.
-    pub(crate) fn parents(&self) -> &[u32] {
+    /// The parent of each node; 0 of the root and of what was dropped.
+    pub fn parents(&self) -> &[u32] {
         &self.parents
     }
 
-    /// How many nodes there are.
-    pub(crate) fn nodes(&self) -> u32 {
+    /// How many places there are for nodes.
+    pub fn nodes(&self) -> u32 {
         let mut count = 0;
         for (number, _) in (1..u32::MAX).zip(&self.parents) {
             count = number;
@@ -113,7 +116,7 @@ impl Frame {
     }
 
     /// The parent of a node, none of the root.
-    pub(crate) fn parent(&self, node: u32) -> Option<u32> {
+    pub fn parent(&self, node: u32) -> Option<u32> {
         if node == 0 {
             None
         } else {
@@ -122,7 +125,7 @@ impl Frame {
     }
 
     /// The children of a node, rising.
-    pub(crate) fn children(&self, node: u32) -> &[u32] {
+    pub fn children(&self, node: u32) -> &[u32] {
         match self.children.get(node as usize) {
             Some(children) => children,
             None => &[],
@@ -130,7 +133,7 @@ impl Frame {
     }
 
     /// The columns of a node's stage with their bounds, rising.
-    pub(crate) fn columns(&self, node: u32) -> &[ColumnBounds] {
+    pub fn columns(&self, node: u32) -> &[ColumnBounds] {
         let stage = match self.stages.get(node as usize) {
             Some(stage) => *stage,
             None => return &[],

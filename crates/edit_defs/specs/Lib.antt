@@ -1,0 +1,11 @@
+pub mod Intervals
+pub mod After
+pub mod Touches
+pub mod Applies
+pub mod Data
+pub mod Shifts
+pub mod Operations
+pub mod Limits
+pub mod Causes
+pub mod Laws
+pub mod Worked
