@@ -1,0 +1,71 @@
+// An edit in place.
+ghost use Rattle.std.specs.Prelude.{◌≡◌, None, OnOk, OnErr, MatchResult};
+ghost use Rattle.scen_defs.specs.Program.{content};
+ghost use Rattle.scen_defs.specs.Valid.{IsField, IsProgram};
+ghost use Rattle.edit_defs.specs.declared.edit.Edit.TheVariants.{Prob, Drop, Add};
+ghost use Rattle.edit_defs.specs.After.{after};
+ghost use Rattle.edit_defs.specs.Causes.{Asks, refused};
+ghost use Rattle.edit_defs.specs.Limits.{counts};
+ghost use Rattle.edit_apply.specs.Faults.{ApplyFaultOf};
+
+use crate::apply_add::apply_add;
+use crate::apply_drop::apply_drop;
+use crate::apply_prob::apply_prob;
+use crate::apply_set::apply_set;
+use crate::counts::count;
+use crate::fault::ApplyFault;
+use edit_defs::{Counts, Edit};
+use scen_defs::Program;
+use std::alloc::Global;
+
+/// Applies an edit in place, as `apply` does, where the counts of the program are known; they become those of the program after it.
+pub fn apply_counted(
+    alloc: Global,
+    program: &mut Program,
+    counted: &mut Counts,
+    edit: &Edit,
+) -> Result<(), ApplyFault>
+    requires program { IsProgram (content program.old) }
+    requires asks { Asks (content program.old) edit.now }
+    requires counted { counted.old ≡ counts (content program.old).nodes }
+    ensures ok { OnOk result (content program.new ≡ after (content program.old) edit.now) }
+    ensures cause { MatchResult result (λ _. refused (content program.old) edit.now ≡ None)
+        (ApplyFaultOf (refused (content program.old) edit.now)) }
+    ensures same { OnErr result (content program.new ≡ content program.old) }
+    ensures counted { counted.new ≡ counts (content program.new).nodes }
+{
+    match edit {
+        Edit::Set {
+            scenario,
+            entry,
+            value,
+        } => apply_set(alloc, program, counted, scenario, *entry, *value),
+        Edit::Prob {
+            scenario,
+            probability,
+        } => apply_prob(alloc, program, scenario, *probability),
+        Edit::Drop { scenario } => apply_drop(alloc, program, counted, scenario),
+        Edit::Add {
+            name,
+            parent,
+            probability,
+            stage,
+        } => apply_add(alloc, program, counted, name, parent, *probability, *stage),
+    }
+}
+
+/// Applies an edit in place.
+///
+/// `Refused` says why it doesn't apply: the first test that it fails. Where it applies, memory alone can be wanting. After an
+/// error the program is as it was.
+pub fn apply(alloc: Global, program: &mut Program, edit: &Edit) -> Result<(), ApplyFault>
+    requires program { IsProgram (content program.old) }
+    requires asks { Asks (content program.old) edit.now }
+    ensures ok { OnOk result (content program.new ≡ after (content program.old) edit.now) }
+    ensures cause { MatchResult result (λ _. refused (content program.old) edit.now ≡ None)
+        (ApplyFaultOf (refused (content program.old) edit.now)) }
+    ensures same { OnErr result (content program.new ≡ content program.old) }
+{
+    let mut counted = count(&program.nodes)?;
+    apply_counted(alloc, program, &mut counted, edit)
+}

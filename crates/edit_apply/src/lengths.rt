@@ -1,0 +1,77 @@
+// How many terms a form has before and after one of its entries is set.
+ghost use Rattle.std.specs.Prelude.{◌≡◌, IfOk, length};
+ghost use Rattle.scen_defs.specs.Program.{nodes_content, node_at};
+ghost use Rattle.edit_defs.specs.After.{set_entry};
+ghost use Rattle.edit_defs.specs.Shifts.{find_row};
+
+use crate::entry::length_with;
+use edit_defs::{node_of, row_of};
+use frac128::{Form, Frac, Memory};
+use scen_defs::{Node, NodeRow};
+use std::alloc::Global;
+
+/// How many terms a form has, and how many with the value in the column.
+fn lengths(alloc: Global, form: &Form, column: u32, value: Frac) -> Result<(usize, usize), Memory>
+    ensures { IfOk result (λ both. (both.0 ≡ length form.now) × (both.1 ≡ length (set_entry column value form.now))) }
+{
+    let more = length_with(alloc, form, column as u64, value)?;
+    Ok((form.len(), more))
+}
+
+/// The same of the costs of a node; of no terms where it isn't live.
+pub(crate) fn cost_lengths(
+    alloc: Global,
+    nodes: &[Option<Node>],
+    node: u32,
+    column: u32,
+    value: Frac,
+) -> Result<(usize, usize), Memory>
+    ensures { IfOk result (λ both. (both.0 ≡ length (node_at (nodes_content nodes.now) node).cost)
+        × (both.1 ≡ length (set_entry column value (node_at (nodes_content nodes.now) node).cost))) }
+{
+    match node_of(nodes, node) {
+        Some(found) => lengths(alloc, &found.cost, column, value),
+        None => {
+            let bare = Form::empty(alloc);
+            lengths(alloc, &bare, column, value)
+        }
+    }
+}
+
+/// The same of a row among a node's rows.
+fn row_lengths(
+    alloc: Global,
+    rows: &[NodeRow],
+    row: u32,
+    column: u32,
+    value: Frac,
+) -> Result<(usize, usize), Memory>
+    ensures { IfOk result (λ both. (both.0 ≡ length (find_row row rows.now).entries)
+        × (both.1 ≡ length (set_entry column value (find_row row rows.now).entries))) }
+{
+    match row_of(rows, row) {
+        Some(found) => lengths(alloc, &found.entries, column, value),
+        None => {
+            let bare = Form::empty(alloc);
+            lengths(alloc, &bare, column, value)
+        }
+    }
+}
+
+/// The same of a row of a node.
+pub(crate) fn entry_lengths(
+    alloc: Global,
+    nodes: &[Option<Node>],
+    node: u32,
+    row: u32,
+    column: u32,
+    value: Frac,
+) -> Result<(usize, usize), Memory>
+    ensures { IfOk result (λ both. (both.0 ≡ length (find_row row (node_at (nodes_content nodes.now) node).rows).entries)
+        × (both.1 ≡ length (set_entry column value (find_row row (node_at (nodes_content nodes.now) node).rows).entries))) }
+{
+    match node_of(nodes, node) {
+        Some(found) => row_lengths(alloc, &found.rows, row, column, value),
+        None => row_lengths(alloc, &[], row, column, value),
+    }
+}

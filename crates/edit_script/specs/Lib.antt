@@ -1,0 +1,6 @@
+pub mod Numbers
+pub mod Commands
+pub mod Asked
+pub mod Script
+pub mod Allowed
+pub mod Drafts

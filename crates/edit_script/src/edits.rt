@@ -1,0 +1,162 @@
+// The lines of the commands that are edits.
+ghost use Rattle.std.specs.Prelude.{◌≡◌, IfOk};
+ghost use Rattle.smps_words.specs.Seen.{seen};
+ghost use Rattle.scen_defs.specs.Program.{content};
+ghost use Rattle.scen_defs.specs.Valid.{IsField, IsProgram};
+ghost use Rattle.edit_defs.specs.Causes.{Asks};
+ghost use Rattle.edit_script.specs.Commands.{HasName, set_edit, prob_edit, drop_edit, add_edit};
+ghost use Rattle.edit_script.specs.Commands.{set_line, prob_line, drop_line, add_line};
+ghost use Rattle.edit_script.specs.Drafts.{Gives};
+
+use crate::entries::{known_entry, later_period};
+use crate::numbers::{inner_number, number_of};
+use crate::stop::Stop;
+use core_defs::Cause;
+use edit_apply::is_known;
+use edit_defs::Edit;
+use scen_defs::Program;
+use smps_words::{Line, Name};
+use std::alloc::Global;
+
+/// A SET of its fields.
+#[tactic(auto, unfolding(crate::specs::Commands::set_edit))]
+fn set_edit(
+    alloc: Global,
+    program: &Program,
+    name: &[u8],
+    column: &[u8],
+    row: &[u8],
+    word: &[u8],
+) -> Result<Edit, Stop>
+    requires { IsProgram (content program.now) }
+    ensures gives { Gives result (set_edit (content program.now) name.now column.now row.now word.now) }
+    ensures asks { IfOk result (Asks (content program.now)) }
+{
+    let scenario = Name::new(alloc, name)?;
+    if !is_known(&program.scenarios, &scenario) {
+        return Err(Stop::Fault(Cause::ScenarioUnknown));
+    }
+    let entry = known_entry(program, column, row)?;
+    let value = number_of(word)?;
+    Ok(Edit::Set {
+        scenario,
+        entry,
+        value,
+    })
+}
+
+/// A PROB of its fields.
+#[tactic(auto, unfolding(crate::specs::Commands::prob_edit))]
+fn prob_edit(alloc: Global, program: &Program, name: &[u8], word: &[u8]) -> Result<Edit, Stop>
+    ensures gives { Gives result (prob_edit (content program.now) name.now word.now) }
+    ensures asks { IfOk result (Asks (content program.now)) }
+{
+    let scenario = Name::new(alloc, name)?;
+    if !is_known(&program.scenarios, &scenario) {
+        return Err(Stop::Fault(Cause::ScenarioUnknown));
+    }
+    let probability = inner_number(word)?;
+    Ok(Edit::Prob {
+        scenario,
+        probability,
+    })
+}
+
+/// A DROP of its field.
+#[tactic(auto, unfolding(crate::specs::Commands::drop_edit))]
+fn drop_edit(alloc: Global, program: &Program, name: &[u8]) -> Result<Edit, Stop>
+    ensures gives { Gives result (drop_edit (content program.now) name.now) }
+    ensures asks { IfOk result (Asks (content program.now)) }
+{
+    let scenario = Name::new(alloc, name)?;
+    if !is_known(&program.scenarios, &scenario) {
+        return Err(Stop::Fault(Cause::ScenarioUnknown));
+    }
+    Ok(Edit::Drop { scenario })
+}
+
+/// An ADD of its fields.
+#[tactic(auto, unfolding(crate::specs::Commands::add_edit))]
+fn add_edit(
+    alloc: Global,
+    program: &Program,
+    name: &[u8],
+    parent: &[u8],
+    word: &[u8],
+    period: &[u8],
+) -> Result<Edit, Stop>
+    requires program { IsProgram (content program.now) }
+    requires field { IsField name.now }
+    ensures gives { Gives result (add_edit (content program.now) name.now parent.now word.now period.now) }
+    ensures asks { IfOk result (Asks (content program.now)) }
+{
+    let name = Name::new(alloc, name)?;
+    if is_known(&program.scenarios, &name) {
+        return Err(Stop::Fault(Cause::NameTaken));
+    }
+    let parent = Name::new(alloc, parent)?;
+    if !is_known(&program.scenarios, &parent) {
+        return Err(Stop::Fault(Cause::ScenarioUnknown));
+    }
+    let probability = inner_number(word)?;
+    let Some(stage) = later_period(&program.periods, period) else {
+        return Err(Stop::Fault(Cause::BranchPeriod));
+    };
+    Ok(Edit::Add {
+        name,
+        parent,
+        probability,
+        stage,
+    })
+}
+
+/// A line of SET.
+#[tactic(auto, using(crate::proofs::Long::long_set), unfolding(crate::specs::Commands::set_line))]
+pub(crate) fn set_line(alloc: Global, program: &Program, line: &Line) -> Result<Edit, Stop>
+    requires { IsProgram (content program.now) }
+    ensures gives { Gives result (set_line (content program.now) (seen line.now).fields) }
+    ensures asks { IfOk result (Asks (content program.now)) }
+{
+    let Some([_, name, column, row, word]) = line.fields() else {
+        return Err(Stop::Fault(Cause::FieldCount));
+    };
+    set_edit(alloc, program, name, column, row, word)
+}
+
+/// A line of PROB.
+#[tactic(auto, using(crate::proofs::Long::long_prob), unfolding(crate::specs::Commands::prob_line))]
+pub(crate) fn prob_line(alloc: Global, program: &Program, line: &Line) -> Result<Edit, Stop>
+    ensures gives { Gives result (prob_line (content program.now) (seen line.now).fields) }
+    ensures asks { IfOk result (Asks (content program.now)) }
+{
+    let Some([_, name, word]) = line.fields() else {
+        return Err(Stop::Fault(Cause::FieldCount));
+    };
+    prob_edit(alloc, program, name, word)
+}
+
+/// A line of DROP.
+#[tactic(auto, using(crate::proofs::Long::long_drop), unfolding(crate::specs::Commands::drop_line))]
+pub(crate) fn drop_line(alloc: Global, program: &Program, line: &Line) -> Result<Edit, Stop>
+    ensures gives { Gives result (drop_line (content program.now) (seen line.now).fields) }
+    ensures asks { IfOk result (Asks (content program.now)) }
+{
+    let Some([_, name]) = line.fields() else {
+        return Err(Stop::Fault(Cause::FieldCount));
+    };
+    drop_edit(alloc, program, name)
+}
+
+/// A line of ADD.
+#[tactic(auto, using(crate::proofs::Long::long_add), unfolding(crate::specs::Commands::add_line))]
+pub(crate) fn add_line(alloc: Global, program: &Program, line: &Line) -> Result<Edit, Stop>
+    requires program { IsProgram (content program.now) }
+    requires named { HasName (seen line.now).fields }
+    ensures gives { Gives result (add_line (content program.now) (seen line.now).fields) }
+    ensures asks { IfOk result (Asks (content program.now)) }
+{
+    let Some([_, name, parent, word, period]) = line.fields() else {
+        return Err(Stop::Fault(Cause::FieldCount));
+    };
+    add_edit(alloc, program, name, parent, word, period)
+}

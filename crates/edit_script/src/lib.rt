@@ -1,0 +1,12 @@
+//! Edit lists: what their commands mean, line by line.
+#![tactic(auto)]
+
+mod command;
+mod draft;
+mod edits;
+mod entries;
+mod numbers;
+mod reading;
+mod stop;
+
+pub use reading::read_script;
