@@ -1,0 +1,11 @@
+use Rattle.report_defs.specs.Seen.{seen}
+use Rattle.certificate_check.specs.Verdicts.{verdict_of}
+use Rattle.certificate_check.specs.Shown.{IsShown}
+use Rattle.certificate_check.proofs.HoldsLemmas.{if_holds, shown}
+use Rattle.certificate_check.proofs.claims.check.Goals as goal
+
+pub returns-clause-shown : goal.returns-clause-shown
+returns-clause-shown c = λ tree.
+    let program = c.args.program.now in
+    let report = c.args.report.now in
+    if_holds (verdict_of program report) c.verdict.result (IsShown (seen program) report) c.verdict.ensures (shown program report tree)

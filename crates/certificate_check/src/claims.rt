@@ -1,0 +1,76 @@
+//! The check of a report.
+ghost use Rattle.scen_defs.specs.Program.{IsTree};
+ghost use Rattle.scen_model.specs.Answers.{Answers};
+ghost use Rattle.report_defs.specs.Seen.{seen};
+ghost use Rattle.certificate_check.specs.Verdicts.{late_verdict, end_verdict, bound_verdict, list_verdict, verdict_of};
+ghost use Rattle.certificate_check.specs.Shown.{IsShown, IfHolds};
+
+use crate::ends::has_ends;
+use crate::lists::{direction_verdict, dual_verdict, policy_verdict, ray_verdict};
+use crate::shape::has_shape;
+use crate::verdict::{Claim, Verdict};
+use scen_defs::{Halt, Program, Report};
+use std::alloc::Global;
+
+/// Checks what a report claims of its program, claim by claim in their order.
+///
+/// The first claim that fails is told. An operation of the check that passes 128 bits before one fails ends it, with
+/// place `Check`.
+pub fn check(alloc: Global, program: &Program, report: &Report) -> Result<Verdict, Halt>
+    ensures exact { Answers (verdict_of program.now report.now) result }
+    ensures shown { IsTree (seen program.now) → IfHolds result (IsShown (seen program.now) report.now) }
+{
+    verdict(alloc, program, report)
+}
+
+/// The verdict on all claims.
+fn verdict(alloc: Global, program: &Program, report: &Report) -> Result<Verdict, Halt>
+    ensures { Answers (verdict_of program.now report.now) result }
+{
+    if has_shape(program, report) {
+        list_verdict(alloc, program, report)
+    } else {
+        Ok(Verdict::Fails(Claim::Shape))
+    }
+}
+
+/// The claims behind `Shape`.
+fn list_verdict(alloc: Global, program: &Program, report: &Report) -> Result<Verdict, Halt>
+    ensures { Answers (list_verdict program.now report.now) result }
+{
+    match policy_verdict(alloc, program, &report.policy, report.upper)? {
+        Verdict::Holds => bound_verdict(alloc, program, report),
+        Verdict::Fails(claim) => Ok(Verdict::Fails(claim)),
+    }
+}
+
+/// The claims behind those of the policy.
+fn bound_verdict(alloc: Global, program: &Program, report: &Report) -> Result<Verdict, Halt>
+    ensures { Answers (bound_verdict program.now report.now) result }
+{
+    match dual_verdict(alloc, program, &report.dual, report.lower)? {
+        Verdict::Holds => end_verdict(alloc, program, report),
+        Verdict::Fails(claim) => Ok(Verdict::Fails(claim)),
+    }
+}
+
+/// `Ends`, and the claims behind it.
+fn end_verdict(alloc: Global, program: &Program, report: &Report) -> Result<Verdict, Halt>
+    ensures { Answers (end_verdict program.now report.now) result }
+{
+    if has_ends(report.finding, report.lower, report.upper) {
+        late_verdict(alloc, program, report)
+    } else {
+        Ok(Verdict::Fails(Claim::Ends))
+    }
+}
+
+/// The claims of the ray and of the direction.
+fn late_verdict(alloc: Global, program: &Program, report: &Report) -> Result<Verdict, Halt>
+    ensures { Answers (late_verdict program.now report.now) result }
+{
+    match ray_verdict(alloc, program, &report.ray, report.extra)? {
+        Verdict::Holds => direction_verdict(alloc, program, &report.direction, report.extra),
+        Verdict::Fails(claim) => Ok(Verdict::Fails(claim)),
+    }
+}

@@ -1,0 +1,52 @@
+-- What a check gives, and how the checks of a script end.
+use Rattle.std.proofs.Common.{◌≡◌, ◌<◌, ◌∙◌, length, List, [], ◌∷◌, Bool, true, false, Result, Ok, Err, refl, sym, ap, arith}
+use Rattle.std.specs.Prelude.{IfOk}
+use Rattle.rationals.specs.Passes.{Operation}
+use Rattle.scen_defs.specs.Program.{content, view_of}
+use Rattle.scen_defs.specs.declared.program.Program.{Program}
+use Rattle.scen_defs.specs.declared.report.Report.{Report}
+use Rattle.scen_defs.specs.declared.report.Halt.{Halt}
+use Rattle.scen_defs.specs.declared.report.Halt.TheVariants.{Passed, Memory}
+use Rattle.scen_defs.specs.declared.report.Place.{Place}
+use Rattle.scen_defs.specs.declared.report.Place.TheVariants.{Solve, Cut, Cost, Ground, Dual, Check}
+use Rattle.scen_model.specs.Answers.{HaltOf}
+use Rattle.certificate_check.specs.declared.verdict.Verdict.{Verdict}
+use Rattle.certificate_check.specs.declared.verdict.Verdict.TheVariants.{Holds, Fails}
+use Rattle.certificate_check.specs.Verdicts.{verdict_of}
+use Rattle.certificate_check.specs.Shown.{IsShown, IfHolds}
+use Rattle.certificate_check.specs.Text.{verdict_text}
+use Rattle.script_checks.specs.declared.single.Checked.{Checked}
+use Rattle.script_checks.specs.Checked.{is_holding, holds, IsCheck}
+
+pub none_left : {A : Type 0} (xs : List A) → length xs < 1 → xs ≡ []
+none_left [] h = refl
+none_left (x ∷ xs) h = absurd (omega (arith, h))
+
+-- the check that comes of what a verdict walk gives
+pub checked : (program : Program) (report : Report) (outcome : Result Verdict Operation) (held : Bool) {E : Type 0} (r : Result Checked E)
+    → verdict_of program report ≡ outcome → holds outcome ≡ held → (held ≡ true → IsShown (view_of (content program)) report)
+    → IfOk r (λ c. c.line.items ≡ verdict_text report.number outcome) → IfOk r (λ c. c.holds ≡ held)
+    → IfOk r (IsCheck (content program) report)
+checked program report outcome held (Ok c) v w shown line is = record {
+  program = program;
+  content_is = refl;
+  line_is = line ∙ ap (verdict_text report.number) (sym v);
+  held = is ∙ sym w ∙ ap holds (sym v);
+  shown = λ e. shown (sym is ∙ e);
+}
+checked program report outcome held (Err e) v w shown line is = tt
+
+-- a verdict that all claims hold shows the report
+pub held_shown : (verdict : Verdict) (P : Type 0) → IfHolds (Ok verdict) P → is_holding verdict ≡ true → P
+held_shown Holds P h e = h
+held_shown (Fails claim) P h e = absurd (cc)
+
+-- a check that ends early names the operation in which the walk ends
+pub stopped_at : {X : Type 0} (walk : Result X Operation) (h : Halt) (p : Operation) → HaltOf walk h → (place : Place) × (h ≡ Passed place p) → walk ≡ Err p
+stopped_at walk (Passed Check q) p h e = let same : q ≡ p = cc (e.1) in h ∙ ap Err same
+stopped_at walk (Passed (Solve k) q) p h e = absurd h
+stopped_at walk (Passed (Cut k) q) p h e = absurd h
+stopped_at walk (Passed (Cost k) q) p h e = absurd h
+stopped_at walk (Passed Ground q) p h e = absurd h
+stopped_at walk (Passed Dual q) p h e = absurd h
+stopped_at walk Memory p h e = absurd (cc (e.1))

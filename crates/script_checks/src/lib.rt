@@ -1,0 +1,10 @@
+//! The checks of the reports of a script, and their text.
+#![tactic(auto)]
+
+mod checks;
+mod single;
+mod text;
+
+pub use checks::check_script;
+pub use single::Checked;
+pub use text::{all_hold, print_checks};
