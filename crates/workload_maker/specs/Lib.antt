@@ -1,0 +1,4 @@
+pub mod Page
+pub mod Lines
+pub mod Texts
+pub mod Views
