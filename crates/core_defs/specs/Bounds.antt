@@ -1,5 +1,6 @@
 -- What the lines of BOUNDS state: kind, optional set name, column, value.
-use Rattle.std.specs.Prelude.{ℕ, pos, ◌^◌, Bool, true, false, List, [], ◌∷◌, Option, Some, None, not, codes, flat_map, filter, if◌then◌else◌}
+use Rattle.std.specs.Prelude.{ℕ, pos, ◌^◌, Bool, true, false, List, [], ◌∷◌, Option, Some, None, not, codes, flat_map, filter}
+use Rattle.std.specs.Prelude.{if◌then◌else◌}
 use Rattle.std.specs.Ordering.{is_gt}
 use Rattle.rationals.specs.Rational.{ℚ, zero_ℚ, neg_ℚ, ◌÷◌}
 use Rattle.rationals.specs.Order.{compare}
@@ -81,7 +82,11 @@ is_at_most one other = not (is_gt (compare one other))
 
 -- a line sets one bound or both; LO, FX, FR and MI state the lower one
 abbrev pub bounded : ColumnBounds → BoundKind → ℚ → ColumnBounds
-bounded old bounds.Lower value = record { lower = (if is_at_most value (neg_ℚ infinite) then None else Some value); upper = old.upper; stated = true }
+bounded old bounds.Lower value = record {
+  lower = (if is_at_most value (neg_ℚ infinite) then None else Some value);
+  upper = old.upper;
+  stated = true;
+}
 bounded old bounds.Upper value = record old { upper = (if is_at_most infinite value then None else Some value) }
 bounded old bounds.Fixed value = record { lower = Some value; upper = Some value; stated = true }
 bounded old bounds.Free value = record { lower = None; upper = None; stated = true }
@@ -91,7 +96,8 @@ bounded old bounds.NoUpper value = record old { upper = None }
 -- the lines that name the column set its bounds, one after another
 abbrev pub bounds_after : ColumnBounds → List ℕ → List Bound → ColumnBounds
 bounds_after old column [] = old
-bounds_after old column (bound ∷ rest) = bounds_after (if same_name column bound.column then bounded old bound.kind (number_in bound.word) else old) column rest
+bounds_after old column (bound ∷ rest) = bounds_after (if same_name column bound.column then bounded old bound.kind (number_in bound.word)
+    else old) column rest
 
 -- at first a column is at least 0 and has no upper bound
 abbrev pub first_bounds : ColumnBounds

@@ -1,5 +1,6 @@
 -- Which line of a core file is refused, and for which cause, by the lines before it.
-use Rattle.std.specs.Prelude.{◌≡◌, ℕ, ◌+◌, Bool, true, false, List, [], ◌∷◌, ◌++◌, Option, Some, None, Result, Ok, Err, ◌&&◌, ◌||◌, ◌⊎◌, not, is_some, nat_lt, length, codes, if◌then◌else◌}
+use Rattle.std.specs.Prelude.{◌≡◌, ℕ, ◌+◌, Bool, true, false, List, [], ◌∷◌, ◌++◌, Option, Some, None, Result, Ok, Err, ◌&&◌, ◌||◌, ◌⊎◌}
+use Rattle.std.specs.Prelude.{not, is_some, nat_lt, length, codes, if◌then◌else◌}
 use Rattle.rationals.specs.Forms.{is_zero}
 use Rattle.smps_words.specs.Line.{TextLine, reading_of}
 use Rattle.smps_words.specs.Names.{same_name, place_of}
@@ -17,7 +18,8 @@ use Rattle.core_defs.specs.Filed.{last_of}
 use Rattle.core_defs.specs.Lines.{first_word, last_section, has_section, data_of}
 use Rattle.core_defs.specs.Number.{number_fault}
 use Rattle.core_defs.specs.Section.{section_of, rank, same_section, is_end}
-use Rattle.core_defs.specs.Stated.{use_of, free_rows, constraints, Pair, pairs_after, columns, entry_pairs, number_in, value_on, set_on, set_pairs, same_set, first_set, chosen, rhs_pairs, range_pairs}
+use Rattle.core_defs.specs.Stated.{use_of, free_rows, constraints, Pair, pairs_after, columns, entry_pairs, number_in, value_on, set_on}
+use Rattle.core_defs.specs.Stated.{set_pairs, same_set, first_set, chosen, rhs_pairs, range_pairs}
 use Rattle.core_defs.specs.Step.{most_rows, most_columns, most_entries, is_named, is_sudden, are_crossed}
 
 -- a fault, or else a further one
@@ -54,7 +56,8 @@ row_fault before (_ ∷ _ ∷ _ ∷ _) = Some cause.FieldCount
 
 -- the column was there, and another one was there after it
 abbrev pub split_fault : List TextLine → List ℕ → Option Cause
-split_fault before column = if not (is_named (last_of (columns before)) column) && is_there (columns before) column then Some cause.ColumnSplit else None
+split_fault before column = if not (is_named (last_of (columns before)) column) && is_there (columns before) column
+    then Some cause.ColumnSplit else None
 
 -- the row is unknown, the value is no number, or an earlier pair names both
 abbrev pub pair_fault : List TextLine → List Pair → Pair → Option Cause
@@ -77,14 +80,17 @@ count_entries rows (pair ∷ pairs) = (if counts rows pair then 1 else 0) + coun
 
 -- more columns or entries than there may be
 abbrev pub limit_fault : List TextLine → Option Cause
-limit_fault lines = if nat_lt most_columns (length (columns lines)) || nat_lt most_entries (count_entries (constraints lines) (entry_pairs lines)) then Some cause.CoreLimit else None
+limit_fault lines = if nat_lt most_columns (length (columns lines))
+    || nat_lt most_entries (count_entries (constraints lines) (entry_pairs lines)) then Some cause.CoreLimit else None
 
 abbrev pub column_fault : List TextLine → TextLine → List (List ℕ) → Option Cause
 column_fault before line (column ∷ row ∷ word ∷ []) =
     if same_name row (codes "'MARKER'") then Some cause.IntegerMarker
-    else (split_fault before column orelse (pairs_fault before (entry_pairs before) (pairs_after column (row ∷ word ∷ [])) orelse limit_fault (before ++ line ∷ [])))
+    else (split_fault before column orelse (pairs_fault before (entry_pairs before) (pairs_after column (row ∷ word ∷ []))
+    orelse limit_fault (before ++ line ∷ [])))
 column_fault before line (column ∷ row ∷ word ∷ second ∷ other ∷ []) =
-    split_fault before column orelse (pairs_fault before (entry_pairs before) (pairs_after column (row ∷ word ∷ second ∷ other ∷ [])) orelse limit_fault (before ++ line ∷ []))
+    split_fault before column orelse (pairs_fault before (entry_pairs before) (pairs_after column (row ∷ word ∷ second ∷ other ∷ []))
+    orelse limit_fault (before ++ line ∷ []))
 column_fault before line [] = Some cause.FieldCount
 column_fault before line (_ ∷ []) = Some cause.FieldCount
 column_fault before line (_ ∷ _ ∷ []) = Some cause.FieldCount
@@ -107,12 +113,14 @@ is_first (Some place) = not (nat_lt 0 place)
 
 -- a value on the objective that isn't 0
 abbrev pub is_objective_rhs : List TextLine → Pair → Bool
-is_objective_rhs before pair = (not (is_there (constraints before) pair.row) && is_first (place_of (free_rows before) pair.row)) && not (is_zero (number_in pair.word))
+is_objective_rhs before pair = (not (is_there (constraints before) pair.row) && is_first (place_of (free_rows before) pair.row))
+    && not (is_zero (number_in pair.word))
 
 abbrev pub rhs_pair_fault : List TextLine → List Pair → Pair → Option Cause
 rhs_pair_fault before pairs pair =
     if not (is_row before pair.row) then Some cause.RowUnknown
-    else (number_fault pair.word orelse (if is_objective_rhs before pair then Some cause.ObjectiveRhs else (if is_some (value_on pairs [] pair.row) then Some cause.EntryTwice else None)))
+    else (number_fault pair.word orelse (if is_objective_rhs before pair then Some cause.ObjectiveRhs
+    else (if is_some (value_on pairs [] pair.row) then Some cause.EntryTwice else None)))
 
 abbrev pub rhs_pairs_fault : List TextLine → List Pair → List Pair → Option Cause
 rhs_pairs_fault before pairs [] = None
@@ -137,7 +145,8 @@ range_pairs_fault before pairs (pair ∷ more) = range_pair_fault before pairs p
 abbrev pub range_fault : List TextLine → List (List ℕ) → Option Cause
 range_fault before fields =
     if not (fits_set fields) then Some cause.FieldCount
-    else (if is_used (data_of sections.Ranges before) fields then range_pairs_fault before (range_pairs before) (set_pairs fields) else None)
+    else (if is_used (data_of sections.Ranges before) fields then range_pairs_fault before (range_pairs before) (set_pairs fields)
+    else None)
 
 -- ---- BOUNDS
 
@@ -155,14 +164,16 @@ bounds_fault before bound =
 abbrev pub used_bound_fault : List TextLine → Bound → Option Cause
 used_bound_fault before bound =
     if not (same_set (chosen (first_bound_set (bounds_on before)) bound.set) bound.set) then None
-    else (if not (is_there (columns before) bound.column) then Some cause.ColumnUnknown else (word_fault bound orelse bounds_fault before bound))
+    else (if not (is_there (columns before) bound.column) then Some cause.ColumnUnknown
+    else (word_fault bound orelse bounds_fault before bound))
 
 abbrev pub first_bound_fault : List TextLine → List Bound → Option Cause
 first_bound_fault before [] = Some cause.FieldCount
 first_bound_fault before (bound ∷ _) = used_bound_fault before bound
 
 abbrev pub bound_fault : List TextLine → List (List ℕ) → Option Cause
-bound_fault before fields = if not (is_some (bound_kind (first_word fields))) then Some cause.BoundKind else first_bound_fault before (bound_on fields)
+bound_fault before fields = if not (is_some (bound_kind (first_word fields))) then Some cause.BoundKind
+    else first_bound_fault before (bound_on fields)
 
 -- ---- headers and lines
 
@@ -185,7 +196,8 @@ data_fault sections.End before line = Some cause.SectionOrder
 
 -- why a line is refused that stands behind these lines, if it is
 abbrev pub fault : List TextLine → TextLine → Option Cause
-fault before line = if line.header then section_fault before (section_of (first_word line.fields)) else data_fault (last_section before) before line
+fault before line = if line.header then section_fault before (section_of (first_word line.fields))
+    else data_fault (last_section before) before line
 
 -- ---- texts
 
@@ -223,7 +235,8 @@ pub record IsMissing (lines : List TextLine) (end_line : ℕ) (refusal : Refusal
   pub rest : List TextLine
   pub split : lines ≡ read ++ rest
   pub fit : NoFault read
-  pub missing : ((is_end (last_section read) ≡ true) × (has_section sections.Columns read ≡ false)) ⊎ ((is_end (last_section read) ≡ false) × (rest ≡ []))
+  pub missing : ((is_end (last_section read) ≡ true) × (has_section sections.Columns read ≡ false))
+      ⊎ ((is_end (last_section read) ≡ false) × (rest ≡ []))
   pub cause_is : refusal.cause ≡ cause.SectionMissing
   pub number_is : refusal.line ≡ end_line
 
@@ -235,4 +248,5 @@ IsFault lines end_line refusal = IsFirstFault lines refusal ⊎ IsMissing lines 
 abbrev pub IsReadOrRefused : {X : Type 0} → List ℕ → Result X ReadFail → Type 0
 IsReadOrRefused text (Ok _) = IsCoreFile (reading_of 0 text).lines
 IsReadOrRefused text (Err fail.Memory) = Unit {0}
-IsReadOrRefused text (Err (fail.Refused refusal)) = (IsCoreFile (reading_of 0 text).lines → ⊥) × IsFault (reading_of 0 text).lines (reading_of 0 text).end_line refusal
+IsReadOrRefused text (Err (fail.Refused refusal)) = (IsCoreFile (reading_of 0 text).lines → ⊥)
+    × IsFault (reading_of 0 text).lines (reading_of 0 text).end_line refusal

@@ -12,7 +12,8 @@ first_word (word ∷ _) = word
 
 -- the section behind a line: that of its header, where it is one
 abbrev pub section_behind : Section → TextLine → Section
-section_behind before line = if is_end before then before else (if line.header then unwrap_or (section_of (first_word line.fields)) before else before)
+section_behind before line = if is_end before then before else (if line.header then unwrap_or (section_of (first_word line.fields)) before
+    else before)
 
 -- the section behind all of the lines
 abbrev pub section_after : Section → List TextLine → Section
@@ -25,7 +26,8 @@ last_section lines = section_after sections.Start lines
 -- some header begins the section
 abbrev pub has_after : Section → Section → List TextLine → Bool
 has_after wanted before [] = false
-has_after wanted before (line ∷ lines) = (line.header && same_section (section_behind before line) wanted) || has_after wanted (section_behind before line) lines
+has_after wanted before (line ∷ lines) = (line.header && same_section (section_behind before line) wanted)
+    || has_after wanted (section_behind before line) lines
 
 abbrev pub has_section : Section → List TextLine → Bool
 has_section wanted lines = has_after wanted sections.Start lines

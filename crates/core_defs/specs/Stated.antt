@@ -1,5 +1,6 @@
 -- What the lines of ROWS, COLUMNS, RHS and RANGES state.
-use Rattle.std.specs.Prelude.{ℕ, Bool, true, false, List, [], ◌∷◌, ◌++◌, Option, Some, None, Result, Ok, Err, ◌&&◌, is_some, codes, flat_map, if◌then◌else◌}
+use Rattle.std.specs.Prelude.{ℕ, Bool, true, false, List, [], ◌∷◌, ◌++◌, Option, Some, None, Result, Ok, Err, ◌&&◌, is_some, codes}
+use Rattle.std.specs.Prelude.{flat_map, if◌then◌else◌}
 use Rattle.std.specs.Option.{unwrap_or}
 use Rattle.rationals.specs.Rational.{ℚ, zero_ℚ}
 use Rattle.frac128.specs.Numbers.{read_number}
@@ -116,7 +117,8 @@ number_in word = number_or_zero (read_number word)
 -- the value on the field pair that names both
 abbrev pub value_on : List Pair → List ℕ → List ℕ → Option ℚ
 value_on [] column row = None
-value_on (pair ∷ pairs) column row = if same_name column pair.column && same_name row pair.row then Some (number_in pair.word) else value_on pairs column row
+value_on (pair ∷ pairs) column row = if same_name column pair.column && same_name row pair.row then Some (number_in pair.word)
+    else value_on pairs column row
 
 -- the value of a column in a row; one that isn't stated is 0
 abbrev pub entry_in : List TextLine → List ℕ → List ℕ → ℚ

@@ -1,5 +1,6 @@
 -- What a line adds to the lines filed before it, or the cause that refuses it.
-use Rattle.std.specs.Prelude.{ℕ, Bool, true, false, not, List, [], ◌∷◌, ◌++◌, ◌+◌, ◌&&◌, ◌||◌, Option, Some, None, Result, Ok, Err, is_some, nat_lt, length, codes, if◌then◌else◌, slice_index_or, slice_set}
+use Rattle.std.specs.Prelude.{ℕ, Bool, true, false, not, List, [], ◌∷◌, ◌++◌, ◌+◌, ◌&&◌, ◌||◌, Option, Some, None, Result, Ok, Err, is_some}
+use Rattle.std.specs.Prelude.{nat_lt, length, codes, if◌then◌else◌, slice_index_or, slice_set}
 use Rattle.rationals.specs.Rational.{ℚ, zero_ℚ}
 use Rattle.rationals.specs.Forms.{find, is_zero}
 use Rattle.smps_words.specs.Line.{TextLine, reading_of}
@@ -64,7 +65,13 @@ abbrev pub with_free : Filed → List ℕ → Filed
 with_free f name = record f { free = f.free ++ name ∷ []; free_rhs = f.free_rhs ++ None ∷ [] }
 
 abbrev pub with_row : Filed → RowKind → List ℕ → Filed
-with_row f kind name = record f { rows = f.rows ++ name ∷ []; kinds = f.kinds ++ kind ∷ []; rhs = f.rhs ++ None ∷ []; ranges = f.ranges ++ None ∷ [] }
+with_row f kind name = record f {
+  rows = f.rows ++ name ∷ [];
+  kinds = f.kinds ++ kind ∷ [];
+  rhs = f.rhs ++ None ∷ [];
+  ranges = f.ranges
+      ++ None ∷ [];
+}
 
 -- a new row
 abbrev pub with_use : Filed → List ℕ → RowUse → Result Filed Cause
@@ -99,9 +106,11 @@ count_of value = if is_zero value then 0 else 1
 
 -- the column's value in a row; a value 0 is no entry, but stands for its place
 abbrev pub with_value_at : Filed → ℚ → RowPlace → Result Filed Cause
-with_value_at f value (places.Free row) = if is_some (find f.costs row) then Err cause.EntryTwice else Ok (record f { costs = with_term row value f.costs })
+with_value_at f value (places.Free row) = if is_some (find f.costs row) then Err cause.EntryTwice
+    else Ok (record f { costs = with_term row value f.costs })
 with_value_at f value (places.Constraint row) =
-    if is_some (find f.terms row) then Err cause.EntryTwice else Ok (record f { terms = with_term row value f.terms; entries = f.entries + count_of value })
+    if is_some (find f.terms row) then Err cause.EntryTwice else Ok
+    (record f { terms = with_term row value f.terms; entries = f.entries + count_of value })
 
 -- a row and the column's value there
 unfoldable pub with_value : Filed → List ℕ → List ℕ → Result Filed Cause
@@ -116,7 +125,8 @@ within_limits f = if nat_lt most_columns (length f.names) || nat_lt most_entries
 
 unfoldable pub column_line : Filed → List (List ℕ) → Result Filed Cause
 column_line f (column ∷ row ∷ word ∷ []) =
-    if same_name row (codes "'MARKER'") then Err cause.IntegerMarker else (with_column f column >>= λ g. with_value g row word >>= λ h. within_limits h)
+    if same_name row (codes "'MARKER'") then Err cause.IntegerMarker
+    else (with_column f column >>= λ g. with_value g row word >>= λ h. within_limits h)
 column_line f (column ∷ row ∷ word ∷ second ∷ other ∷ []) = do
   g ← with_column f column
   h ← with_value g row word
@@ -146,7 +156,8 @@ is_cost_rhs row value = not (nat_lt 0 row) && not (is_zero value)
 abbrev pub with_rhs_at : Filed → ℚ → RowPlace → Result Filed Cause
 with_rhs_at f value (places.Free row) =
     if is_cost_rhs row value then Err cause.ObjectiveRhs
-    else (if is_some (slice_index_or f.free_rhs row None) then Err cause.EntryTwice else Ok (record f { free_rhs = slice_set f.free_rhs row (Some value) }))
+    else (if is_some (slice_index_or f.free_rhs row None) then Err cause.EntryTwice
+    else Ok (record f { free_rhs = slice_set f.free_rhs row (Some value) }))
 with_rhs_at f value (places.Constraint row) =
     if is_some (slice_index_or f.rhs row None) then Err cause.EntryTwice else Ok (record f { rhs = slice_set f.rhs row (Some value) })
 
@@ -177,7 +188,8 @@ constraint_at (places.Free row) = Err cause.RangeOnFree
 constraint_at (places.Constraint row) = Ok row
 
 abbrev pub with_range_at : Filed → ℚ → ℕ → Result Filed Cause
-with_range_at f value row = if is_some (slice_index_or f.ranges row None) then Err cause.EntryTwice else Ok (record f { ranges = slice_set f.ranges row (Some value) })
+with_range_at f value row = if is_some (slice_index_or f.ranges row None) then Err cause.EntryTwice
+    else Ok (record f { ranges = slice_set f.ranges row (Some value) })
 
 unfoldable pub with_range : Filed → List ℕ → List ℕ → Result Filed Cause
 with_range f name word = do
@@ -190,7 +202,8 @@ unfoldable pub range_line : Filed → List (List ℕ) → Result Filed Cause
 range_line f (row ∷ word ∷ []) = in_range_set f None (λ g. with_range g row word)
 range_line f (set ∷ row ∷ word ∷ []) = in_range_set f (Some set) (λ g. with_range g row word)
 range_line f (row ∷ word ∷ second ∷ other ∷ []) = in_range_set f None (λ g. with_range g row word >>= λ h. with_range h second other)
-range_line f (set ∷ row ∷ word ∷ second ∷ other ∷ []) = in_range_set f (Some set) (λ g. with_range g row word >>= λ h. with_range h second other)
+range_line f (set ∷ row ∷ word ∷ second ∷ other ∷ []) = in_range_set f (Some set)
+    (λ g. with_range g row word >>= λ h. with_range h second other)
 range_line f [] = Err cause.FieldCount
 range_line f (_ ∷ []) = Err cause.FieldCount
 range_line f (_ ∷ _ ∷ _ ∷ _ ∷ _ ∷ _ ∷ _) = Err cause.FieldCount
@@ -259,7 +272,8 @@ bound_line f (word ∷ rest) = do
 
 -- COLUMNS wants an objective
 abbrev pub enter : Filed → Section → Result Filed Cause
-enter f sections.Columns = if nat_lt 0 (length f.free) then Ok (record f { section = sections.Columns; has_columns = true }) else Err cause.NoObjective
+enter f sections.Columns = if nat_lt 0 (length f.free) then Ok (record f { section = sections.Columns; has_columns = true })
+    else Err cause.NoObjective
 enter f sections.Start = Ok (record f { section = sections.Start })
 enter f sections.Name = Ok (record f { section = sections.Name })
 enter f sections.Rows = Ok (record f { section = sections.Rows })
@@ -307,7 +321,8 @@ finish end_line f = if f.has_columns then Ok f else Err (record { line = end_lin
 -- the lines up to ENDATA, or the first line that is refused
 abbrev pub read_from : ℕ → Filed → List TextLine → Result Filed Refusal
 read_from end_line f [] = Err (record { line = end_line; cause = cause.SectionMissing })
-read_from end_line f (line ∷ lines) = on_line line.number (step f line) (λ g. if is_end g.section then finish end_line g else read_from end_line g lines)
+read_from end_line f (line ∷ lines) = on_line line.number (step f line) (λ g. if is_end g.section then finish end_line g
+    else read_from end_line g lines)
 
 abbrev pub filed_text : List ℕ → Result Filed Refusal
 filed_text text = read_from (reading_of 0 text).end_line nothing_filed (reading_of 0 text).lines

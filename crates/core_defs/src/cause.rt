@@ -84,8 +84,30 @@ pub enum Cause {
     ScenariosMixed,
     /// 49: a limit of the program is exceeded.
     ScenarioLimit,
+    /// 50: the first word isn't a command of an edit list.
+    CommandUnknown,
+    /// 51: no scenario has that name there.
+    ScenarioUnknown,
+    /// 52: a scenario has that name already.
+    NameTaken,
+    /// 53: a probability of an edit isn't above 0 and below 1.
+    EditProbability,
+    /// 54: an edit changes the probability of the only scenario, or drops it.
+    LastScenario,
+    /// 55: column and row of an edit name no entry.
+    EditEntryUnknown,
+    /// 56: there are more than 10,000 commands.
+    ScriptLimit,
     /// 57: this operation passes 128 bits.
     Passes(Passed),
+    /// 58: a line isn't one of a report there, or a report is cut off.
+    ReportBad,
+    /// 59: a line isn't one of a trace there, or a trace is cut off.
+    TraceBad,
+    /// 60: the deterministic equivalent exceeds a limit of core files.
+    FlatLimit,
+    /// 61: a name of the core is one that the program with tail risk needs.
+    TailName,
 }
 
 impl Cause {
@@ -135,7 +157,18 @@ impl Cause {
             Cause::ScenarioTwice => 47,
             Cause::ScenariosMixed => 48,
             Cause::ScenarioLimit => 49,
+            Cause::CommandUnknown => 50,
+            Cause::ScenarioUnknown => 51,
+            Cause::NameTaken => 52,
+            Cause::EditProbability => 53,
+            Cause::LastScenario => 54,
+            Cause::EditEntryUnknown => 55,
+            Cause::ScriptLimit => 56,
             Cause::Passes(_) => 57,
+            Cause::ReportBad => 58,
+            Cause::TraceBad => 59,
+            Cause::FlatLimit => 60,
+            Cause::TailName => 61,
         }
     }
 }

@@ -353,23 +353,35 @@ fn solved(alloc: Global, text: &[u8]) -> Result<(Program, Report), Fail>
 }
 
 /// Whether the policy is feasible and costs this number, and the multipliers are good and worth it.
-fn are_best(program: &Program, policy: &Values, dual: &Values, best: Frac) -> Result<bool, Fail> {
+fn are_best(
+    alloc: Global,
+    program: &Program,
+    policy: &Values,
+    dual: &Values,
+    best: Frac,
+) -> Result<bool, Fail> {
     let named = fits(program, policy, false) && fits(program, dual, true);
-    let meets = feasible(program, policy)?;
-    let costs = cost(program, policy)?;
-    let worth = dual_value(program, dual)?;
+    let meets = feasible(alloc, program, policy)?;
+    let costs = cost(alloc, program, policy)?;
+    let worth = dual_value(alloc, program, dual)?;
     Ok(named && meets && costs == best && worth == Some(best))
 }
 
 /// Whether the ray shows by this number, which is above 0, that nothing is feasible.
-fn shows_nothing(program: &Program, ray: &Values, value: Frac) -> Result<bool, Fail> {
+fn shows_nothing(
+    alloc: Global,
+    program: &Program,
+    ray: &Values,
+    value: Frac,
+) -> Result<bool, Fail> {
     let named = fits(program, ray, true);
-    let worth = zero_value(program, ray)?;
+    let worth = zero_value(alloc, program, ray)?;
     Ok(named && worth == Some(value) && value.sign() > 0)
 }
 
 /// Whether the policy is feasible and costs the first number, and the direction is one and costs the second.
 fn shows_no_end(
+    alloc: Global,
     program: &Program,
     policy: &Values,
     direction: &Values,
@@ -377,31 +389,41 @@ fn shows_no_end(
     slope: Frac,
 ) -> Result<bool, Fail> {
     let named = fits(program, policy, false) && fits(program, direction, false);
-    let meets = feasible(program, policy)?;
-    let costs = cost(program, policy)?;
-    let falls = is_direction(program, direction)?;
-    let moves = cost(program, direction)?;
+    let meets = feasible(alloc, program, policy)?;
+    let costs = cost(alloc, program, policy)?;
+    let falls = is_direction(alloc, program, direction)?;
+    let moves = cost(alloc, program, direction)?;
     Ok(named && meets && costs == upper && falls && moves == slope && slope.sign() < 0)
 }
 
 /// Whether a report is OPTIMAL with this cost, and shows it.
-fn is_optimal(program: &Program, report: &Report, numbers: &str) -> Result<bool, Fail> {
+fn is_optimal(
+    alloc: Global,
+    program: &Program,
+    report: &Report,
+    numbers: &str,
+) -> Result<bool, Fail> {
     let best = parse(numbers.as_bytes())?;
     if report.lower != Some(best) || report.upper != Some(best) {
         return Ok(false);
     }
     match (&report.policy, &report.dual) {
-        (Some(policy), Some(dual)) => are_best(program, policy, dual, best),
+        (Some(policy), Some(dual)) => are_best(alloc, program, policy, dual, best),
         _ => Ok(false),
     }
 }
 
 /// Whether a report is INFEASIBLE with a ray of this value, and shows it.
-fn is_infeasible(program: &Program, report: &Report, numbers: &str) -> Result<bool, Fail> {
+fn is_infeasible(
+    alloc: Global,
+    program: &Program,
+    report: &Report,
+    numbers: &str,
+) -> Result<bool, Fail> {
     let value = parse(numbers.as_bytes())?;
     match &report.ray {
         Some(ray) => {
-            let shown = shows_nothing(program, ray, value)?;
+            let shown = shows_nothing(alloc, program, ray, value)?;
             Ok(shown && report.extra == Some(value))
         }
         None => Ok(false),
@@ -409,7 +431,12 @@ fn is_infeasible(program: &Program, report: &Report, numbers: &str) -> Result<bo
 }
 
 /// Whether a report is UNBOUNDED with a policy and a direction of these costs, and shows it.
-fn is_unbounded(program: &Program, report: &Report, numbers: &str) -> Result<bool, Fail> {
+fn is_unbounded(
+    alloc: Global,
+    program: &Program,
+    report: &Report,
+    numbers: &str,
+) -> Result<bool, Fail> {
     let (upper, slope) = numbers.split_once(' ').ok_or("one number")?;
     let upper = parse(upper.as_bytes())?;
     let slope = parse(slope.as_bytes())?;
@@ -417,18 +444,25 @@ fn is_unbounded(program: &Program, report: &Report, numbers: &str) -> Result<boo
         return Ok(false);
     }
     match (&report.policy, &report.direction) {
-        (Some(policy), Some(direction)) => shows_no_end(program, policy, direction, upper, slope),
+        (Some(policy), Some(direction)) => shows_no_end(
+            alloc, program, policy, direction, upper, slope,
+        ),
         _ => Ok(false),
     }
 }
 
 /// Whether a report is so, and the flat calls show it.
-fn is_shown(program: &Program, report: &Report, expected: &str) -> Result<bool, Fail> {
+fn is_shown(
+    alloc: Global,
+    program: &Program,
+    report: &Report,
+    expected: &str,
+) -> Result<bool, Fail> {
     let (word, numbers) = expected.split_once(' ').ok_or("no numbers")?;
     match (report.finding, word) {
-        (Finding::Optimal, "OPTIMAL") => is_optimal(program, report, numbers),
-        (Finding::Infeasible, "INFEASIBLE") => is_infeasible(program, report, numbers),
-        (Finding::Unbounded, "UNBOUNDED") => is_unbounded(program, report, numbers),
+        (Finding::Optimal, "OPTIMAL") => is_optimal(alloc, program, report, numbers),
+        (Finding::Infeasible, "INFEASIBLE") => is_infeasible(alloc, program, report, numbers),
+        (Finding::Unbounded, "UNBOUNDED") => is_unbounded(alloc, program, report, numbers),
         _ => Ok(false),
     }
 }
@@ -458,10 +492,18 @@ fn agrees(alloc: Global, text: &str, expected: &str) -> Result<bool, Fail> {
         return Err(Fail::from("a long core file"));
     }
     let (program, first) = solved(alloc, text.as_bytes())?;
-    let is_first = is_shown(&program, &first, expected)?;
+    let is_first = is_shown(alloc, &program, &first, expected)?;
     let claim = claim_of(first)?;
-    let again = report(&program, 2, claim, Place::Cost(1), Open::Solves(1), 1)?;
-    Ok(is_first && is_shown(&program, &again, expected)?)
+    let again = report(
+        alloc,
+        &program,
+        2,
+        claim,
+        Place::Cost(1),
+        Open::Solves(1),
+        1,
+    )?;
+    Ok(is_first && is_shown(alloc, &program, &again, expected)?)
 }
 
 #[test]

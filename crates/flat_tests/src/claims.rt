@@ -69,8 +69,8 @@ fn agrees(alloc: Global, report: &Report, expected: &str) -> Result<bool, Fail> 
     )
 }
 
-fn claimed(program: &Program, claim: Claim, why: Open) -> Result<Report, Fail> {
-    let report = report(program, 1, claim, Place::Cost(7), why, 9)?;
+fn claimed(alloc: Global, program: &Program, claim: Claim, why: Open) -> Result<Report, Fail> {
+    let report = report(alloc, program, 1, claim, Place::Cost(7), why, 9)?;
     Ok(report)
 }
 
@@ -82,13 +82,18 @@ fn claims_on_a_tree(rt: HostRuntime) -> Result<(), Fail> {
         let (second, expected) = rest.split_once('|').ok_or("no answer")?;
         let policy = listed(rt.alloc(), first)?;
         let dual = listed(rt.alloc(), second)?;
-        let report = claimed(&cover, Claim::Ends { policy, dual }, Open::Solves(3))?;
+        let report = claimed(
+            rt.alloc(),
+            &cover,
+            Claim::Ends { policy, dual },
+            Open::Solves(3),
+        )?;
         assert!(rt; agrees(rt.alloc(), &report, expected)?, "{line}");
     }
     for line in RAYS.lines() {
         let (first, expected) = line.split_once('|').ok_or("no answer")?;
         let ray = values(rt.alloc(), first)?;
-        let report = claimed(&cover, Claim::Nowhere { ray }, Open::Solves(3))?;
+        let report = claimed(rt.alloc(), &cover, Claim::Nowhere { ray }, Open::Solves(3))?;
         assert!(rt; agrees(rt.alloc(), &report, expected)?, "{line}");
     }
     for line in DIRECTIONS.lines() {
@@ -97,7 +102,7 @@ fn claims_on_a_tree(rt: HostRuntime) -> Result<(), Fail> {
         let policy = values(rt.alloc(), first)?;
         let direction = values(rt.alloc(), second)?;
         let claim = Claim::Endless { policy, direction };
-        let report = claimed(&cover, claim, Open::Solves(3))?;
+        let report = claimed(rt.alloc(), &cover, claim, Open::Solves(3))?;
         assert!(rt; agrees(rt.alloc(), &report, expected)?, "{line}");
     }
     Ok(())
@@ -121,7 +126,12 @@ fn told_operations_pass(rt: HostRuntime) -> Result<(), Fail> {
             policy: None,
             dual: None,
         };
-        let report = claimed(&cover, none, Open::Passed(Place::Solve(2), passed))?;
+        let report = claimed(
+            rt.alloc(),
+            &cover,
+            none,
+            Open::Passed(Place::Solve(2), passed),
+        )?;
         assert!(rt; agrees(rt.alloc(), &report, expected)?, "{expected}");
     }
     Ok(())

@@ -41,9 +41,9 @@ fn agrees_at_point(alloc: Global, mix: &Program, a: i8, b: i8) -> Result<bool, F
     let y = i64::from(b);
     let meets = x >= 0 && y >= 0 && x + y <= 4 && x + 3 * y <= 6;
     let point = pair(alloc, x, y)?;
-    let met = feasible(mix, &point)?;
-    let costs = cost(mix, &point)?;
-    let falls = is_direction(mix, &point)?;
+    let met = feasible(alloc, mix, &point)?;
+    let costs = cost(alloc, mix, &point)?;
+    let falls = is_direction(alloc, mix, &point)?;
     Ok(met == meets && costs == Frac::from_int(-3 * x - 2 * y) && !falls)
 }
 
@@ -56,8 +56,8 @@ fn agrees_at_dual(alloc: Global, mix: &Program, a: i8, b: i8) -> Result<bool, Fa
     let zero_good = signs && -y - z >= 0 && -y - 3 * z >= 0;
     let value = Some(Frac::from_int(4 * y + 6 * z));
     let dual = pair(alloc, y, z)?;
-    let own = dual_value(mix, &dual)?;
-    let zero = zero_value(mix, &dual)?;
+    let own = dual_value(alloc, mix, &dual)?;
+    let zero = zero_value(alloc, mix, &dual)?;
     let want = if good { value } else { None };
     let zero_want = if zero_good { value } else { None };
     Ok(own == want && zero == zero_want)

@@ -149,13 +149,13 @@ fn agrees_at_point(
     if !fits(cover, &point, false) {
         return Ok(expected == "stray");
     }
-    let meets = if feasible(cover, &point)? {
+    let meets = if feasible(alloc, cover, &point)? {
         "feasible"
     } else {
         "short"
     };
     let recession = derive(alloc, cover, Kind::Recession)?;
-    let stays = if feasible(&recession, &point)? {
+    let stays = if feasible(alloc, &recession, &point)? {
         "yes"
     } else {
         "no"
@@ -164,13 +164,13 @@ fn agrees_at_point(
     let mut line = b"fit ".to_vec(alloc)?;
     line.extend_from_slice(meets.as_bytes())?;
     line.extend_from_slice(b" ")?;
-    frac128::print(alloc, cost(cover, &point)?, &mut line)?;
+    frac128::print(alloc, cost(alloc, cover, &point)?, &mut line)?;
     line.extend_from_slice(b" ")?;
     line.extend_from_slice(stays.as_bytes())?;
     Ok(
         line.as_slice() == expected.as_bytes()
-            && cost(&free, &point)?.is_zero()
-            && !is_direction(cover, &point)?,
+            && cost(alloc, &free, &point)?.is_zero()
+            && !is_direction(alloc, cover, &point)?,
     )
 }
 
@@ -198,8 +198,8 @@ fn agrees_at_dual(
         return Ok(expected == "stray");
     }
     let mut line = b"fit".to_vec(alloc)?;
-    put(alloc, dual_value(cover, &dual)?, &mut line)?;
-    put(alloc, zero_value(cover, &dual)?, &mut line)?;
+    put(alloc, dual_value(alloc, cover, &dual)?, &mut line)?;
+    put(alloc, zero_value(alloc, cover, &dual)?, &mut line)?;
     Ok(line.as_slice() == expected.as_bytes())
 }
 

@@ -19,8 +19,10 @@ impl Draft {
 
     /// Whether a line of this set is used.
     fn choose_rhs(&mut self, set: Option<&[u8]>) -> Result<bool, AllocError>
-        ensures used { let line = option_map (λ name. name.now) set.entry in IfOk result (λ used. used ≡ same_set (chosen self.old.rhs_set line) line) }
-        ensures filed { let line = option_map (λ name. name.now) set.entry in OnOk result (filed self.new ≡ choosing_rhs (filed self.old) line) }
+        ensures used { let line = option_map (λ name. name.now) set.entry
+            in IfOk result (λ used. used ≡ same_set (chosen self.old.rhs_set line) line) }
+        ensures filed { let line = option_map (λ name. name.now) set.entry
+            in OnOk result (filed self.new ≡ choosing_rhs (filed self.old) line) }
         ensures entries { OnOk result (self.new.entries ≡ self.old.entries) }
     {
         choose(self.alloc, &mut self.rhs_set, set)

@@ -59,7 +59,8 @@ fn column_defs(
     parts: Vec<ColumnPart>,
 ) -> Result<Vec<ColumnDef>, AllocError>
     requires { vec_len parts ≤ length names.now }
-    ensures { IfOk result (λ columns. columns.items ≡ column_defs (record nothing_filed { names = names.now; bounds = bounds.now.items }) 0 parts.items) }
+    ensures { IfOk result (λ columns. columns.items ≡ column_defs
+        (record nothing_filed { names = names.now; bounds = bounds.now.items }) 0 parts.items) }
 {
     let mut columns = Vec::new(alloc);
     for part in parts {

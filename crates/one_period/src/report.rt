@@ -42,7 +42,7 @@ pub fn solve_program(alloc: Global, program: &Program, pivots: u64) -> Result<Re
 {
     let node = root(program);
     let found = find(alloc, program, node, pivots)?;
-    reported(program, pivots, found)
+    reported(alloc, program, pivots, found)
 }
 
 /// The only node.
@@ -57,7 +57,7 @@ fn root(program: &Program) -> &Node
 }
 
 /// The report of what is found.
-fn reported(program: &Program, pivots: u64, found: Found) -> Result<Report, Memory>
+fn reported(alloc: Global, program: &Program, pivots: u64, found: Found) -> Result<Report, Memory>
     requires { IsFound program.now pivots found }
     ensures names { IfOk result (ListsHaveNames program.now) }
     ensures truth { IfOk result (IsTrue (seen program.now) (solve_reasons program.now pivots)) }
@@ -65,24 +65,24 @@ fn reported(program: &Program, pivots: u64, found: Found) -> Result<Report, Memo
     ensures exact { IfOk result (SolvesProgram program.now pivots) }
 {
     match found {
-        Found::Best(policy, dual) => at_best(program, policy, dual),
-        Found::Nowhere(ray) => nowhere(program, ray),
-        Found::Endless(policy, direction) => without_end(program, policy, direction),
+        Found::Best(policy, dual) => at_best(alloc, program, policy, dual),
+        Found::Nowhere(ray) => nowhere(alloc, program, ray),
+        Found::Endless(policy, direction) => without_end(alloc, program, policy, direction),
         Found::PivotsEnded => Ok(left_open(Finding::OpenPivots(SOLVE))),
         Found::Passed(passed) => Ok(left_open(Finding::OpenPassed(Place::Solve(SOLVE), passed))),
     }
 }
 
 /// The report of a policy and a dual that prove each other best.
-fn at_best(program: &Program, policy: Values, dual: Values) -> Result<Report, Memory>
+fn at_best(alloc: Global, program: &Program, policy: Values, dual: Values) -> Result<Report, Memory>
     requires policy { HaveNames (length program.now.columns.items) policy }
     requires dual { HaveNames (length program.now.rows.items) dual }
     requires best { AreBest (seen program.now) policy dual }
     ensures names { IfOk result (ListsHaveNames program.now) }
     ensures exact { IfOk result (λ report. report ≡ best_report (seen program.now) policy dual) }
 {
-    match cost(program, &policy) {
-        Ok(upper) => with_value(program, upper, policy, dual),
+    match cost(alloc, program, &policy) {
+        Ok(upper) => with_value(alloc, program, upper, policy, dual),
         Err(halt) => {
             let passed = operation(halt)?;
             Ok(left_open(Finding::OpenPassed(Place::Cost(SOLVE), passed)))
@@ -92,6 +92,7 @@ fn at_best(program: &Program, policy: Values, dual: Values) -> Result<Report, Me
 
 /// The same, where the policy's cost is known.
 fn with_value(
+    alloc: Global,
     program: &Program,
     upper: Frac,
     policy: Values,
@@ -103,7 +104,7 @@ fn with_value(
     ensures names { IfOk result (ListsHaveNames program.now) }
     ensures exact { IfOk result (λ report. report ≡ value_report (seen program.now) policy dual upper) }
 {
-    match dual_value(program, &dual) {
+    match dual_value(alloc, program, &dual) {
         Ok(Some(lower)) => {
             let report = with_policy(left_open(Finding::Optimal), upper, policy);
             Ok(Report {
@@ -122,14 +123,19 @@ fn with_value(
 }
 
 /// The report of a policy and a direction in which the cost falls without end.
-fn without_end(program: &Program, policy: Values, direction: Values) -> Result<Report, Memory>
+fn without_end(
+    alloc: Global,
+    program: &Program,
+    policy: Values,
+    direction: Values,
+) -> Result<Report, Memory>
     requires policy { HaveNames (length program.now.columns.items) policy }
     requires direction { HaveNames (length program.now.columns.items) direction }
     ensures names { IfOk result (ListsHaveNames program.now) }
     ensures exact { IfOk result (λ report. report ≡ endless_report (seen program.now) policy direction) }
 {
-    match cost(program, &policy) {
-        Ok(upper) => with_slope(program, upper, policy, direction),
+    match cost(alloc, program, &policy) {
+        Ok(upper) => with_slope(alloc, program, upper, policy, direction),
         Err(halt) => {
             let passed = operation(halt)?;
             Ok(left_open(Finding::OpenPassed(Place::Cost(SOLVE), passed)))
@@ -139,6 +145,7 @@ fn without_end(program: &Program, policy: Values, direction: Values) -> Result<R
 
 /// The same, where the policy's cost is known.
 fn with_slope(
+    alloc: Global,
     program: &Program,
     upper: Frac,
     policy: Values,
@@ -149,7 +156,7 @@ fn with_slope(
     ensures names { IfOk result (ListsHaveNames program.now) }
     ensures exact { IfOk result (λ report. report ≡ slope_report (seen program.now) policy direction upper) }
 {
-    match cost(program, &direction) {
+    match cost(alloc, program, &direction) {
         Ok(slope) => {
             let report = with_policy(left_open(Finding::Unbounded), upper, policy);
             Ok(Report {
@@ -167,13 +174,13 @@ fn with_slope(
 }
 
 /// The report of multipliers that show that no policy is feasible.
-fn nowhere(program: &Program, ray: Values) -> Result<Report, Memory>
+fn nowhere(alloc: Global, program: &Program, ray: Values) -> Result<Report, Memory>
     requires ray { HaveNames (length program.now.rows.items) ray }
     requires nowhere { IsNowhere (seen program.now) ray }
     ensures names { IfOk result (ListsHaveNames program.now) }
     ensures exact { IfOk result (λ report. report ≡ nowhere_report (seen program.now) ray) }
 {
-    match zero_value(program, &ray) {
+    match zero_value(alloc, program, &ray) {
         Ok(Some(value)) => {
             let report = left_open(Finding::Infeasible);
             Ok(Report {

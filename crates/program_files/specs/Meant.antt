@@ -27,7 +27,12 @@ pub record MeansCore (text : List ℕ) (core : Core) : Type 0 where
 
 -- one period P1 with all rows and columns
 abbrev pub single_stages : Core → Stages
-single_stages core = record { names = (80 ∷ 49 ∷ []) ∷ []; columns = replicate (length core.columns.items) 0; rows = replicate (length core.rows.items) 0 }
+single_stages core = record {
+  names = (80 ∷ 49 ∷ []) ∷ [];
+  columns = replicate (length core.columns.items) 0;
+  rows =
+      replicate (length core.rows.items) 0;
+}
 
 -- These are the periods: those that the time file's lines mean, or a single one.
 abbrev pub MeansPeriods : Core → Option (List ℕ) → Stages → Type 0

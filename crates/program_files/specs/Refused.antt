@@ -53,7 +53,8 @@ build_file (Some text) = kind.Stoch
 -- A limit is exceeded, or an operation passes 128 bits: the first one.
 abbrev pub IsUnbuilt : Core → Stages → Random → Refusal → Type 0
 IsUnbuilt core p random refusal = ((build_over core p random ≡ true) × (refusal ≡ record { line = 0; cause = ScenarioLimit }))
-    ⊎ ((build_over core p random ≡ false) × ((operation : Operation) × (build_walk core p random ≡ Err operation) × (refusal ≡ record { line = 0; cause = Passes operation })))
+    ⊎ ((build_over core p random ≡ false) × ((operation : Operation) × (build_walk core p random ≡ Err operation)
+    × (refusal ≡ record { line = 0; cause = Passes operation })))
 
 -- All three are read, and the program isn't built.
 pub record RefusesBuild (texts : Texts) (file : FileKind) (refusal : Refusal) (known : Option Core) : Type 0 where
@@ -69,4 +70,5 @@ pub record RefusesBuild (texts : Texts) (file : FileKind) (refusal : Refusal) (k
 
 -- The first fault of the texts: that of the core, of the time, of the stoch file, or of building.
 abbrev pub RefusesProgram : Texts → FileKind → Refusal → Option Core → Type 0
-RefusesProgram texts file refusal known = RefusesCore texts file refusal known ⊎ RefusesTime texts file refusal known ⊎ RefusesStoch texts file refusal known ⊎ RefusesBuild texts file refusal known
+RefusesProgram texts file refusal known = RefusesCore texts file refusal known ⊎ RefusesTime texts file refusal known
+    ⊎ RefusesStoch texts file refusal known ⊎ RefusesBuild texts file refusal known

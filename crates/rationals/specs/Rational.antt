@@ -1,12 +1,15 @@
 -- Rational numbers: fractions with the least denominator.
-use Rattle.std.proofs.Common.{zero-lt-suc, le_refl, ◌↔◌, T, ◌≡◌, ℕ, zero, suc, ◌+◌, ◌*◌, ◌/◌, ◌%◌, ◌<◌, ◌≤◌, ℤ, pos, negsuc, ◌+ℤ◌, ◌*ℤ◌, neg_ℤ, ◌≤ℤ◌, ◌<ℤ◌, ◌⊎◌, inl, inr, List, [], ◌∷◌, refl, sym, ap, ap₂, ◌∙◌, subst, arith, eqb, Bool, true, false, eqb-true, div-add-mod', subst₂, mul-pos, ⊎_elim}
+use Rattle.std.proofs.Common.{zero-lt-suc, le_refl, ◌↔◌, T, ◌≡◌, ℕ, zero, suc, ◌+◌, ◌*◌, ◌/◌, ◌%◌, ◌<◌, ◌≤◌, ℤ, pos, negsuc, ◌+ℤ◌, ◌*ℤ◌}
+use Rattle.std.proofs.Common.{neg_ℤ, ◌≤ℤ◌, ◌<ℤ◌, ◌⊎◌, inl, inr, List, [], ◌∷◌, refl, sym, ap, ap₂, ◌∙◌, subst, arith, eqb, Bool, true}
+use Rattle.std.proofs.Common.{false, eqb-true, div-add-mod', subst₂, mul-pos, ⊎_elim}
 use Rattle.std.proofs.lemmas.Bool.{eqb-false}
 use Rattle.std.proofs.lemmas.Int.{ints}
 use borrow.Author.Differences.{up, down}
 use native.Mathlib.Nat.{eq_of_mul-eq-mul_right, mul-mod_left}
 use native.Mathlib.Bridge.{le_prop}
 use Rattle.rationals.specs.Integers.{ringZ, fromZ, boundZ, reif, le_cancel_pos, nonneg_pos}
-use Rattle.rationals.specs.Ring.{CommRing, Ordered, Facts, Eqs, Reif, Reifs, all_zero, all_slack, problem, solve, claim, bound, times, Given, decide, linear, decide_same, both_ways, true_of}
+use Rattle.rationals.specs.Ring.{CommRing, Ordered, Facts, Eqs, Reif, Reifs, all_zero, all_slack, problem, solve, claim, bound, times}
+use Rattle.rationals.specs.Ring.{Given, decide, linear, decide_same, both_ways, true_of}
 use Rattle.rationals.specs.Ring.Reif.{r_at, r_lit, r_nul, r_one, r_add, r_sub, r_mul, r_opp}
 use Rattle.rationals.specs.Ring.Reifs.{r_none, r_more}
 use lib.Signed.{≤ℤ_refl, clash_ℤ, le_z_yes, le_z}
@@ -80,14 +83,22 @@ smaller n d zero h = inr (λ s. omega (arith, s.below))
 smaller n d (suc zero) h = inr (λ s. omega (arith, s.below, s.e_pos))
 smaller n d (suc (suc j)) h = go (smaller n d (suc j) h) (divides d (n *ℤ pos (suc j)) h)
   where
-    go : Smaller n d (suc j) ⊎ (Smaller n d (suc j) → ⊥) → Divides d (n *ℤ pos (suc j)) ⊎ (Divides d (n *ℤ pos (suc j)) → ⊥) → Smaller n d (suc (suc j)) ⊎ (Smaller n d (suc (suc j)) → ⊥)
+    go : Smaller n d (suc j) ⊎ (Smaller n d (suc j) → ⊥) → Divides d (n *ℤ pos (suc j)) ⊎ (Divides d (n *ℤ pos (suc j)) → ⊥)
+        → Smaller n d (suc (suc j)) ⊎ (Smaller n d (suc (suc j)) → ⊥)
     go (inl s) _ = inl (record { e = s.e; e_pos = s.e_pos; below = omega (arith, s.below); m = s.m; same = s.same })
     go (inr f) (inl q) = inl (record { e = suc j; e_pos = omega arith; below = omega arith; m = q.quotient; same = q.is })
     go (inr f) (inr g) = inr (λ s. which s (eqb s.e (suc j)) refl)
       where
         which : (s : Smaller n d (suc (suc j))) (b : Bool) → eqb s.e (suc j) ≡ b → ⊥
         which s true e = g (record { quotient = s.m; is = s.same ∙ ap (λ (k : ℕ). n *ℤ pos k) (eqb-true s.e (suc j) e) })
-        which s false e = f (record { e = s.e; e_pos = s.e_pos; below = let ne : ¬ (s.e ≡ suc j) = eqb-false s.e (suc j) e in omega (arith, s.below); m = s.m; same = s.same })
+        which s false e = f (record {
+          e = s.e;
+          e_pos = s.e_pos;
+          below = let ne : ¬ (s.e ≡ suc j) = eqb-false s.e (suc j) e
+              in omega (arith, s.below);
+          m = s.m;
+          same = s.same;
+        })
 
 pub record Reduced (n : ℤ) (d : ℕ) : Type 0 where
   pub it : ℚ
@@ -149,7 +160,8 @@ frac_same n m d e p q h =
     let hy : y.num *ℤ pos e ≡ m *ℤ pos y.den = frac_is m e q in
     same_ℚ x y (cancel_pos (x.num *ℤ pos y.den) (y.num *ℤ pos x.den) (d * e) (mul-pos p q)
     (fromZ (x.num ∷ y.num ∷ n ∷ m ∷ pos d ∷ pos e ∷ pos x.den ∷ pos y.den ∷ [])
-    (by_eq (pos y.den *ℤ pos e) hx (by_eq (neg_ℤ (pos x.den *ℤ pos d)) hy (by_eq (pos x.den *ℤ pos y.den) h done))) (search reif depth 40) tt))
+    (by_eq (pos y.den *ℤ pos e) hx (by_eq (neg_ℤ (pos x.den *ℤ pos d)) hy (by_eq (pos x.den *ℤ pos y.den) h done)))
+    (search reif depth 40) tt))
 
 pub frac_cross : (n m : ℤ) (d e : ℕ) → 0 < d → 0 < e → n ÷ d ≡ m ÷ e → n *ℤ pos e ≡ m *ℤ pos d
 frac_cross n m d e p q h =
@@ -200,7 +212,8 @@ unfolding ◌+ℚ◌
 frac-add n m d e p q =
     let x : ℚ = n ÷ d in
     let y : ℚ = m ÷ e in
-    frac_same ((x.num *ℤ pos y.den) +ℤ (y.num *ℤ pos x.den)) ((n *ℤ pos e) +ℤ (m *ℤ pos d)) (x.den * y.den) (d * e) (mul-pos x.den_pos y.den_pos) (mul-pos p q)
+    frac_same ((x.num *ℤ pos y.den) +ℤ (y.num *ℤ pos x.den)) ((n *ℤ pos e) +ℤ (m *ℤ pos d)) (x.den * y.den) (d * e)
+    (mul-pos x.den_pos y.den_pos) (mul-pos p q)
     (fromZ (x.num ∷ y.num ∷ n ∷ m ∷ pos d ∷ pos e ∷ pos x.den ∷ pos y.den ∷ [])
     (by_eq (pos y.den *ℤ pos e) (frac_is n d p) (by_eq (pos x.den *ℤ pos d) (frac_is m e q) done)) (search reif depth 40) tt)
 
@@ -226,7 +239,8 @@ frac_le_to n m d e p q h =
     let y : ℚ = m ÷ e in
     le_cancel_pos (n *ℤ pos e) (m *ℤ pos d) (x.den * y.den) (mul-pos x.den_pos y.den_pos)
     (boundZ (x.num ∷ y.num ∷ n ∷ m ∷ pos d ∷ pos e ∷ pos x.den ∷ pos y.den ∷ [])
-    (by_times (nonneg_pos (d * e)) h.le (by_same (neg_ℤ (pos y.den *ℤ pos e)) (frac_is n d p) (by_same (pos x.den *ℤ pos d) (frac_is m e q) end))) (search reif depth 40) tt)
+    (by_times (nonneg_pos (d * e)) h.le (by_same (neg_ℤ (pos y.den *ℤ pos e)) (frac_is n d p)
+    (by_same (pos x.den *ℤ pos d) (frac_is m e q) end))) (search reif depth 40) tt)
 
 pub frac_le : (n m : ℤ) (d e : ℕ) → 0 < d → 0 < e → (n *ℤ pos e) ≤ℤ (m *ℤ pos d) → n ÷ d ≤ℚ m ÷ e
 frac_le n m d e p q h =
@@ -235,36 +249,48 @@ frac_le n m d e p q h =
     record {
       le = le_cancel_pos (x.num *ℤ pos y.den) (y.num *ℤ pos x.den) (d * e) (mul-pos p q)
           (boundZ (x.num ∷ y.num ∷ n ∷ m ∷ pos d ∷ pos e ∷ pos x.den ∷ pos y.den ∷ [])
-          (by_times (nonneg_pos (x.den * y.den)) h (by_same (pos y.den *ℤ pos e) (frac_is n d p) (by_same (neg_ℤ (pos x.den *ℤ pos d)) (frac_is m e q) end))) (search reif depth 40) tt);
+          (by_times (nonneg_pos (x.den * y.den)) h (by_same (pos y.den *ℤ pos e) (frac_is n d p)
+          (by_same (neg_ℤ (pos x.den *ℤ pos d)) (frac_is m e q) end))) (search reif depth 40) tt);
     }
 
 -- ---- the laws of a commutative ring
 pub add_comm_ℚ : (a b : ℚ) → a +ℚ b ≡ b +ℚ a
-add_comm_ℚ = by_frac _ (λ n d p. by_frac _ (λ m e q. simp frac-add (frac_same _ _ _ _ (search mul-pos) (search mul-pos) (ringZ (n ∷ m ∷ pos d ∷ pos e ∷ []) (search reif depth 40) tt))))
+add_comm_ℚ = by_frac _ (λ n d p. by_frac _ (λ m e q. simp frac-add
+    (frac_same _ _ _ _ (search mul-pos) (search mul-pos) (ringZ (n ∷ m ∷ pos d ∷ pos e ∷ []) (search reif depth 40) tt))))
 
 pub add_assoc_ℚ : (a b c : ℚ) → (a +ℚ b) +ℚ c ≡ a +ℚ (b +ℚ c)
-add_assoc_ℚ = by_frac _ (λ n d p. by_frac _ (λ m e q. by_frac _ (λ l f r. simp (frac-add, mul-pos) (frac_same _ _ _ _ (search mul-pos) (search mul-pos) (ringZ (n ∷ m ∷ l ∷ pos d ∷ pos e ∷ pos f ∷ []) (search reif depth 40) tt)))))
+add_assoc_ℚ = by_frac _ (λ n d p. by_frac _ (λ m e q. by_frac _
+    (λ l f r. simp (frac-add, mul-pos) (frac_same _ _ _ _ (search mul-pos) (search mul-pos)
+    (ringZ (n ∷ m ∷ l ∷ pos d ∷ pos e ∷ pos f ∷ []) (search reif depth 40) tt)))))
 
 pub mul_comm_ℚ : (a b : ℚ) → a *ℚ b ≡ b *ℚ a
-mul_comm_ℚ = by_frac _ (λ n d p. by_frac _ (λ m e q. simp frac-mul (frac_same _ _ _ _ (search mul-pos) (search mul-pos) (ringZ (n ∷ m ∷ pos d ∷ pos e ∷ []) (search reif depth 40) tt))))
+mul_comm_ℚ = by_frac _ (λ n d p. by_frac _ (λ m e q. simp frac-mul
+    (frac_same _ _ _ _ (search mul-pos) (search mul-pos) (ringZ (n ∷ m ∷ pos d ∷ pos e ∷ []) (search reif depth 40) tt))))
 
 pub mul_assoc_ℚ : (a b c : ℚ) → (a *ℚ b) *ℚ c ≡ a *ℚ (b *ℚ c)
-mul_assoc_ℚ = by_frac _ (λ n d p. by_frac _ (λ m e q. by_frac _ (λ l f r. simp (frac-mul, mul-pos) (frac_same _ _ _ _ (search mul-pos) (search mul-pos) (ringZ (n ∷ m ∷ l ∷ pos d ∷ pos e ∷ pos f ∷ []) (search reif depth 40) tt)))))
+mul_assoc_ℚ = by_frac _ (λ n d p. by_frac _ (λ m e q. by_frac _
+    (λ l f r. simp (frac-mul, mul-pos) (frac_same _ _ _ _ (search mul-pos) (search mul-pos)
+    (ringZ (n ∷ m ∷ l ∷ pos d ∷ pos e ∷ pos f ∷ []) (search reif depth 40) tt)))))
 
 pub mul_add_ℚ : (a b c : ℚ) → a *ℚ (b +ℚ c) ≡ a *ℚ b +ℚ a *ℚ c
-mul_add_ℚ = by_frac _ (λ n d p. by_frac _ (λ m e q. by_frac _ (λ l f r. simp (frac-add, frac-mul, mul-pos) (frac_same _ _ _ _ (search mul-pos) (search mul-pos) (ringZ (n ∷ m ∷ l ∷ pos d ∷ pos e ∷ pos f ∷ []) (search reif depth 40) tt)))))
+mul_add_ℚ = by_frac _ (λ n d p. by_frac _ (λ m e q. by_frac _
+    (λ l f r. simp (frac-add, frac-mul, mul-pos) (frac_same _ _ _ _ (search mul-pos) (search mul-pos)
+    (ringZ (n ∷ m ∷ l ∷ pos d ∷ pos e ∷ pos f ∷ []) (search reif depth 40) tt)))))
 
 pub add_zero_ℚ : (a : ℚ) → a +ℚ zero_ℚ ≡ a
 unfolding zero_ℚ
-add_zero_ℚ = by_frac _ (λ n d p. frac-add n (pos 0) d 1 p (omega arith) ∙ frac_same _ _ _ _ (omega arith) p (ringZ (n ∷ pos d ∷ []) (search reif depth 40) tt))
+add_zero_ℚ = by_frac _ (λ n d p. frac-add n (pos 0) d 1 p (omega arith)
+    ∙ frac_same _ _ _ _ (omega arith) p (ringZ (n ∷ pos d ∷ []) (search reif depth 40) tt))
 
 pub mul_one_ℚ : (a : ℚ) → a *ℚ one_ℚ ≡ a
 unfolding one_ℚ
-mul_one_ℚ = by_frac _ (λ n d p. frac-mul n (pos 1) d 1 p (omega arith) ∙ frac_same _ _ _ _ (omega arith) p (ringZ (n ∷ pos d ∷ []) (search reif depth 40) tt))
+mul_one_ℚ = by_frac _ (λ n d p. frac-mul n (pos 1) d 1 p (omega arith)
+    ∙ frac_same _ _ _ _ (omega arith) p (ringZ (n ∷ pos d ∷ []) (search reif depth 40) tt))
 
 pub add_neg_ℚ : (a : ℚ) → a +ℚ neg_ℚ a ≡ zero_ℚ
 unfolding zero_ℚ
-add_neg_ℚ = by_frac _ (λ n d p. simp (frac-neg, frac-add) (frac_same _ _ _ _ (mul-pos p p) (omega arith) (ringZ (n ∷ pos d ∷ []) (search reif depth 40) tt)))
+add_neg_ℚ = by_frac _ (λ n d p. simp (frac-neg, frac-add) (frac_same _ _ _ _ (mul-pos p p) (omega arith)
+    (ringZ (n ∷ pos d ∷ []) (search reif depth 40) tt)))
 
 abbrev pub ring_ℚ : CommRing
 ring_ℚ = record {
@@ -292,7 +318,8 @@ pub le_of_same_ℚ : {a b : ℚ} → a ≡ b → a ≤ℚ b
 le_of_same_ℚ {a} {b} e = subst (λ (x : ℚ). a ≤ℚ x) e (le_refl_ℚ a)
 
 pub le_antisym_ℚ : {a b : ℚ} → a ≤ℚ b → b ≤ℚ a → a ≡ b
-le_antisym_ℚ {a} {b} h k = same_ℚ a b (let p : (a.num *ℤ pos b.den) ≤ℤ (b.num *ℤ pos a.den) = h.le in let q : (b.num *ℤ pos a.den) ≤ℤ (a.num *ℤ pos b.den) = k.le in omega (arith, ints))
+le_antisym_ℚ {a} {b} h k = same_ℚ a b (let p : (a.num *ℤ pos b.den) ≤ℤ (b.num *ℤ pos a.den) = h.le
+    in let q : (b.num *ℤ pos a.den) ≤ℤ (a.num *ℤ pos b.den) = k.le in omega (arith, ints))
 
 pub le_total_ℚ : (a b : ℚ) → (a ≤ℚ b) ⊎ (b <ℚ a)
 le_total_ℚ a b = by_lt_z (b.num *ℤ pos a.den) (a.num *ℤ pos b.den) (λ h. inr (record { lt = h })) (λ h. inl (record { le = h }))
@@ -306,16 +333,19 @@ lt_of_not_le_ℚ {a} {b} f = ⊎_elim (λ h. absurd (f h)) (λ h. h) (le_total_�
 le_add_right_ℚ : (a b c : ℚ) → a ≤ℚ b → a +ℚ c ≤ℚ b +ℚ c
 le_add_right_ℚ = by_frac _ (λ n d p. by_frac _ (λ m e q. by_frac _ (λ l f r h.
     simp frac-add (frac_le _ _ _ _ (search mul-pos) (search mul-pos)
-    (boundZ (n ∷ m ∷ l ∷ pos d ∷ pos e ∷ pos f ∷ []) (by_times (nonneg_pos (f * f)) (frac_le_to n m d e p q h) end) (search reif depth 40) tt)))))
+    (boundZ (n ∷ m ∷ l ∷ pos d ∷ pos e ∷ pos f ∷ []) (by_times (nonneg_pos (f * f)) (frac_le_to n m d e p q h) end)
+    (search reif depth 40) tt)))))
 
 pub le_trans_ℚ : {a b c : ℚ} → a ≤ℚ b → b ≤ℚ c → a ≤ℚ c
 le_trans_ℚ {a} {b} {c} h k = record {
   le = le_cancel_pos (a.num *ℤ pos c.den) (c.num *ℤ pos a.den) b.den b.den_pos
-      (boundZ (a.num ∷ b.num ∷ c.num ∷ pos a.den ∷ pos b.den ∷ pos c.den ∷ []) (by_times (nonneg_pos c.den) h.le (by_times (nonneg_pos a.den) k.le end)) (search reif depth 40) tt);
+      (boundZ (a.num ∷ b.num ∷ c.num ∷ pos a.den ∷ pos b.den ∷ pos c.den ∷ [])
+      (by_times (nonneg_pos c.den) h.le (by_times (nonneg_pos a.den) k.le end)) (search reif depth 40) tt);
 }
 
 pub le_add_ℚ : (a b c d : ℚ) → a ≤ℚ b → c ≤ℚ d → a +ℚ c ≤ℚ b +ℚ d
-le_add_ℚ a b c d h k = le_trans_ℚ (le_add_right_ℚ a b c h) (subst₂ (λ x y. x ≤ℚ y) (add_comm_ℚ c b) (add_comm_ℚ d b) (le_add_right_ℚ c d b k))
+le_add_ℚ a b c d h k = le_trans_ℚ (le_add_right_ℚ a b c h) (subst₂
+    (λ x y. x ≤ℚ y) (add_comm_ℚ c b) (add_comm_ℚ d b) (le_add_right_ℚ c d b k))
 
 nonneg_num : (n : ℤ) (d : ℕ) → 0 < d → pos 0 ÷ 1 ≤ℚ n ÷ d → pos 0 ≤ℤ n
 nonneg_num n d p h = let f : (pos 0 *ℤ pos d) ≤ℤ (n *ℤ pos 1) = frac_le_to (pos 0) n 1 d (omega arith) p h in omega (arith, ints)
@@ -333,10 +363,20 @@ unfolding zero_ℚ one_ℚ
 one_nonneg_ℚ = frac_le _ _ _ _ (omega arith) (omega arith) (le_z_yes tt)
 
 pub le_or_ge_ℚ : (a b : ℚ) → (a ≤ℚ b) ⊎ (b ≤ℚ a)
-le_or_ge_ℚ a b = by_lt_z (b.num *ℤ pos a.den) (a.num *ℤ pos b.den) (λ h. inr (record { le = (let k : (b.num *ℤ pos a.den) <ℤ (a.num *ℤ pos b.den) = h in omega (arith, ints)) })) (λ h. inl (record { le = h }))
+le_or_ge_ℚ a b = by_lt_z (b.num *ℤ pos a.den) (a.num *ℤ pos b.den)
+    (λ h. inr (record { le = (let k : (b.num *ℤ pos a.den) <ℤ (a.num *ℤ pos b.den) = h in omega (arith, ints)) }))
+    (λ h. inl (record { le = h }))
 
 abbrev pub ordered_ℚ : Ordered ring_ℚ
-ordered_ℚ = record { le = ◌≤ℚ◌; le_refl = le_refl_ℚ; le-add = le_add_ℚ; mul_nonneg = mul_nonneg_ℚ; one_nonneg = one_nonneg_ℚ; le_total = le_or_ge_ℚ }
+ordered_ℚ = record {
+  le = ◌≤ℚ◌;
+  le_refl = le_refl_ℚ;
+  le-add = le_add_ℚ;
+  mul_nonneg = mul_nonneg_ℚ;
+  one_nonneg = one_nonneg_ℚ;
+  le_total =
+      le_or_ge_ℚ;
+}
 
 -- ---- division
 unfoldable pub inverse_of : ℤ → ℕ → ℚ
@@ -354,15 +394,19 @@ a /ℚ b = a *ℚ inv_ℚ b
 inverse_is : (n : ℤ) (d : ℕ) → 0 < d → (n ≡ pos 0 → ⊥) → n ÷ d *ℚ inverse_of n d ≡ one_ℚ
 unfolding inverse_of one_ℚ
 inverse_is (pos zero) d p h = absurd (h refl)
-inverse_is (pos (suc n)) d p h = frac-mul (pos (suc n)) (pos d) d (suc n) p (omega arith) ∙ frac_same _ _ _ _ (mul-pos p (omega arith)) (omega arith) (ringZ (pos (suc n) ∷ pos d ∷ []) (search reif depth 40) tt)
-inverse_is (negsuc n) d p h = frac-mul (negsuc n) (neg_ℤ (pos d)) d (suc n) p (omega arith) ∙ frac_same _ _ _ _ (mul-pos p (omega arith)) (omega arith) (signs (pos (suc n)) (pos d))
+inverse_is (pos (suc n)) d p h = frac-mul (pos (suc n)) (pos d) d (suc n) p (omega arith)
+    ∙ frac_same _ _ _ _ (mul-pos p (omega arith)) (omega arith) (ringZ (pos (suc n) ∷ pos d ∷ []) (search reif depth 40) tt)
+inverse_is (negsuc n) d p h = frac-mul (negsuc n) (neg_ℤ (pos d)) d (suc n) p (omega arith)
+    ∙ frac_same _ _ _ _ (mul-pos p (omega arith)) (omega arith) (signs (pos (suc n)) (pos d))
   where
     signs : (z d : ℤ) → (neg_ℤ z *ℤ neg_ℤ d) *ℤ pos 1 ≡ pos 1 *ℤ (d *ℤ z)
     signs z d = ringZ (z ∷ d ∷ []) (search reif depth 40) tt
 
 pub mul_inv_ℚ : (a : ℚ) → (a ≡ zero_ℚ → ⊥) → a *ℚ inv_ℚ a ≡ one_ℚ
 unfolding inv_ℚ zero_ℚ
-mul_inv_ℚ a h = ap (λ x. x *ℚ inverse_of a.num a.den) (sym (frac_self a)) ∙ inverse_is a.num a.den a.den_pos (λ e. h (sym (frac_self a) ∙ frac_same a.num (pos 0) a.den 1 a.den_pos (omega arith) (omega (arith, ints))))
+mul_inv_ℚ a h = ap (λ x. x *ℚ inverse_of a.num a.den) (sym (frac_self a))
+    ∙ inverse_is a.num a.den a.den_pos (λ e. h (sym (frac_self a)
+    ∙ frac_same a.num (pos 0) a.den 1 a.den_pos (omega arith) (omega (arith, ints))))
 
 -- ---- `ring` and `bound` at the rationals
 abbrev pub b0 : {a : ℚ} {s : List ℚ} → Reif ring_ℚ (a ∷ s) a
@@ -395,22 +439,28 @@ b8 = r_at 8
 abbrev pub b9 : {a v0 v1 v2 v3 v4 v5 v6 v7 v8 : ℚ} {s : List ℚ} → Reif ring_ℚ (v0 ∷ v1 ∷ v2 ∷ v3 ∷ v4 ∷ v5 ∷ v6 ∷ v7 ∷ v8 ∷ a ∷ s) a
 b9 = r_at 9
 
-abbrev pub b10 : {a v0 v1 v2 v3 v4 v5 v6 v7 v8 v9 : ℚ} {s : List ℚ} → Reif ring_ℚ (v0 ∷ v1 ∷ v2 ∷ v3 ∷ v4 ∷ v5 ∷ v6 ∷ v7 ∷ v8 ∷ v9 ∷ a ∷ s) a
+abbrev pub b10 : {a v0 v1 v2 v3 v4 v5 v6 v7 v8 v9 : ℚ} {s : List ℚ}
+    → Reif ring_ℚ (v0 ∷ v1 ∷ v2 ∷ v3 ∷ v4 ∷ v5 ∷ v6 ∷ v7 ∷ v8 ∷ v9 ∷ a ∷ s) a
 b10 = r_at 10
 
-abbrev pub b11 : {a v0 v1 v2 v3 v4 v5 v6 v7 v8 v9 v10 : ℚ} {s : List ℚ} → Reif ring_ℚ (v0 ∷ v1 ∷ v2 ∷ v3 ∷ v4 ∷ v5 ∷ v6 ∷ v7 ∷ v8 ∷ v9 ∷ v10 ∷ a ∷ s) a
+abbrev pub b11 : {a v0 v1 v2 v3 v4 v5 v6 v7 v8 v9 v10 : ℚ} {s : List ℚ}
+    → Reif ring_ℚ (v0 ∷ v1 ∷ v2 ∷ v3 ∷ v4 ∷ v5 ∷ v6 ∷ v7 ∷ v8 ∷ v9 ∷ v10 ∷ a ∷ s) a
 b11 = r_at 11
 
-abbrev pub b12 : {a v0 v1 v2 v3 v4 v5 v6 v7 v8 v9 v10 v11 : ℚ} {s : List ℚ} → Reif ring_ℚ (v0 ∷ v1 ∷ v2 ∷ v3 ∷ v4 ∷ v5 ∷ v6 ∷ v7 ∷ v8 ∷ v9 ∷ v10 ∷ v11 ∷ a ∷ s) a
+abbrev pub b12 : {a v0 v1 v2 v3 v4 v5 v6 v7 v8 v9 v10 v11 : ℚ} {s : List ℚ}
+    → Reif ring_ℚ (v0 ∷ v1 ∷ v2 ∷ v3 ∷ v4 ∷ v5 ∷ v6 ∷ v7 ∷ v8 ∷ v9 ∷ v10 ∷ v11 ∷ a ∷ s) a
 b12 = r_at 12
 
-abbrev pub b13 : {a v0 v1 v2 v3 v4 v5 v6 v7 v8 v9 v10 v11 v12 : ℚ} {s : List ℚ} → Reif ring_ℚ (v0 ∷ v1 ∷ v2 ∷ v3 ∷ v4 ∷ v5 ∷ v6 ∷ v7 ∷ v8 ∷ v9 ∷ v10 ∷ v11 ∷ v12 ∷ a ∷ s) a
+abbrev pub b13 : {a v0 v1 v2 v3 v4 v5 v6 v7 v8 v9 v10 v11 v12 : ℚ} {s : List ℚ}
+    → Reif ring_ℚ (v0 ∷ v1 ∷ v2 ∷ v3 ∷ v4 ∷ v5 ∷ v6 ∷ v7 ∷ v8 ∷ v9 ∷ v10 ∷ v11 ∷ v12 ∷ a ∷ s) a
 b13 = r_at 13
 
-abbrev pub b14 : {a v0 v1 v2 v3 v4 v5 v6 v7 v8 v9 v10 v11 v12 v13 : ℚ} {s : List ℚ} → Reif ring_ℚ (v0 ∷ v1 ∷ v2 ∷ v3 ∷ v4 ∷ v5 ∷ v6 ∷ v7 ∷ v8 ∷ v9 ∷ v10 ∷ v11 ∷ v12 ∷ v13 ∷ a ∷ s) a
+abbrev pub b14 : {a v0 v1 v2 v3 v4 v5 v6 v7 v8 v9 v10 v11 v12 v13 : ℚ} {s : List ℚ}
+    → Reif ring_ℚ (v0 ∷ v1 ∷ v2 ∷ v3 ∷ v4 ∷ v5 ∷ v6 ∷ v7 ∷ v8 ∷ v9 ∷ v10 ∷ v11 ∷ v12 ∷ v13 ∷ a ∷ s) a
 b14 = r_at 14
 
-abbrev pub b15 : {a v0 v1 v2 v3 v4 v5 v6 v7 v8 v9 v10 v11 v12 v13 v14 : ℚ} {s : List ℚ} → Reif ring_ℚ (v0 ∷ v1 ∷ v2 ∷ v3 ∷ v4 ∷ v5 ∷ v6 ∷ v7 ∷ v8 ∷ v9 ∷ v10 ∷ v11 ∷ v12 ∷ v13 ∷ v14 ∷ a ∷ s) a
+abbrev pub b15 : {a v0 v1 v2 v3 v4 v5 v6 v7 v8 v9 v10 v11 v12 v13 v14 : ℚ} {s : List ℚ}
+    → Reif ring_ℚ (v0 ∷ v1 ∷ v2 ∷ v3 ∷ v4 ∷ v5 ∷ v6 ∷ v7 ∷ v8 ∷ v9 ∷ v10 ∷ v11 ∷ v12 ∷ v13 ∷ v14 ∷ a ∷ s) a
 b15 = r_at 15
 
 -- a whole number
@@ -421,31 +471,62 @@ pub times-one : (n : ℕ) → times ring_ℚ n one_ℚ ≡ pos n ÷ 1
 unfolding times zero_ℚ one_ℚ
 times-one zero = refl
 times-one (suc n) = ap (λ x. pos 1 ÷ 1 +ℚ x) (times-one n) ∙ frac-add (pos 1) (pos n) 1 1 (omega arith) (omega arith)
-    ∙ frac_same _ _ _ _ (omega arith) (omega arith) (let e : (pos 1 *ℤ pos 1) +ℤ (pos n *ℤ pos 1) ≡ pos (suc n) = omega (arith, ints) in ap (λ z. z *ℤ pos 1) e)
+    ∙ frac_same _ _ _ _ (omega arith) (omega arith) (let e : (pos 1 *ℤ pos 1) +ℤ (pos n *ℤ pos 1) ≡ pos (suc n) = omega (arith, ints)
+    in ap (λ z. z *ℤ pos 1) e)
 
 abbrev pub r_int : {s : List ℚ} (n : ℕ) → Reif ring_ℚ s (pos n ÷ 1)
 r_int n = r_lit n (times-one n)
 
-pub ruleset terms = (r_int, b0, b1, b2, b3, b4, b5, b6, b7, b8, b9, b10, b11, b12, b13, b14, b15, r_none, r_more, r_nul, r_one, r_add, r_sub, r_mul, r_opp)
+pub ruleset terms = (
+  r_int,
+  b0,
+  b1,
+  b2,
+  b3,
+  b4,
+  b5,
+  b6,
+  b7,
+  b8,
+  b9,
+  b10,
+  b11,
+  b12,
+  b13,
+  b14,
+  b15,
+  r_none,
+  r_more,
+  r_nul,
+  r_one,
+  r_add,
+  r_sub,
+  r_mul,
+  r_opp,
+)
 
 -- x ≡ y by the laws of rings, where s lists the atoms
 pub by_ring : (s : List ℚ) {x y : ℚ} (rs : Reifs ring_ℚ s (x ∷ y ∷ [])) → T (all_zero (problem ring_ℚ done rs)) → x ≡ y
 by_ring s rs e = solve ring_ℚ done rs (true_of e)
 
 -- the same from equations l ≡ r, each times a factor c
-pub by_eqs : (s : List ℚ) {xs : List ℚ} (es : Eqs ring_ℚ xs) {x y : ℚ} (rs : Reifs ring_ℚ s (x ∷ y ∷ xs)) → T (all_zero (problem ring_ℚ es rs)) → x ≡ y
+pub by_eqs : (s : List ℚ) {xs : List ℚ} (es : Eqs ring_ℚ xs) {x y : ℚ} (rs : Reifs ring_ℚ s (x ∷ y ∷ xs))
+    → T (all_zero (problem ring_ℚ es rs)) → x ≡ y
 by_eqs s es rs e = solve ring_ℚ es rs (true_of e)
 
 -- x ≤ y from facts, each times a factor
-pub by_facts : (s : List ℚ) {xs : List ℚ} (es : Facts ring_ℚ ordered_ℚ xs) {x y : ℚ} (rs : Reifs ring_ℚ s (x ∷ y ∷ xs)) → T (all_slack (claim ring_ℚ ordered_ℚ es rs)) → x ≤ℚ y
+pub by_facts : (s : List ℚ) {xs : List ℚ} (es : Facts ring_ℚ ordered_ℚ xs) {x y : ℚ} (rs : Reifs ring_ℚ s (x ∷ y ∷ xs))
+    → T (all_slack (claim ring_ℚ ordered_ℚ es rs)) → x ≤ℚ y
 by_facts s es rs e = bound ring_ℚ ordered_ℚ es rs (true_of e)
 
 -- x ≤ y from facts, with factors that are found by computing
-pub by_linear : (s : List ℚ) {xs : List ℚ} (es : Given ring_ℚ ordered_ℚ xs) {x y : ℚ} (rs : Reifs ring_ℚ s (x ∷ y ∷ xs)) → T (decide ring_ℚ ordered_ℚ es rs) → x ≤ℚ y
+pub by_linear : (s : List ℚ) {xs : List ℚ} (es : Given ring_ℚ ordered_ℚ xs) {x y : ℚ} (rs : Reifs ring_ℚ s (x ∷ y ∷ xs))
+    → T (decide ring_ℚ ordered_ℚ es rs) → x ≤ℚ y
 by_linear s es rs e = linear ring_ℚ ordered_ℚ es rs (true_of e)
 
 -- x ≡ y from facts, with factors that are found by computing
-pub by_linear_eq : (s : List ℚ) {xs : List ℚ} (es : Given ring_ℚ ordered_ℚ xs) {x y : ℚ} (rs : Reifs ring_ℚ s (x ∷ y ∷ xs)) → T (decide_same ring_ℚ ordered_ℚ es rs) → x ≡ y
+pub by_linear_eq : (s : List ℚ) {xs : List ℚ} (es : Given ring_ℚ ordered_ℚ xs) {x y : ℚ} (rs : Reifs ring_ℚ s (x ∷ y ∷ xs))
+    → T (decide_same ring_ℚ ordered_ℚ es rs) → x ≡ y
 by_linear_eq s es rs e = let h = both_ways ring_ℚ ordered_ℚ es rs (true_of e) in le_antisym_ℚ h.0 h.1
 
 -- ---- common laws
@@ -476,7 +557,8 @@ lt_by h f = lt_of_not_le_ℚ (λ k. not_le_of_lt_ℚ h (f k))
 
 pub zero_lt_one_ℚ : zero_ℚ <ℚ one_ℚ
 unfolding zero_ℚ one_ℚ
-zero_lt_one_ℚ = lt_of_not_le_ℚ (λ h. let k : (pos 1 *ℤ pos 1) ≤ℤ (pos 0 *ℤ pos 1) = frac_le_to (pos 1) (pos 0) 1 1 (omega arith) (omega arith) h in omega (arith, ints))
+zero_lt_one_ℚ = lt_of_not_le_ℚ (λ h. let k : (pos 1 *ℤ pos 1) ≤ℤ (pos 0 *ℤ pos 1) =
+    frac_le_to (pos 1) (pos 0) 1 1 (omega arith) (omega arith) h in omega (arith, ints))
 
 pub ne_of_gt_ℚ : {a : ℚ} → zero_ℚ <ℚ a → a ≡ zero_ℚ → ⊥
 ne_of_gt_ℚ h e = not_le_of_lt_ℚ h (le_of_same_ℚ e)
@@ -486,7 +568,8 @@ pub inv_nonneg_ℚ : {a : ℚ} → zero_ℚ <ℚ a → zero_ℚ ≤ℚ inv_ℚ a
 inv_nonneg_ℚ {a} h =
     let e : a *ℚ inv_ℚ a ≡ one_ℚ = mul_inv_ℚ a (ne_of_gt_ℚ h) in
     let p : zero_ℚ ≤ℚ a = lt_le_ℚ h in
-    ⊎_elim (λ k. k) (λ k. absurd (not_le_of_lt_ℚ zero_lt_one_ℚ (by_facts (a ∷ inv_ℚ a ∷ []) (by_times p k (by_same one_ℚ (sym e) end)) (search terms depth 40) tt))) (le_or_ge_ℚ zero_ℚ (inv_ℚ a))
+    ⊎_elim (λ k. k) (λ k. absurd (not_le_of_lt_ℚ zero_lt_one_ℚ
+    (by_facts (a ∷ inv_ℚ a ∷ []) (by_times p k (by_same one_ℚ (sym e) end)) (search terms depth 40) tt))) (le_or_ge_ℚ zero_ℚ (inv_ℚ a))
 
 pub le_cancel_ℚ : {a b c : ℚ} → zero_ℚ <ℚ c → c *ℚ a ≤ℚ c *ℚ b → a ≤ℚ b
 le_cancel_ℚ {a} {b} {c} h k =
@@ -506,7 +589,8 @@ div_mul_ℚ a b h = by_eqs (a ∷ b ∷ inv_ℚ b ∷ []) (by_eq a (mul_inv_ℚ 
 
 -- a fraction by its whole numbers
 pub frac_clear : (n : ℤ) (d : ℕ) → 0 < d → pos d ÷ 1 *ℚ n ÷ d ≡ n ÷ 1
-frac_clear n d h = frac-mul (pos d) n 1 d (omega arith) h ∙ frac_same _ _ _ _ (omega arith) (omega arith) (ringZ (n ∷ pos d ∷ []) (search reif depth 40) tt)
+frac_clear n d h = frac-mul (pos d) n 1 d (omega arith) h ∙ frac_same _ _ _ _ (omega arith) (omega arith)
+    (ringZ (n ∷ pos d ∷ []) (search reif depth 40) tt)
 
 -- ---- tests
 abbrev pub at_most : ℚ → ℚ → Bool

@@ -19,10 +19,13 @@ abbrev pub scenario_text : Scenario → List ℕ
 scenario_text s = codes "SCENARIO " ++ s.name ++ 32 ∷ text_of s.probability ++ path_text s.path ++ 10 ∷ []
 
 abbrev pub shape_text : Program → List ℕ
-shape_text program = codes "PERIODS " ++ decimal (length program.periods) ++ codes " COLUMNS " ++ decimal (length program.columns) ++ codes " ROWS " ++ decimal (length program.rows)
+shape_text program =
+    codes "PERIODS " ++ decimal (length program.periods) ++ codes " COLUMNS " ++ decimal (length program.columns) ++ codes " ROWS "
+    ++ decimal (length program.rows)
 
 abbrev pub tree_text : Program → List ℕ
-tree_text program = codes " NODES " ++ decimal (live_count program.nodes) ++ codes " SCENARIOS " ++ decimal (length program.scenarios) ++ 10 ∷ []
+tree_text program =
+    codes " NODES " ++ decimal (live_count program.nodes) ++ codes " SCENARIOS " ++ decimal (length program.scenarios) ++ 10 ∷ []
 
 abbrev pub program_text : Program → List ℕ
 program_text program = shape_text program ++ tree_text program ++ flat_map scenario_text program.scenarios ++ codes "END\n"

@@ -76,13 +76,27 @@ abbrev pub row_names : Program → List (List ℕ)
 row_names program = map (λ row. row.name) program.rows.items
 
 abbrev pub head_text : Report → List ℕ
-head_text report = codes "REPORT " ++ decimal report.number ++ codes " NODES " ++ decimal report.nodes ++ codes " SCENARIOS " ++ decimal report.scenarios ++ 10 ∷ []
+head_text report =
+    codes "REPORT " ++ decimal report.number ++ codes " NODES " ++ decimal report.nodes ++ codes " SCENARIOS " ++ decimal report.scenarios
+    ++ 10 ∷ []
+
+-- the finding and the ends, and what follows
+abbrev pub outcome_then : Report → List ℕ → List ℕ
+outcome_then report rest =
+    codes "STATUS " ++ finding_text report.finding ++ codes "\nLOWER " ++ end_text report.lower ++ codes "\nUPPER "
+    ++ end_text report.upper ++ 10 ∷ rest
+
+-- the finding and the ends alone
+abbrev pub outcome_text : Report → List ℕ
+outcome_text report = outcome_then report []
 
 abbrev pub ends_text : Report → List ℕ
-ends_text report = codes "STATUS " ++ finding_text report.finding ++ codes "\nLOWER " ++ end_text report.lower ++ codes "\nUPPER " ++ end_text report.upper ++ 10 ∷ extra_text report.finding report.extra
+ends_text report = outcome_then report (extra_text report.finding report.extra)
 
 abbrev pub lists_text : Program → Report → List ℕ
-lists_text program report = list_text (codes "POLICY ") (column_names program) report.policy ++ list_text (codes "DIRECTION ") (column_names program) report.direction
+lists_text program report =
+    list_text (codes "POLICY ") (column_names program) report.policy
+    ++ list_text (codes "DIRECTION ") (column_names program) report.direction
     ++ list_text (codes "DUAL ") (row_names program) report.dual ++ list_text (codes "RAY ") (row_names program) report.ray
 
 abbrev pub report_text : Program → Report → List ℕ

@@ -7,5 +7,5 @@ mod print;
 mod show;
 
 pub use pieces::print_operation;
-pub use print::print_report;
+pub use print::{print_outcome, print_report};
 pub use show::print_program;

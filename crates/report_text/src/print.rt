@@ -1,6 +1,6 @@
 //! The text of a report.
 ghost use Rattle.std.specs.Prelude.{◌≡◌, ◌++◌, OnOk, OnErr};
-ghost use Rattle.report_text.specs.Text.{extra_text, head_text, ends_text, report_text};
+ghost use Rattle.report_text.specs.Text.{extra_text, head_text, outcome_text, ends_text, report_text};
 ghost use Rattle.scen_defs.specs.Fits.{ListsHaveNames};
 
 use crate::lists::put_lists;
@@ -46,9 +46,9 @@ fn put_head(alloc: Global, out: &mut Vec<u8>, report: &Report) -> Result<(), Mem
     put(out, b"\n")
 }
 
-/// Appends the finding, the ends, and the value that shows the finding.
-fn put_ends(alloc: Global, out: &mut Vec<u8>, report: &Report) -> Result<(), Memory>
-    ensures { OnOk result (out.new.items ≡ out.old.items ++ ends_text report.now) }
+/// Appends the finding and the ends of a report, a line each. After want of memory a part of them may be there.
+pub fn print_outcome(alloc: Global, report: &Report, out: &mut Vec<u8>) -> Result<(), Memory>
+    ensures { OnOk result (out.new.items ≡ out.old.items ++ outcome_text report.now) }
 {
     put(out, b"STATUS ")?;
     put_finding(alloc, out, report.finding)?;
@@ -56,7 +56,14 @@ fn put_ends(alloc: Global, out: &mut Vec<u8>, report: &Report) -> Result<(), Mem
     put_end(alloc, out, report.lower)?;
     put(out, b"\nUPPER ")?;
     put_end(alloc, out, report.upper)?;
-    put(out, b"\n")?;
+    put(out, b"\n")
+}
+
+/// Appends the finding, the ends, and the value that shows the finding.
+fn put_ends(alloc: Global, out: &mut Vec<u8>, report: &Report) -> Result<(), Memory>
+    ensures { OnOk result (out.new.items ≡ out.old.items ++ ends_text report.now) }
+{
+    print_outcome(alloc, report, out)?;
     put_extra(alloc, out, report.finding, report.extra)
 }
 

@@ -12,7 +12,13 @@ demand d = Some record {
   stage = 1;
   parent = Some 0;
   cost = record { column = 1; value = pos 3 ÷ 2 } ∷ [];
-  rows = record { row = 0; entries = record { column = 0; value = pos 1 ÷ 1 } ∷ record { column = 1; value = pos 1 ÷ 1 } ∷ []; low = Some (pos d ÷ 1); high = None } ∷ [];
+  rows = record {
+    row = 0;
+    entries = record { column = 0; value = pos 1 ÷ 1 } ∷ record { column = 1; value = pos 1 ÷ 1 } ∷ [];
+    low =
+        Some (pos d ÷ 1);
+    high = None;
+  } ∷ [];
 }
 
 abbrev pub cover : Program
@@ -21,9 +27,12 @@ cover = record {
   rhs = codes "RHS";
   periods = codes "P1" ∷ codes "P2" ∷ [];
   rows = record { name = codes "DEMAND"; stage = 1; kind = Greater; range = None } ∷ [];
-  columns = record { name = codes "X"; stage = 0; lower = Some zero_ℚ; upper = None } ∷ record { name = codes "Y"; stage = 1; lower = Some zero_ℚ; upper = None } ∷ [];
-  nodes = Some record { stage = 0; parent = None; cost = record { column = 0; value = pos 1 ÷ 1 } ∷ []; rows = [] } ∷ demand 2 ∷ demand 6 ∷ [];
-  scenarios = record { name = codes "S1"; probability = pos 1 ÷ 2; path = 0 ∷ 1 ∷ [] } ∷ record { name = codes "S2"; probability = pos 1 ÷ 2; path = 0 ∷ 2 ∷ [] } ∷ [];
+  columns = record { name = codes "X"; stage = 0; lower = Some zero_ℚ; upper = None }
+      ∷ record { name = codes "Y"; stage = 1; lower = Some zero_ℚ; upper = None } ∷ [];
+  nodes = Some record { stage = 0; parent = None; cost = record { column = 0; value = pos 1 ÷ 1 } ∷ []; rows = [] } ∷ demand 2 ∷ demand 6
+      ∷ [];
+  scenarios = record { name = codes "S1"; probability = pos 1 ÷ 2; path = 0 ∷ 1 ∷ [] }
+      ∷ record { name = codes "S2"; probability = pos 1 ÷ 2; path = 0 ∷ 2 ∷ [] } ∷ [];
 }
 
 -- X is 2, and Y is 0 or 4

@@ -66,7 +66,8 @@ cost v x = sum_ℚ (λ (s : Scenario). s.probability *ℚ sum_ℚ (node_cost v x
 -- ---- multipliers of the rows
 -- the total times the cost, less entry times multiplier over the rows of the node and of all nodes below
 unfoldable pub reduced : View → (ℕ → ℕ → ℚ) → ℕ → ℕ → ℚ
-reduced v y m j = total v m *ℚ coefficient (v.cost m) j -ℚ sum_ℚ (λ n. sum_ℚ (λ (r : NodeRow). coefficient r.entries j *ℚ y n r.row) (v.rows n)) (subtree v m)
+reduced v y m j = total v m *ℚ coefficient (v.cost m) j -ℚ sum_ℚ
+    (λ n. sum_ℚ (λ (r : NodeRow). coefficient r.entries j *ℚ y n r.row) (v.rows n)) (subtree v m)
 
 -- every used end is finite
 pub record GoodAt (v : View) (y : ℕ → ℕ → ℚ) (n : ℕ) : Type 0 where

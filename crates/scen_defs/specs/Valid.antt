@@ -1,5 +1,6 @@
 -- What the type of a program keeps.
-use Rattle.std.proofs.Common.{◌≡◌, ℕ, zero, suc, ◌<◌, ◌≤◌, ◌^◌, is_some, Bool, true, false, ◌||◌, eqb, leb, List, [], ◌∷◌, map, length, Option, Some, None}
+use Rattle.std.proofs.Common.{◌≡◌, ℕ, zero, suc, ◌<◌, ◌≤◌, ◌^◌, is_some, Bool, true, false, ◌||◌, eqb, leb, List, [], ◌∷◌, map, length}
+use Rattle.std.proofs.Common.{Option, Some, None}
 use Rattle.smps_words.specs.Line.{is_blank}
 use Rattle.smps_words.specs.declared.row_kind.RowKind.{RowKind}
 use Rattle.smps_words.specs.declared.row_kind.RowKind.TheVariants.{Less, Greater, Equal}
@@ -84,7 +85,8 @@ pub record FitsNode (p : Program) (n : ℕ) (node : Node) : Type 0 where
 -- from stage s on one live node for each stage, each the parent of the next
 abbrev pub Follows : Program → ℕ → Option ℕ → List ℕ → Type 0
 Follows p s above [] = s ≡ length p.periods
-Follows p s above (n ∷ path) = Lives p n × ((node_at p.nodes n).stage ≡ s) × ((node_at p.nodes n).parent ≡ above) × Follows p (suc s) (Some n) path
+Follows p s above (n ∷ path) = Lives p n × ((node_at p.nodes n).stage ≡ s) × ((node_at p.nodes n).parent ≡ above)
+    × Follows p (suc s) (Some n) path
 
 pub record FitsScenario (p : Program) (s : Scenario) : Type 0 where
   pub positive : zero_ℚ <ℚ s.probability

@@ -28,7 +28,8 @@ live_sum (Below _) sum = sum
 -- the probabilities of the scenarios through each node, added in their order; the first node has the number n
 abbrev pub live_sums_from : ℕ → List Position → List Scenario → List Sum
 live_sums_from n [] scenarios = []
-live_sums_from n (position ∷ positions) scenarios = live_sum position (total_from n zero_ℚ scenarios) ∷ live_sums_from (suc n) positions scenarios
+live_sums_from n (position ∷ positions) scenarios = live_sum position (total_from n zero_ℚ scenarios)
+    ∷ live_sums_from (suc n) positions scenarios
 
 -- a node's total divided by its parent's, 1 at the root
 abbrev pub share_walk : List ℚ → ℚ → Position → Sum
@@ -57,7 +58,8 @@ shares_walk totals positions = gathered_from [] (shares_from totals 0 positions)
 -- the totals, and then the shares; or the first operation that passes
 abbrev pub chances_walk : List Position → List Scenario → Result Chances Operation
 chances_walk positions scenarios =
-    then_walk (totals_walk positions scenarios) (λ totals. then_walk (shares_walk totals positions) (λ shares. Ok (record { totals = totals; shares = shares })))
+    then_walk (totals_walk positions scenarios) (λ totals. then_walk (shares_walk totals positions)
+    (λ shares. Ok (record { totals = totals; shares = shares })))
 
 -- what an error says of a walk
 abbrev pub TreeFaultOf : {X : Type 0} → Result X Operation → TreeFault → Type 0

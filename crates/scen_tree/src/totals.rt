@@ -90,7 +90,8 @@ pub(crate) fn totals(
     positions: &[Position],
     scenarios: &[Scenario],
 ) -> Result<Vec<Frac>, TreeFault>
-    ensures { MatchResult result (λ totals. gathered_from [] (live_sums_from 0 positions.now (scenarios_content scenarios.now)) ≡ Ok totals.items)
+    ensures { MatchResult result (λ totals. gathered_from [] (live_sums_from 0 positions.now (scenarios_content scenarios.now))
+        ≡ Ok totals.items)
         (TreeFaultOf (gathered_from [] (live_sums_from 0 positions.now (scenarios_content scenarios.now)))) }
 {
     let sums = sums_through(alloc, positions.len(), scenarios)?;

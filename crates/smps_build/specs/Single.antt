@@ -31,7 +31,8 @@ interval_walk Less b (Some r) = then_walk (sub_walk b (size r)) (λ low. Ok (Som
 interval_walk Greater b None = Ok (Some b, None)
 interval_walk Greater b (Some r) = then_walk (add_walk b (size r)) (λ high. Ok (Some b, Some high))
 interval_walk Equal b None = Ok (Some b, Some b)
-interval_walk Equal b (Some r) = then_walk (add_walk b r) (λ other. pick (at_most zero_ℚ r) (Ok (Some b, Some other)) (Ok (Some other, Some b)))
+interval_walk Equal b (Some r) =
+    then_walk (add_walk b r) (λ other. pick (at_most zero_ℚ r) (Ok (Some b, Some other)) (Ok (Some other, Some b)))
 
 abbrev pub column_of : ColumnDef → Column
 column_of c = record { name = c.name; stage = 0; lower = c.lower; upper = c.upper }
@@ -55,7 +56,8 @@ node_row cs i ends = record { row = i; entries = entries_from i 0 cs; low = ends
 -- the rows of the node behind those that are built, the first of them of the number i
 abbrev pub rows_from : List ColumnDef → List NodeRow → ℕ → List RowDef → Result (List NodeRow) Operation
 rows_from cs built i [] = Ok built
-rows_from cs built i (r ∷ rs) = then_walk (interval_walk r.kind r.rhs r.range) (λ ends. rows_from cs (built ++ node_row cs i ends ∷ []) (suc i) rs)
+rows_from cs built i (r ∷ rs) = then_walk (interval_walk r.kind r.rhs r.range)
+    (λ ends. rows_from cs (built ++ node_row cs i ends ∷ []) (suc i) rs)
 
 -- one period P1, one node 0, one scenario S1 of probability 1
 abbrev pub single_program : Core → List NodeRow → Program

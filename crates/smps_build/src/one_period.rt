@@ -62,7 +62,8 @@ fn node_rows(
     rows: &[RowDef],
 ) -> Result<Vec<NodeRow>, BuildFault>
     requires { length rows.now < 2 ^ 32 }
-    ensures { MatchResult result (λ all. rows_from columns.now [] 0 rows.now ≡ Ok all.items) (BuildFaultOf (rows_from columns.now [] 0 rows.now)) }
+    ensures { MatchResult result (λ all. rows_from columns.now [] 0 rows.now ≡ Ok all.items)
+        (BuildFaultOf (rows_from columns.now [] 0 rows.now)) }
 {
     let forms = row_forms(alloc, columns, rows)?;
     let mut all = Vec::new(alloc);

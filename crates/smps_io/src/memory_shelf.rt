@@ -63,7 +63,8 @@ impl Shelf for MemoryShelf {
         ensures calls { self.new.calls ≡ counted self.old.calls 1 }
         ensures same { Some (files_of self.new.files.items) ≡ Some (files_of self.old.files.items) }
         ensures cause { FetchHasCause self.old.faults self.new.faults result }
-        ensures failed { IsErrOf result Failed ↔ Fails (files_of self.old.files.items) self.old.fails.items (counted self.old.calls 1) name.now }
+        ensures failed { IsErrOf result Failed ↔ Fails (files_of self.old.files.items) self.old.fails.items
+            (counted self.old.calls 1) name.now }
         ensures stays { self.new.fails.items ≡ self.old.fails.items }
     {
         self.calls = self.calls.saturating_add(1);

@@ -1,7 +1,8 @@
 //! ENDATA: the sums of the probabilities, and what the tables mean.
 ghost use Rattle.std.specs.Prelude.{◌≡◌, ◌≢◌, ◌<◌, ◌++◌, ◌∷◌, [], ℕ, pos, IfOk, OnOk, nat_eq, if◌then◌else◌, get_or, length, map};
 ghost use Rattle.rationals.specs.Rational.{zero_ℚ, ◌÷◌};
-ghost use Rattle.stoch_defs.specs.Finish.{sum_from, is_near, divided_from, shared, stated_cases, chance_of, own_from, with_parts, block_of, blocks_from, stated_branch, branch_with, branches_with};
+ghost use Rattle.stoch_defs.specs.Finish.{sum_from, is_near, divided_from, shared, stated_cases, chance_of, own_from, with_parts, block_of};
+ghost use Rattle.stoch_defs.specs.Finish.{blocks_from, stated_branch, branch_with, branches_with};
 ghost use Rattle.stoch_defs.specs.Random.{case_content, block_content, branch_content};
 ghost use Rattle.smps_stoch.specs.Paths.{node_content};
 ghost use Rattle.smps_stoch.specs.View.{sets_in, cases_in, items_in, blocks_in, branches_in, Gives};
@@ -129,7 +130,9 @@ fn no_cases(alloc: Global, stages: &[usize]) -> Result<Vec<Vec<Case>>, AllocErro
 /// One more case of a block.
 fn add_case(all: &mut Vec<Vec<Case>>, block: usize, case: Case) -> Result<(), AllocError>
     ensures count { OnOk result (length all.new.items ≡ length all.old.items) }
-    ensures added { OnOk result ((n : ℕ) → n < length all.old.items → get_or (map cases_in all.new.items) n [] ≡ get_or (map cases_in all.old.items) n [] ++ (if nat_eq block n then case_content case ∷ [] else [])) }
+    ensures added { OnOk result ((n : ℕ) → n < length all.old.items
+        → get_or (map cases_in all.new.items) n [] ≡ get_or (map cases_in all.old.items) n []
+        ++ (if nat_eq block n then case_content case ∷ [] else [])) }
 {
     if block < all.len() {
         let own = &mut all[block];

@@ -47,7 +47,18 @@ pub fn sentence(file: FileKind, cause: Cause) -> &'static str {
         Cause::ScenarioTwice => "that scenario's name was there before",
         Cause::ScenariosMixed => "SCENARIOS can't stand beside another kind of section",
         Cause::ScenarioLimit => "there are too many scenarios, nodes or entries",
+        Cause::CommandUnknown => "that command isn't known",
+        Cause::ScenarioUnknown => "no scenario has that name there",
+        Cause::NameTaken => "a scenario has that name already",
+        Cause::EditProbability => "that probability isn't above 0 and below 1",
+        Cause::LastScenario => "the only scenario can't be changed so",
+        Cause::EditEntryUnknown => "column and row name no entry",
+        Cause::ScriptLimit => "there are more than 10,000 commands",
         Cause::Passes(_) => "an end of a row doesn't fit into 128 bits",
+        Cause::ReportBad => "that line isn't one of a report there",
+        Cause::TraceBad => "that line isn't one of a trace there",
+        Cause::FlatLimit => "the deterministic equivalent is too large for a core file",
+        Cause::TailName => "a name of the core is one of TAIL_H, TAIL_U and TAIL_R",
     }
 }
 

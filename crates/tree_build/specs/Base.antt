@@ -11,7 +11,8 @@ use Rattle.tree_build.specs.declared.parts.RowValues.{RowValues}
 -- the costs of the columns of a stage, the first of which has the number j
 abbrev pub base_costs : List ColumnDef → ℕ → ℕ → List ℕ → List Term
 base_costs columns stage j [] = []
-base_costs columns stage j (at ∷ stages) = pick (nat_eq at stage) (put j (get_or columns j no_column).cost (base_costs columns stage (suc j) stages)) (base_costs columns stage (suc j) stages)
+base_costs columns stage j (at ∷ stages) = pick (nat_eq at stage)
+    (put j (get_or columns j no_column).cost (base_costs columns stage (suc j) stages)) (base_costs columns stage (suc j) stages)
 
 -- row i with its form and its right-hand side
 abbrev pub base_row : List RowDef → List (List Term) → ℕ → RowValues
@@ -20,4 +21,5 @@ base_row rows forms i = record { row = i; entries = get_or forms i []; rhs = (ge
 -- the rows of a stage that have a form, the first of which has the number i
 abbrev pub base_rows : List RowDef → List (List Term) → ℕ → ℕ → List ℕ → List RowValues
 base_rows rows forms stage i [] = []
-base_rows rows forms stage i (at ∷ stages) = pick (nat_eq at stage && nat_lt i (length forms)) (base_row rows forms i ∷ base_rows rows forms stage (suc i) stages) (base_rows rows forms stage (suc i) stages)
+base_rows rows forms stage i (at ∷ stages) = pick (nat_eq at stage && nat_lt i (length forms))
+    (base_row rows forms i ∷ base_rows rows forms stage (suc i) stages) (base_rows rows forms stage (suc i) stages)

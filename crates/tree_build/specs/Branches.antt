@@ -15,4 +15,5 @@ branch_key rows branch own stage = if nat_lt stage branch.stage then key_above r
 -- the keys of the scenarios behind those that are there; there are so many stages
 abbrev pub branch_rows : ℕ → List (List ℕ) → List Branch → List (List ℕ)
 branch_rows count rows [] = rows
-branch_rows count rows (branch ∷ branches) = branch_rows count (rows ++ map (branch_key rows branch (suc (length rows))) (stages_from 0 count) ∷ []) branches
+branch_rows count rows (branch ∷ branches) = branch_rows count (rows
+    ++ map (branch_key rows branch (suc (length rows))) (stages_from 0 count) ∷ []) branches

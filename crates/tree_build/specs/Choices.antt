@@ -23,4 +23,5 @@ chances_of blocks (wheel ∷ wheels) (digit ∷ digits) = (case_at blocks wheel.
 abbrev pub sets_of : List Block → List Wheel → List ℕ → Sets
 sets_of blocks [] digits = []
 sets_of blocks (wheel ∷ wheels) [] = []
-sets_of blocks (wheel ∷ wheels) (digit ∷ digits) = ((case_at blocks wheel.block 0).sets ++ (case_at blocks wheel.block digit).sets) ++ sets_of blocks wheels digits
+sets_of blocks (wheel ∷ wheels) (digit ∷ digits) = ((case_at blocks wheel.block 0).sets ++ (case_at blocks wheel.block digit).sets)
+    ++ sets_of blocks wheels digits

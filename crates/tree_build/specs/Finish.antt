@@ -1,5 +1,6 @@
 -- The nodes of a program, from their values.
-use Rattle.std.specs.Prelude.{ℕ, ◌-◌, List, [], ◌∷◌, ◌++◌, Option, Some, None, Result, Ok, Err, get_or, length, ◌+◌, ◌<◌, ◌^◌, ◌≡◌, IsOk, ⊤, nat_eq, if◌then◌else◌}
+use Rattle.std.specs.Prelude.{ℕ, ◌-◌, List, [], ◌∷◌, ◌++◌, Option, Some, None, Result, Ok, Err, get_or, length, ◌+◌, ◌<◌, ◌^◌, ◌≡◌, IsOk, ⊤}
+use Rattle.std.specs.Prelude.{nat_eq, if◌then◌else◌}
 use Rattle.rationals.specs.Passes.{Operation, then_walk}
 use Rattle.core_defs.specs.declared.parts.RowDef.{RowDef}
 use Rattle.scen_defs.specs.declared.program.NodeRow.{NodeRow}
@@ -64,7 +65,8 @@ value_node debut position d rows = record { stage = debut.stage; parent = parent
 abbrev pub value_nodes : List RowDef → List Debut → List Position → List (Option Node) → List Values → Result (List (Option Node)) Operation
 value_nodes defs debuts positions built [] = Ok built
 value_nodes defs debuts positions built (d ∷ all) =
-    then_walk (value_rows defs [] d.rows) (λ rows. value_nodes defs debuts positions (built ++ Some (value_node (get_or debuts (length built) no_debut) (get_or positions (length built) Root) d rows) ∷ []) all)
+    then_walk (value_rows defs [] d.rows) (λ rows. value_nodes defs debuts positions (built
+    ++ Some (value_node (get_or debuts (length built) no_debut) (get_or positions (length built) Root) d rows) ∷ []) all)
 
 -- the stages have 32 bits
 abbrev pub AreStaged : List Debut → Type 0
@@ -84,7 +86,8 @@ TriesChances positions scenarios (Err Memory) = ⊤
 -- the totals and the shares, the nodes, and then the program
 abbrev pub finish_walk : Core → Stages → List Debut → List Position → List Scenario → List Values → Result Program Operation
 finish_walk core p debuts positions scenarios all =
-    then_walk (chances_walk positions scenarios) (λ chances. then_walk (value_nodes core.rows.items debuts positions [] all) (λ nodes. Ok (program_of core p nodes scenarios)))
+    then_walk (chances_walk positions scenarios) (λ chances. then_walk (value_nodes core.rows.items debuts positions [] all)
+    (λ nodes. Ok (program_of core p nodes scenarios)))
 
 -- ---- scenarios
 
@@ -93,11 +96,16 @@ abbrev pub block_paths : List Block → List Wheel → List Scenario → List (L
 block_paths blocks wheels built [] = Ok built
 block_paths blocks wheels built (path ∷ paths) =
     then_walk (product_from one_ℚ (chances_of blocks wheels (digits_at (sizes_of wheels) (length built))))
-    (λ chance. block_paths blocks wheels (built ++ record { name = 83 ∷ digits (length built + 1); probability = chance; path = path } ∷ []) paths)
+    (λ chance. block_paths blocks wheels (built ++ record { name = 83 ∷ digits (length built + 1); probability = chance; path = path }
+    ∷ []) paths)
 
 -- the scenarios that are stated behind those that are built
 abbrev pub branch_paths : List Branch → List Scenario → List (List ℕ) → Result (List Scenario) Operation
 branch_paths branches built [] = Ok built
 branch_paths branches built (path ∷ paths) =
     then_walk (product_from one_ℚ ((get_or branches (length built) no_branch).probability ∷ []))
-    (λ chance. branch_paths branches (built ++ record { name = (get_or branches (length built) no_branch).name; probability = chance; path = path } ∷ []) paths)
+    (λ chance. branch_paths branches (built ++ record {
+      name = (get_or branches (length built) no_branch).name;
+      probability = chance;
+      path = path;
+    } ∷ []) paths)

@@ -33,8 +33,10 @@ counts_with counts d = record { entries = counts.entries + entries_in d; rows = 
 
 -- one of the counts is too much with those of one more node
 abbrev pub IsOverWith : Counts → Values → Type 0
-IsOverWith counts d = (most_entries < counts.entries + entries_in d) ⊎ ((most_entries < counts.rows + rows_in d) ⊎ (most_entries < counts.costs + costs_in d))
+IsOverWith counts d = (most_entries < counts.entries + entries_in d)
+    ⊎ ((most_entries < counts.rows + rows_in d) ⊎ (most_entries < counts.costs + costs_in d))
 
 -- there are more entries, rows or costs over all nodes than there may be
 abbrev pub are_over : List Values → Bool
-are_over all = nat_lt most_entries (sum_by entries_in all) || (nat_lt most_entries (sum_by rows_in all) || nat_lt most_entries (sum_by costs_in all))
+are_over all = nat_lt most_entries (sum_by entries_in all) || (nat_lt most_entries (sum_by rows_in all)
+    || nat_lt most_entries (sum_by costs_in all))

@@ -23,7 +23,8 @@ digits_at sizes number = if nat_lt number (product sizes) then digits_of sizes n
 
 -- a node where blocks are stated: the core's values, and then what the cases set of the scenario where it first appears
 abbrev pub block_node : Core → Stages → List Values → List Block → List Wheel → Debut → Values
-block_node core p base blocks wheels debut = with_sets core p debut.stage (get_or base debut.stage no_values) (sets_of blocks wheels (digits_at (sizes_of wheels) debut.scenario))
+block_node core p base blocks wheels debut = with_sets core p debut.stage (get_or base debut.stage no_values)
+    (sets_of blocks wheels (digits_at (sizes_of wheels) debut.scenario))
 
 -- the node of a scenario at a stage
 abbrev pub node_in : List (List ℕ) → ℕ → ℕ → ℕ
@@ -40,12 +41,14 @@ with_own core p stage branch source = if nat_lt stage branch.stage then source e
 -- a node where scenarios are stated: what the parent has there, and from the branch period on what the scenario sets itself
 abbrev pub branch_node : Core → Stages → List Values → List Branch → List (List ℕ) → List Values → Debut → Values
 branch_node core p base branches paths all debut =
-    with_own core p debut.stage (get_or branches debut.scenario no_branch) (source_of base paths all (get_or branches debut.scenario no_branch).parent debut.stage)
+    with_own core p debut.stage (get_or branches debut.scenario no_branch)
+    (source_of base paths all (get_or branches debut.scenario no_branch).parent debut.stage)
 
 -- the nodes behind those that are there
 abbrev pub branch_nodes : Core → Stages → List Values → List Branch → List (List ℕ) → List Values → List Debut → List Values
 branch_nodes core p base branches paths all [] = all
-branch_nodes core p base branches paths all (debut ∷ debuts) = branch_nodes core p base branches paths (all ++ branch_node core p base branches paths all debut ∷ []) debuts
+branch_nodes core p base branches paths all (debut ∷ debuts) =
+    branch_nodes core p base branches paths (all ++ branch_node core p base branches paths all debut ∷ []) debuts
 
 -- these values are too many
 abbrev pub IsFullOf : List Values → BuildFault → Type 0

@@ -56,7 +56,8 @@ all_debuts scenario (row ∷ rows) = row_debuts scenario 0 row ++ all_debuts (su
 
 abbrev pub paths_from : List Debut → ℕ → List (List ℕ) → List (List ℕ)
 paths_from seen scenario [] = []
-paths_from seen scenario (row ∷ rows) = numbers_from seen (row_debuts scenario 0 row) ∷ paths_from (debuts_from seen (row_debuts scenario 0 row)) (suc scenario) rows
+paths_from seen scenario (row ∷ rows) = numbers_from seen (row_debuts scenario 0 row)
+    ∷ paths_from (debuts_from seen (row_debuts scenario 0 row)) (suc scenario) rows
 
 abbrev pub rows_content : List Keys → List (List ℕ)
 rows_content [] = []

@@ -62,8 +62,10 @@ with_rhs v r = record { row = r.row; entries = r.entries; rhs = v }
 
 -- the values of a node of this stage, where the entry is set; one that isn't of the stage changes nothing
 abbrev pub with_set : Core → Stages → ℕ → Values → Entry → ℚ → Values
-with_set core p stage d (Cost j) v = if nat_lt j (length p.columns) && nat_eq (get_or p.columns j 0) stage then record { cost = put_at j v d.cost; rows = d.rows } else d
-with_set core p stage d (Matrix i j) v = if nat_lt j (length core.columns.items) then record { cost = d.cost; rows = at_row i (with_entry j v) d.rows } else d
+with_set core p stage d (Cost j) v = if nat_lt j (length p.columns) && nat_eq (get_or p.columns j 0) stage
+    then record { cost = put_at j v d.cost; rows = d.rows } else d
+with_set core p stage d (Matrix i j) v = if nat_lt j (length core.columns.items)
+    then record { cost = d.cost; rows = at_row i (with_entry j v) d.rows } else d
 with_set core p stage d (Rhs i) v = record { cost = d.cost; rows = at_row i (with_rhs v) d.rows }
 
 -- one after another

@@ -51,23 +51,29 @@ paths_of rows = paths_from [] 0 rows
 
 -- the keys of all scenarios of blocks
 abbrev pub block_rows : ℕ → List Wheel → List (List ℕ)
-block_rows stages wheels = map (λ number. key_row wheels stages (digits_of (sizes_of wheels) number)) (stages_from 0 (product (sizes_of wheels)))
+block_rows stages wheels = map (λ number. key_row wheels stages (digits_of (sizes_of wheels) number))
+    (stages_from 0 (product (sizes_of wheels)))
 
 abbrev pub block_all : Core → Stages → List Block → List Wheel → List (List ℕ) → List Values
 block_all core p blocks wheels rows = map (block_node core p (base_of core p) blocks wheels) (debuts_of rows)
 
 abbrev pub blocks_over_by : Core → Stages → List Block → List Wheel → List (List ℕ) → Bool
-blocks_over_by core p blocks wheels rows = nat_lt most_scenarios (product (sizes_of wheels)) || (nat_lt most_nodes (length (debuts_of rows)) || are_over (block_all core p blocks wheels rows))
+blocks_over_by core p blocks wheels rows = nat_lt most_scenarios (product (sizes_of wheels))
+    || (nat_lt most_nodes (length (debuts_of rows)) || are_over (block_all core p blocks wheels rows))
 
 abbrev pub blocks_walk_by : Core → Stages → List Block → List Wheel → List (List ℕ) → Result Program Operation
 blocks_walk_by core p blocks wheels rows =
-    then_walk (block_paths blocks wheels [] (paths_of rows)) (λ scenarios. finish_walk core p (debuts_of rows) (map (position_at (paths_of rows)) (debuts_of rows)) scenarios (block_all core p blocks wheels rows))
+    then_walk (block_paths blocks wheels [] (paths_of rows))
+    (λ scenarios. finish_walk core p (debuts_of rows) (map (position_at (paths_of rows)) (debuts_of rows)) scenarios
+    (block_all core p blocks wheels rows))
 
 abbrev pub blocks_over : Core → Stages → List Block → Bool
-blocks_over core p blocks = blocks_over_by core p blocks (wheels_of (length p.names) blocks) (block_rows (length p.names) (wheels_of (length p.names) blocks))
+blocks_over core p blocks = blocks_over_by core p blocks (wheels_of (length p.names) blocks)
+    (block_rows (length p.names) (wheels_of (length p.names) blocks))
 
 abbrev pub blocks_walk : Core → Stages → List Block → Result Program Operation
-blocks_walk core p blocks = blocks_walk_by core p blocks (wheels_of (length p.names) blocks) (block_rows (length p.names) (wheels_of (length p.names) blocks))
+blocks_walk core p blocks = blocks_walk_by core p blocks (wheels_of (length p.names) blocks)
+    (block_rows (length p.names) (wheels_of (length p.names) blocks))
 
 -- ---- scenarios that are stated
 
@@ -75,11 +81,13 @@ abbrev pub branch_all : Core → Stages → List Branch → List (List ℕ) → 
 branch_all core p branches rows = branch_nodes core p (base_of core p) branches (paths_of rows) [] (debuts_of rows)
 
 abbrev pub branches_over_by : Core → Stages → List Branch → List (List ℕ) → Bool
-branches_over_by core p branches rows = nat_lt most_scenarios (length branches) || (nat_lt most_nodes (length (debuts_of rows)) || are_over (branch_all core p branches rows))
+branches_over_by core p branches rows = nat_lt most_scenarios (length branches)
+    || (nat_lt most_nodes (length (debuts_of rows)) || are_over (branch_all core p branches rows))
 
 abbrev pub branches_walk_by : Core → Stages → List Branch → List (List ℕ) → Result Program Operation
 branches_walk_by core p branches rows =
-    then_walk (branch_paths branches [] (paths_of rows)) (λ scenarios. finish_walk core p (debuts_of rows) (map (position_at (paths_of rows)) (debuts_of rows)) scenarios (branch_all core p branches rows))
+    then_walk (branch_paths branches [] (paths_of rows)) (λ scenarios. finish_walk core p (debuts_of rows)
+    (map (position_at (paths_of rows)) (debuts_of rows)) scenarios (branch_all core p branches rows))
 
 abbrev pub branches_over : Core → Stages → List Branch → Bool
 branches_over core p branches = branches_over_by core p branches (branch_rows (length p.names) [] branches)

@@ -8,7 +8,8 @@ use Rattle.tree_build.specs.declared.wheels.Wheel.{Wheel}
 -- the blocks of a stage, of which the first has the number i
 abbrev pub wheels_at : ℕ → ℕ → List Block → List Wheel
 wheels_at stage i [] = []
-wheels_at stage i (block ∷ blocks) = pick (nat_eq block.stage stage) (record { block = i; stage = stage; size = length block.cases } ∷ wheels_at stage (suc i) blocks) (wheels_at stage (suc i) blocks)
+wheels_at stage i (block ∷ blocks) = pick (nat_eq block.stage stage)
+    (record { block = i; stage = stage; size = length block.cases } ∷ wheels_at stage (suc i) blocks) (wheels_at stage (suc i) blocks)
 
 -- by period; there are so many periods
 abbrev pub wheels_of : ℕ → List Block → List Wheel
@@ -37,7 +38,8 @@ IsWithin (size ∷ sizes) (digit ∷ digits) = (digit < size) × IsWithin sizes 
 abbrev pub key_to : ℕ → List Wheel → List ℕ → ℕ → ℕ
 key_to stage [] digits key = key
 key_to stage (wheel ∷ wheels) [] key = key
-key_to stage (wheel ∷ wheels) (digit ∷ digits) key = key_to stage wheels digits (if nat_le wheel.stage stage then key * wheel.size + digit else key)
+key_to stage (wheel ∷ wheels) (digit ∷ digits) key = key_to stage wheels digits (if nat_le wheel.stage stage then key * wheel.size + digit
+    else key)
 
 abbrev pub key_row : List Wheel → ℕ → List ℕ → List ℕ
 key_row wheels count digits = map (λ stage. key_to stage wheels digits 0) (stages_from 0 count)

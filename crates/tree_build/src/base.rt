@@ -76,7 +76,8 @@ fn rows(
 /// What the core states of the nodes of each stage.
 pub(crate) fn base(alloc: Global, core: &Core, periods: &Periods) -> Result<Vec<Values>, Memory>
     requires { length periods.now.row_stage.items ≡ length core.now.rows.items }
-    ensures { IfOk result (λ all. all_content all.items ≡ map (values_of core.now (stages periods.now) []) (stages_from 0 (length periods.now.names.items))) }
+    ensures { IfOk result (λ all. all_content all.items ≡ map (values_of core.now (stages periods.now) [])
+        (stages_from 0 (length periods.now.names.items))) }
 {
     let forms = row_forms(alloc, &core.columns, &core.rows)?;
     let mut all = Vec::new(alloc);

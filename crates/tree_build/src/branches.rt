@@ -50,7 +50,8 @@ fn branch_row(
     own: u64,
     count: usize,
 ) -> Result<Vec<u64>, AllocError>
-    ensures { IfOk result (λ row. row.items ≡ map (branch_key (rows_content rows.now) (branch_content branch.now) own) (stages_from 0 count)) }
+    ensures { IfOk result (λ row. row.items ≡ map (branch_key (rows_content rows.now) (branch_content branch.now) own)
+        (stages_from 0 count)) }
 {
     let mut row = Vec::new(alloc);
     for stage in 0..count {

@@ -64,7 +64,8 @@ pub(crate) fn set_choices(
     wheels: &[Wheel],
     digits: &[usize],
 ) -> Result<(), Memory>
-    ensures { OnOk result (values_content values.new ≡ with_sets core.now (stages periods.now) stage (values_content values.old) (sets_of (map block_content blocks.now) wheels.now digits.now)) }
+    ensures { OnOk result (values_content values.new ≡ with_sets core.now (stages periods.now) stage (values_content values.old)
+        (sets_of (map block_content blocks.now) wheels.now digits.now)) }
 {
     for (place, wheel) in wheels.iter().enumerate() {
         if place < digits.len() {

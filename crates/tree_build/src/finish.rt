@@ -108,7 +108,8 @@ fn nodes(
     values: Vec<Values>,
 ) -> Result<Vec<Option<Node>>, BuildFault>
     requires { AreStaged debuts.now }
-    ensures { MatchResult result (λ nodes. value_nodes defs.now debuts.now positions.now [] (all_content values.items) ≡ Ok (nodes_content nodes.items))
+    ensures { MatchResult result (λ nodes. value_nodes defs.now debuts.now positions.now [] (all_content values.items)
+        ≡ Ok (nodes_content nodes.items))
         (BuildFaultOf (value_nodes defs.now debuts.now positions.now [] (all_content values.items))) }
 {
     let mut nodes = Vec::with_capacity(alloc, values.len())?;
@@ -195,8 +196,10 @@ pub(crate) fn finish(
 ) -> Result<Program, BuildFault>
     requires staged { AreStaged debuts.now }
     requires few { length positions.now < 2 ^ 32 }
-    ensures { MatchResult result (λ program. finish_walk core.now (stages periods.now) debuts.now positions.now (scenarios_content scenarios.items) (all_content values.items) ≡ Ok (content program))
-        (BuildFaultOf (finish_walk core.now (stages periods.now) debuts.now positions.now (scenarios_content scenarios.items) (all_content values.items))) }
+    ensures { MatchResult result (λ program. finish_walk core.now (stages periods.now) debuts.now positions.now
+        (scenarios_content scenarios.items) (all_content values.items) ≡ Ok (content program))
+        (BuildFaultOf (finish_walk core.now (stages periods.now) debuts.now positions.now (scenarios_content scenarios.items)
+        (all_content values.items))) }
 {
     try_chances(alloc, positions, &scenarios)?;
     let nodes = nodes(alloc, &core.rows, debuts, positions, values)?;

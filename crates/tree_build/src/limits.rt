@@ -44,7 +44,8 @@ fn with_entries(count: usize, rows: &[RowValues]) -> Option<usize>
 /// The counts with those of one more node, where none of them is too much.
 pub(crate) fn with_node(counts: Counts, values: &Values) -> Option<Counts>
     requires { AreSmall counts }
-    ensures { MatchOption result (IsOverWith counts (values_content values.now)) (λ sum. (sum ≡ counts_with counts (values_content values.now)) × AreSmall sum) }
+    ensures { MatchOption result (IsOverWith counts (values_content values.now))
+        (λ sum. (sum ≡ counts_with counts (values_content values.now)) × AreSmall sum) }
 {
     let entries = with_entries(counts.entries, &values.rows)?;
     let rows = added(counts.rows, values.rows.len())?;

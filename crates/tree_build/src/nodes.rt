@@ -5,7 +5,8 @@ ghost use Rattle.tree_build.specs.Values.{stages, values_content, all_content};
 ghost use Rattle.tree_build.specs.Wheels.{product, sizes_of};
 ghost use Rattle.tree_build.specs.Numbering.{paths_content};
 ghost use Rattle.tree_build.specs.Limits.{are_over};
-ghost use Rattle.tree_build.specs.Nodes.{no_values, digits_at, block_node, branch_node, branch_nodes, node_in, source_of, with_own, IsFullOf};
+ghost use Rattle.tree_build.specs.Nodes.{no_values, digits_at, block_node, branch_node, branch_nodes, node_in, source_of, with_own};
+ghost use Rattle.tree_build.specs.Nodes.{IsFullOf};
 
 use crate::choices::set_choices;
 use crate::limits::{Counts, with_node};
@@ -63,7 +64,8 @@ fn block_node(
     debut: Debut,
 ) -> Result<Values, Memory>
     requires { count ≡ product (sizes_of wheels.now) }
-    ensures { IfOk result (λ values. values_content values ≡ block_node core.now (stages periods.now) (all_content base.now) (map block_content blocks.now) wheels.now debut) }
+    ensures { IfOk result (λ values. values_content values ≡ block_node core.now (stages periods.now) (all_content base.now)
+        (map block_content blocks.now) wheels.now debut) }
 {
     let digits = digits_at(alloc, wheels, count, debut.scenario)?;
     let mut values = copied_at(alloc, base, debut.stage)?;
@@ -92,9 +94,11 @@ pub(crate) fn block_values(
     debuts: &[Debut],
 ) -> Result<Vec<Values>, BuildFault>
     requires { count ≡ product (sizes_of wheels.now) }
-    ensures all { IfOk result (λ all. all_content all.items ≡ map (block_node core.now (stages periods.now) (all_content base.now) (map block_content blocks.now) wheels.now) debuts.now) }
+    ensures all { IfOk result (λ all. all_content all.items ≡ map
+        (block_node core.now (stages periods.now) (all_content base.now) (map block_content blocks.now) wheels.now) debuts.now) }
     ensures few { IfOk result (λ all. are_over (all_content all.items) ≡ false) }
-    ensures err { IfErr result (IsFullOf (map (block_node core.now (stages periods.now) (all_content base.now) (map block_content blocks.now) wheels.now) debuts.now)) }
+    ensures err { IfErr result (IsFullOf
+        (map (block_node core.now (stages periods.now) (all_content base.now) (map block_content blocks.now) wheels.now) debuts.now)) }
 {
     let mut all = Vec::with_capacity(alloc, debuts.len())?;
     let mut counts = Counts {
@@ -134,7 +138,8 @@ fn source(
     parent: Option<u32>,
     stage: usize,
 ) -> Result<Values, Memory>
-    ensures { IfOk result (λ values. values_content values ≡ source_of (all_content base.now) (paths_content paths.now) (all_content all.now) parent stage) }
+    ensures { IfOk result (λ values. values_content values ≡ source_of (all_content base.now) (paths_content paths.now)
+        (all_content all.now) parent stage) }
 {
     match parent {
         None => copied_at(alloc, base, stage),
@@ -176,7 +181,8 @@ fn branch_node(
     debut: Debut,
 ) -> Result<Values, Memory>
     ensures { IfOk result (λ values. values_content values
-        ≡ branch_node core.now (stages periods.now) (all_content base.now) (map branch_content branches.now) (paths_content paths.now) (all_content all.now) debut) }
+        ≡ branch_node core.now (stages periods.now) (all_content base.now) (map branch_content branches.now) (paths_content paths.now)
+        (all_content all.now) debut) }
 {
     if debut.scenario < branches.len() {
         let branch = &branches[debut.scenario];
@@ -197,9 +203,11 @@ pub(crate) fn branch_values(
     debuts: &[Debut],
 ) -> Result<Vec<Values>, BuildFault>
     ensures all { IfOk result (λ all. all_content all.items
-        ≡ branch_nodes core.now (stages periods.now) (all_content base.now) (map branch_content branches.now) (paths_content paths.now) [] debuts.now) }
+        ≡ branch_nodes core.now (stages periods.now) (all_content base.now) (map branch_content branches.now)
+        (paths_content paths.now) [] debuts.now) }
     ensures few { IfOk result (λ all. are_over (all_content all.items) ≡ false) }
-    ensures err { IfErr result (IsFullOf (branch_nodes core.now (stages periods.now) (all_content base.now) (map branch_content branches.now) (paths_content paths.now) [] debuts.now)) }
+    ensures err { IfErr result (IsFullOf (branch_nodes core.now (stages periods.now) (all_content base.now)
+        (map branch_content branches.now) (paths_content paths.now) [] debuts.now)) }
 {
     let mut all = Vec::with_capacity(alloc, debuts.len())?;
     let mut counts = Counts {

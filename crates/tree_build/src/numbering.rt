@@ -1,7 +1,8 @@
 //! The numbers of nodes, by first appearance.
 ghost use Rattle.std.specs.Prelude.{◌≡◌, ◌≤◌, [], length, IfOk, OnOk, IfErr, MatchResult};
 ghost use Rattle.build_defs.specs.Built.{most_nodes};
-ghost use Rattle.tree_build.specs.Numbering.{key_of, keys_of, number_of, with_debut, debuts_from, numbers_from, row_debuts, all_debuts, paths_from, rows_content, paths_content, IsOver};
+ghost use Rattle.tree_build.specs.Numbering.{key_of, keys_of, number_of, with_debut, debuts_from, numbers_from, row_debuts, all_debuts};
+ghost use Rattle.tree_build.specs.Numbering.{paths_from, rows_content, paths_content, IsOver};
 
 use crate::seen::Seen;
 use smps_build::BuildFault;

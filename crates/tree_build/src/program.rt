@@ -5,7 +5,8 @@ ghost use Rattle.build_defs.specs.Scenarios.{stages_from};
 ghost use Rattle.tree_build.specs.Values.{stages};
 ghost use Rattle.tree_build.specs.Numbering.{rows_content};
 ghost use Rattle.tree_build.specs.Wheels.{product, sizes_of, digits_of, key_row};
-ghost use Rattle.tree_build.specs.Walks.{Fits, IsBuilt, block_rows, blocks_over, blocks_walk, branches_over, branches_walk, build_over, build_walk};
+ghost use Rattle.tree_build.specs.Walks.{Fits, IsBuilt, block_rows, blocks_over, blocks_walk, branches_over, branches_walk, build_over};
+ghost use Rattle.tree_build.specs.Walks.{build_walk};
 
 use crate::base::base;
 use crate::branches::branch_rows;
@@ -51,7 +52,8 @@ fn build_blocks(
     blocks: &[Block],
 ) -> Result<Program, BuildFault>
     requires { Fits core.now (stages periods.now) }
-    ensures { IsBuilt (blocks_over core.now (stages periods.now) (map block_content blocks.now)) (blocks_walk core.now (stages periods.now) (map block_content blocks.now)) result }
+    ensures { IsBuilt (blocks_over core.now (stages periods.now) (map block_content blocks.now))
+        (blocks_walk core.now (stages periods.now) (map block_content blocks.now)) result }
 {
     let stages = periods.names.len();
     let wheels = wheels_of(alloc, blocks, stages)?;
@@ -76,7 +78,8 @@ fn build_branches(
     branches: &[Branch],
 ) -> Result<Program, BuildFault>
     requires { Fits core.now (stages periods.now) }
-    ensures { IsBuilt (branches_over core.now (stages periods.now) (map branch_content branches.now)) (branches_walk core.now (stages periods.now) (map branch_content branches.now)) result }
+    ensures { IsBuilt (branches_over core.now (stages periods.now) (map branch_content branches.now))
+        (branches_walk core.now (stages periods.now) (map branch_content branches.now)) result }
 {
     if branches.len() > MOST_SCENARIOS {
         return Err(BuildFault::Limit);
@@ -103,7 +106,8 @@ pub fn build(
     stoch: &Stoch,
 ) -> Result<Program, BuildFault>
     requires { Fits core.now (stages periods.now) }
-    ensures { IsBuilt (build_over core.now (stages periods.now) (content stoch.now)) (build_walk core.now (stages periods.now) (content stoch.now)) result }
+    ensures { IsBuilt (build_over core.now (stages periods.now) (content stoch.now))
+        (build_walk core.now (stages periods.now) (content stoch.now)) result }
 {
     match stoch {
         Stoch::Blocks(blocks) => build_blocks(alloc, core, periods, blocks),

@@ -42,7 +42,8 @@ pub(crate) fn node_rows(
     defs: &[RowDef],
     rows: Vec<RowValues>,
 ) -> Result<Vec<NodeRow>, BuildFault>
-    ensures { MatchResult result (λ all. value_rows defs.now [] rows.items ≡ Ok all.items) (BuildFaultOf (value_rows defs.now [] rows.items)) }
+    ensures { MatchResult result (λ all. value_rows defs.now [] rows.items ≡ Ok all.items)
+        (BuildFaultOf (value_rows defs.now [] rows.items)) }
 {
     let mut all = Vec::with_capacity(alloc, rows.len())?;
     for row in rows {

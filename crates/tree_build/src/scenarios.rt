@@ -33,8 +33,10 @@ fn block_chance(
     number: usize,
 ) -> Result<Frac, BuildFault>
     requires { count ≡ product (sizes_of wheels.now) }
-    ensures { MatchResult result (λ chance. product_from one_ℚ (chances_of (map block_content blocks.now) wheels.now (digits_at (sizes_of wheels.now) number)) ≡ Ok chance)
-        (BuildFaultOf (product_from one_ℚ (chances_of (map block_content blocks.now) wheels.now (digits_at (sizes_of wheels.now) number)))) }
+    ensures { MatchResult result (λ chance. product_from one_ℚ
+        (chances_of (map block_content blocks.now) wheels.now (digits_at (sizes_of wheels.now) number)) ≡ Ok chance)
+        (BuildFaultOf (product_from one_ℚ (chances_of (map block_content blocks.now) wheels.now
+        (digits_at (sizes_of wheels.now) number)))) }
 {
     let digits = digits_at(alloc, wheels, count, number)?;
     let probability = chance(blocks, wheels, &digits)?;
@@ -50,7 +52,8 @@ pub(crate) fn block_scenarios(
     paths: Vec<Path>,
 ) -> Result<Vec<Scenario>, BuildFault>
     requires { count ≡ product (sizes_of wheels.now) }
-    ensures { MatchResult result (λ all. block_paths (map block_content blocks.now) wheels.now [] (paths_content paths.items) ≡ Ok (scenarios_content all.items))
+    ensures { MatchResult result (λ all. block_paths (map block_content blocks.now) wheels.now [] (paths_content paths.items)
+        ≡ Ok (scenarios_content all.items))
         (BuildFaultOf (block_paths (map block_content blocks.now) wheels.now [] (paths_content paths.items))) }
 {
     let mut all = Vec::with_capacity(alloc, paths.len())?;
@@ -96,7 +99,8 @@ pub(crate) fn branch_scenarios(
     branches: &[Branch],
     paths: Vec<Path>,
 ) -> Result<Vec<Scenario>, BuildFault>
-    ensures { MatchResult result (λ all. branch_paths (map branch_content branches.now) [] (paths_content paths.items) ≡ Ok (scenarios_content all.items))
+    ensures { MatchResult result (λ all. branch_paths (map branch_content branches.now) [] (paths_content paths.items)
+        ≡ Ok (scenarios_content all.items))
         (BuildFaultOf (branch_paths (map branch_content branches.now) [] (paths_content paths.items))) }
 {
     let mut all = Vec::with_capacity(alloc, paths.len())?;

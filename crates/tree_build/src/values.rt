@@ -109,7 +109,8 @@ fn set(
     entry: Entry,
     value: Frac,
 ) -> Result<(), Memory>
-    ensures { OnOk result (values_content values.new ≡ with_set core.now (stages periods.now) stage (values_content values.old) entry value) }
+    ensures { OnOk result (values_content values.new ≡ with_set core.now (stages periods.now) stage
+        (values_content values.old) entry value) }
 {
     match entry {
         Entry::Cost { column } => {

@@ -25,7 +25,8 @@ COLUMNS
 RHS
  RHS DEMAND 2
 ENDATA
-#C; skips SKIP; set S; A Less 4 range 2; B Greater -5 range 0; D Equal 3 range -1; X 1 0:1/2 1:-1/4 in 1..5; Y 0 2:20 in none..-2; Z 0 in none..none
+#C; skips SKIP; set S; A Less 4 range 2; B Greater -5 range 0; D Equal 3 range -1; X 1 0:1/2 1:-1/4 in 1..5; Y 0 2:20 in none..-2; Z 0 \
+    in none..none
 NAME ALL
 ROWS
  N C

@@ -5,7 +5,8 @@
 //! - 10: a header that isn't one of the file
 //! - 11: a data line or STOCH out of order; a pair before the line that begins a case or scenario, and behind a header
 //! - 12: without ENDATA
-//! - 17: an entry twice in one case or scenario, in two blocks, in an INDEP line and a block, in either order; after the period's rule, before 57
+//! - 17: an entry twice in one case or scenario, in two blocks, in an INDEP line and a block, in either order; after the period's rule,
+//! before 57
 //! - 18: the number of fields
 //! - 19: not a number
 //! - 20: wide
