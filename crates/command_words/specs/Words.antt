@@ -1,11 +1,14 @@
 -- The words of a command.
-use Rattle.std.specs.Prelude.{ℕ, ◌+◌, ◌*◌, ◌-◌, Bool, true, false, List, [], ◌∷◌, ◌++◌, length, Option, Some, None, is_none, if◌then◌else◌, nat_eq, leb, ltb, ◌==◌, not, ◌&&◌, codes}
+use Rattle.std.specs.Prelude.{ℕ, ◌+◌, ◌*◌, ◌-◌, Bool, true, false, List, [], ◌∷◌, ◌++◌, length, Option, Some, None, is_none}
+use Rattle.std.specs.Prelude.{if◌then◌else◌, nat_eq, leb, ltb, ◌==◌, not, ◌&&◌, codes}
 use Rattle.std.specs.Cmp.Lexicographic.{pointwise}
 use Rattle.std.specs.List.{position_or_len, before_first, after_first}
 use Rattle.command_words.specs.declared.flag.Flag.{Flag}
-use Rattle.command_words.specs.declared.flag.Flag.TheVariants.{Core, Time, Stoch, Solves, Pivots, Workers}
+use Rattle.command_words.specs.declared.flag.Flag.TheVariants.{Core, Time, Stoch, Edits, Report, Solves, Pivots, Workers}
+use Rattle.command_words.specs.declared.flag.Flag.TheVariants.{Start, Stages, Branches, Size, Text}
 use Rattle.command_words.specs.declared.command.Verb.{Verb}
-use Rattle.command_words.specs.declared.command.Verb.TheVariants.{Solve, Show}
+use Rattle.command_words.specs.declared.command.Verb.TheVariants.{Solve, Check, Show, Make}
+use Rattle.command_words.specs.declared.command.Budget.{Budget}
 
 -- ---- values
 
@@ -29,7 +32,8 @@ number_from read (byte ∷ bytes) = number_from (read * 10 + (byte - 48)) bytes
 
 -- a number has 1 to 10 decimal digits
 abbrev pub number_of : List ℕ → Option ℕ
-number_of word = if (not (nat_eq (length word) 0) && leb (length word) 10) && are_digits word then Some (number_from 0 word) else None
+number_of word =
+    if (not (nat_eq (length word) 0) && leb (length word) 10) && are_digits word then Some (number_from 0 word) else None
 
 abbrev pub kept_within : ℕ → ℕ → Option ℕ → Option ℕ
 kept_within least most None = None
@@ -48,9 +52,16 @@ flag_named name =
     if same_text name (codes "--core") then Some Core
     else (if same_text name (codes "--time") then Some Time
     else (if same_text name (codes "--stoch") then Some Stoch
+    else (if same_text name (codes "--edits") then Some Edits
+    else (if same_text name (codes "--report") then Some Report
     else (if same_text name (codes "--solves") then Some Solves
     else (if same_text name (codes "--pivots") then Some Pivots
-    else (if same_text name (codes "--workers") then Some Workers else None)))))
+    else (if same_text name (codes "--workers") then Some Workers
+    else (if same_text name (codes "--start") then Some Start
+    else (if same_text name (codes "--stages") then Some Stages
+    else (if same_text name (codes "--branches") then Some Branches
+    else (if same_text name (codes "--size") then Some Size
+    else (if same_text name (codes "--text") then Some Text else None))))))))))))
 
 -- an option with its value
 pub record Given : Type 0 where
@@ -88,19 +99,31 @@ abbrev pub settings_from : List Given → List (List ℕ) → Option (List Given
 settings_from done [] = Some done
 settings_from done (word ∷ []) = after_cut (cut word) None (λ s. Some (done ++ s ∷ []))
 settings_from done (word ∷ next ∷ words) =
-    after_cut (cut word) (then_some (setting_of word next) (λ s. settings_from (done ++ s ∷ []) words)) (λ s. settings_from (done ++ s ∷ []) (next ∷ words))
+    after_cut (cut word)
+    (then_some (setting_of word next) (λ s. settings_from (done ++ s ∷ []) words))
+    (λ s. settings_from (done ++ s ∷ []) (next ∷ words))
 
 abbrev pub settings_of : List (List ℕ) → Option (List Given)
 settings_of = settings_from []
 
+-- options are told apart by a number
+abbrev pub flag_number : Flag → ℕ
+flag_number Core = 0
+flag_number Time = 1
+flag_number Stoch = 2
+flag_number Edits = 3
+flag_number Report = 4
+flag_number Solves = 5
+flag_number Pivots = 6
+flag_number Workers = 7
+flag_number Start = 8
+flag_number Stages = 9
+flag_number Branches = 10
+flag_number Size = 11
+flag_number Text = 12
+
 abbrev pub same_flag : Flag → Flag → Bool
-same_flag Core Core = true
-same_flag Time Time = true
-same_flag Stoch Stoch = true
-same_flag Solves Solves = true
-same_flag Pivots Pivots = true
-same_flag Workers Workers = true
-same_flag _ _ = false
+same_flag one other = nat_eq (flag_number one) (flag_number other)
 
 -- the value of the first setting of this option
 abbrev pub value_with : Flag → List Given → Option (List ℕ)
@@ -112,75 +135,32 @@ abbrev pub are_once : List Given → Bool
 are_once [] = true
 are_once (s ∷ settings) = is_none (value_with s.flag settings) && are_once settings
 
--- ---- commands
+-- ---- verbs and numbers
 
 abbrev pub verb_named : List ℕ → Option Verb
-verb_named word = if same_text word (codes "solve") then Some Solve else (if same_text word (codes "show") then Some Show else None)
-
--- a command takes the names of the files; `solve` also takes numbers
-abbrev pub allows : Verb → Flag → Bool
-allows verb Core = true
-allows verb Time = true
-allows verb Stoch = true
-allows Solve Solves = true
-allows Solve Pivots = true
-allows Solve Workers = true
-allows Show Solves = false
-allows Show Pivots = false
-allows Show Workers = false
-
-abbrev pub all_allowed : Verb → List Given → Bool
-all_allowed verb [] = true
-all_allowed verb (s ∷ settings) = allows verb s.flag && all_allowed verb settings
-
--- the names of the files that state a program
-pub record FileNames : Type 0 where
-  pub core : List ℕ
-  pub time : Option (List ℕ)
-  pub stoch : Option (List ℕ)
-
--- a core is needed, and a stoch file goes with a time file alone
-abbrev pub sources_by : Option (List ℕ) → Option (List ℕ) → Option (List ℕ) → Option FileNames
-sources_by None time stoch = None
-sources_by (Some core) None (Some stoch) = None
-sources_by (Some core) None None = Some (record { core = core; time = None; stoch = None })
-sources_by (Some core) (Some time) stoch = Some (record { core = core; time = Some time; stoch = stoch })
-
-abbrev pub sources_of : List Given → Option FileNames
-sources_of settings = sources_by (value_with Core settings) (value_with Time settings) (value_with Stoch settings)
+verb_named word =
+    if same_text word (codes "solve") then Some Solve
+    else (if same_text word (codes "check") then Some Check
+    else (if same_text word (codes "show") then Some Show
+    else (if same_text word (codes "make") then Some Make else None)))
 
 -- the number of an option, at most so much, or the number that stands for an absent one
 abbrev pub number_or : ℕ → ℕ → Option (List ℕ) → Option ℕ
 number_or absent most None = Some absent
 number_or absent most (Some value) = number_within value 1 most
 
--- how many node programs are solved for a report, and how many pivots each takes, at most
-pub record Budget : Type 0 where
-  pub solves : ℕ
-  pub pivots : ℕ
+-- the number of an option within its range
+abbrev pub option_number : ℕ → ℕ → Option (List ℕ) → Option ℕ
+option_number least most None = None
+option_number least most (Some value) = number_within value least most
 
 abbrev pub budget_by : Option ℕ → Option ℕ → Option ℕ → Option Budget
-budget_by solves pivots workers = then_some solves (λ s. then_some pivots (λ p. then_some workers (λ w. Some (record { solves = s; pivots = p }))))
+budget_by solves pivots workers =
+    then_some solves (λ s. then_some pivots (λ p. then_some workers (λ w. Some (record { solves = s; pivots = p }))))
 
 -- of solves and of pivots 100,000 where the words don't say how many, and 1,000,000,000 at most; one worker
 abbrev pub budget_of : List Given → Option Budget
-budget_of settings = budget_by (number_or 100000 1000000000 (value_with Solves settings)) (number_or 100000 1000000000 (value_with Pivots settings))
+budget_of settings = budget_by
+    (number_or 100000 1000000000 (value_with Solves settings))
+    (number_or 100000 1000000000 (value_with Pivots settings))
     (number_or 1 1 (value_with Workers settings))
-
--- what the words ask for
-pub data Asked : Type 0 where
-  -- of these files, within a budget
-  SolveThese : FileNames → Budget → Asked
-  ShowThese : FileNames → Asked
-
-abbrev pub ask : Verb → List Given → FileNames → Option Asked
-ask Solve settings names = then_some (budget_of settings) (λ budget. Some (SolveThese names budget))
-ask Show settings names = Some (ShowThese names)
-
-abbrev pub command_with : Verb → List Given → Option Asked
-command_with verb settings = if all_allowed verb settings && are_once settings then then_some (sources_of settings) (ask verb settings) else None
-
--- The command that the words are: the first is its name, and options follow in any order, each at most once.
-abbrev pub command_of : List (List ℕ) → Option Asked
-command_of [] = None
-command_of (word ∷ words) = then_some (verb_named word) (λ verb. then_some (settings_of words) (command_with verb))

@@ -1,8 +1,10 @@
 //! The commands.
 ghost use Rattle.std.specs.Prelude.{◌≡◌, ℕ, List, map, string_bytes, IfOk};
 ghost use Rattle.std.specs.Option.{option_map};
-ghost use Rattle.command_words.specs.Words.{verb_named, allows, all_allowed, sources_of, value_with, number_or, budget_of, command_with, command_of};
-ghost use Rattle.command_words.specs.Views.{asked, all_given, budget_view, sources_view};
+ghost use Rattle.command_words.specs.Words.{verb_named, value_with, number_or, option_number, budget_of};
+ghost use Rattle.command_words.specs.Commands.{allows, all_allowed, sources_of, task_of, page_named, page_of, plan_of};
+ghost use Rattle.command_words.specs.Commands.{on_files, command_with, command_of};
+ghost use Rattle.command_words.specs.Views.{asked, all_given, sources_view};
 
 use crate::flag::Flag;
 use crate::settings::{Setting, are_once, settings, value_with};
@@ -13,10 +15,12 @@ use std::alloc::{AllocError, Global};
 #[derive(Clone, Copy, Debug, PartialEq, Eq)]
 pub enum Verb {
     Solve,
+    Check,
     Show,
+    Make,
 }
 
-/// The names of the files that state a program.
+/// The names of the files that a command takes.
 #[derive(Clone, Copy, Debug, Drop)]
 pub struct Sources<'a> {
     pub core: &'a str,
@@ -24,6 +28,10 @@ pub struct Sources<'a> {
     pub time: Option<&'a str>,
     /// Without one it has one scenario; there is none without a time file.
     pub stoch: Option<&'a str>,
+    /// Without one nothing is edited.
+    pub edits: Option<&'a str>,
+    /// The reports that `check` checks; no other command takes one.
+    pub report: Option<&'a str>,
 }
 
 /// How much may be done for a report.
@@ -35,18 +43,47 @@ pub struct Budget {
     pub pivots: u64,
 }
 
+/// What is done with the program that files state.
+#[derive(Clone, Copy, Debug, PartialEq, Eq)]
+pub enum Task {
+    /// Solve it within a budget, and print the reports.
+    Solve(Budget),
+    /// Check reports, and print what that comes to.
+    Check,
+    /// Print it.
+    Show,
+}
+
+/// The texts of a workload.
+#[derive(Clone, Copy, Debug, PartialEq, Eq)]
+pub enum Page {
+    Core,
+    Time,
+    Stoch,
+}
+
+/// A workload that is made.
+#[derive(Clone, Copy, Debug, PartialEq, Eq)]
+pub struct Plan {
+    /// What its costs and demands are drawn from: 0 to 65,536.
+    pub start: u32,
+    /// How many periods it has: 2 to 6.
+    pub stages: u32,
+    /// How many cases each period has behind the first: 2 to 4.
+    pub branches: u32,
+    /// How many items it has: 1 to 20.
+    pub size: u32,
+    /// The text that is printed; without one the workload is solved, and a summary is printed.
+    pub page: Option<Page>,
+}
+
 /// What the words ask for.
 #[derive(Clone, Copy, Debug, Drop)]
 pub enum Command<'a> {
-    /// Solve the program within a budget, and print the report.
-    Solve {
-        sources: Sources<'a>,
-        budget: Budget,
-    },
-    /// Print the program.
-    Show {
-        sources: Sources<'a>,
-    },
+    /// A task on the program that files state.
+    OnFiles { sources: Sources<'a>, task: Task },
+    /// Make a workload.
+    Make(Plan),
 }
 
 /// So many solves and so many pivots are allowed where the words don't say how many.
@@ -58,12 +95,17 @@ const MOST: u64 = 1_000_000_000;
 /// The most workers that the words may ask for.
 const MOST_WORKERS: u64 = 1;
 
+/// What a workload is drawn from, at most.
+const MOST_START: u32 = 65_536;
+
 fn verb_named(word: &str) -> Option<Verb>
     ensures { result ≡ verb_named word.now }
 {
     match word {
         "solve" => Some(Verb::Solve),
+        "check" => Some(Verb::Check),
         "show" => Some(Verb::Show),
+        "make" => Some(Verb::Make),
         _ => None,
     }
 }
@@ -73,8 +115,12 @@ fn allows(verb: Verb, flag: Flag) -> bool
     ensures { result ≡ allows verb flag }
 {
     match flag {
-        Flag::Core | Flag::Time | Flag::Stoch => true,
+        Flag::Core | Flag::Time | Flag::Stoch | Flag::Edits => verb != Verb::Make,
+        Flag::Report => verb == Verb::Check,
         Flag::Solves | Flag::Pivots | Flag::Workers => verb == Verb::Solve,
+        Flag::Start | Flag::Stages | Flag::Branches | Flag::Size | Flag::Text => {
+            verb == Verb::Make
+        }
     }
 }
 
@@ -96,10 +142,18 @@ fn named_sources<'a>(settings: &[Setting<'a>]) -> Option<Sources<'a>>
     let core = value_with(settings, Flag::Core)?;
     let time = value_with(settings, Flag::Time);
     let stoch = value_with(settings, Flag::Stoch);
+    let edits = value_with(settings, Flag::Edits);
+    let report = value_with(settings, Flag::Report);
     if time.is_none() && stoch.is_some() {
         return None;
     }
-    Some(Sources { core, time, stoch })
+    Some(Sources {
+        core,
+        time,
+        stoch,
+        edits,
+        report,
+    })
 }
 
 /// The number that an option has, up to the most that it may be; `absent` where the option isn't there.
@@ -112,14 +166,92 @@ fn number_or(settings: &[Setting<'_>], flag: Flag, absent: u64, most: u64) -> Op
     }
 }
 
+/// The number that an option has, within its range; none where the option isn't there.
+fn option_number(settings: &[Setting<'_>], flag: Flag, least: u32, most: u32) -> Option<u32>
+    ensures { result ≡ option_number least most (value_with flag (all_given settings.now)) }
+{
+    let value = value_with(settings, flag)?;
+    let number = number_within(value.as_bytes(), least as u64, most as u64)?;
+    Some(number as u32)
+}
+
 /// How much may be done for a report, with the one worker that there may be.
 fn budget_given(settings: &[Setting<'_>]) -> Option<Budget>
-    ensures { option_map budget_view result ≡ budget_of (all_given settings.now) }
+    ensures { result ≡ budget_of (all_given settings.now) }
 {
     let solves = number_or(settings, Flag::Solves, BUDGET, MOST)?;
     let pivots = number_or(settings, Flag::Pivots, BUDGET, MOST)?;
     let _workers = number_or(settings, Flag::Workers, 1, MOST_WORKERS)?;
     Some(Budget { solves, pivots })
+}
+
+/// The task of a verb; none of `check` without reports, and of `make`.
+fn task_given(verb: Verb, settings: &[Setting<'_>]) -> Option<Task>
+    ensures { result ≡ task_of verb (all_given settings.now) }
+{
+    match verb {
+        Verb::Solve => {
+            let budget = budget_given(settings)?;
+            Some(Task::Solve(budget))
+        }
+        Verb::Check => {
+            let _report = value_with(settings, Flag::Report)?;
+            Some(Task::Check)
+        }
+        Verb::Show => Some(Task::Show),
+        Verb::Make => None,
+    }
+}
+
+fn page_named(word: &str) -> Option<Page>
+    ensures { result ≡ page_named word.now }
+{
+    match word {
+        "core" => Some(Page::Core),
+        "time" => Some(Page::Time),
+        "stoch" => Some(Page::Stoch),
+        _ => None,
+    }
+}
+
+/// The text that is asked for, if one is; none where the word is no text's.
+fn page_given(settings: &[Setting<'_>]) -> Option<Option<Page>>
+    ensures { result ≡ page_of (all_given settings.now) }
+{
+    match value_with(settings, Flag::Text) {
+        None => Some(None),
+        Some(word) => {
+            let page = page_named(word)?;
+            Some(Some(page))
+        }
+    }
+}
+
+/// The workload: all four numbers are needed.
+fn plan_given(settings: &[Setting<'_>]) -> Option<Plan>
+    ensures { result ≡ plan_of (all_given settings.now) }
+{
+    let start = option_number(settings, Flag::Start, 0, MOST_START)?;
+    let stages = option_number(settings, Flag::Stages, 2, 6)?;
+    let branches = option_number(settings, Flag::Branches, 2, 4)?;
+    let size = option_number(settings, Flag::Size, 1, 20)?;
+    let page = page_given(settings)?;
+    Some(Plan {
+        start,
+        stages,
+        branches,
+        size,
+        page,
+    })
+}
+
+/// A task on files with these options.
+fn on_files<'a>(verb: Verb, settings: &[Setting<'a>]) -> Option<Command<'a>>
+    ensures { option_map asked result ≡ on_files verb (all_given settings.now) }
+{
+    let sources = named_sources(settings)?;
+    let task = task_given(verb, settings)?;
+    Some(Command::OnFiles { sources, task })
 }
 
 /// The command of this verb with these options.
@@ -129,13 +261,12 @@ fn command_with<'a>(verb: Verb, settings: &[Setting<'a>]) -> Option<Command<'a>>
     if !all_allowed(verb, settings) || !are_once(settings) {
         return None;
     }
-    let sources = named_sources(settings)?;
     match verb {
-        Verb::Solve => {
-            let budget = budget_given(settings)?;
-            Some(Command::Solve { sources, budget })
+        Verb::Solve | Verb::Check | Verb::Show => on_files(verb, settings),
+        Verb::Make => {
+            let plan = plan_given(settings)?;
+            Some(Command::Make(plan))
         }
-        Verb::Show => Some(Command::Show { sources }),
     }
 }
 

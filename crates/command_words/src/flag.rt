@@ -1,6 +1,6 @@
 //! The names of options.
 ghost use Rattle.std.specs.Prelude.{◌≡◌};
-ghost use Rattle.command_words.specs.Words.{flag_named};
+ghost use Rattle.command_words.specs.Words.{flag_named, flag_number, same_flag};
 
 /// An option of a command.
 #[derive(Clone, Copy, Debug, PartialEq, Eq)]
@@ -11,12 +11,26 @@ pub enum Flag {
     Time,
     /// `--stoch`: the name of the stoch file.
     Stoch,
+    /// `--edits`: the name of the edit list.
+    Edits,
+    /// `--report`: the name of the file of reports.
+    Report,
     /// `--solves`: how many node programs are solved for a report.
     Solves,
     /// `--pivots`: how many pivots a solve may take.
     Pivots,
     /// `--workers`: how many workers solve side by side.
     Workers,
+    /// `--start`: the number that a workload is drawn from.
+    Start,
+    /// `--stages`: how many periods a workload has.
+    Stages,
+    /// `--branches`: how many cases each period of a workload has behind the first.
+    Branches,
+    /// `--size`: how many items a workload has.
+    Size,
+    /// `--text`: which text of a workload is printed.
+    Text,
 }
 
 /// The option of that name, with its two minuses.
@@ -27,9 +41,44 @@ pub(crate) fn flag_named(name: &str) -> Option<Flag>
         "--core" => Some(Flag::Core),
         "--time" => Some(Flag::Time),
         "--stoch" => Some(Flag::Stoch),
+        "--edits" => Some(Flag::Edits),
+        "--report" => Some(Flag::Report),
         "--solves" => Some(Flag::Solves),
         "--pivots" => Some(Flag::Pivots),
         "--workers" => Some(Flag::Workers),
+        "--start" => Some(Flag::Start),
+        "--stages" => Some(Flag::Stages),
+        "--branches" => Some(Flag::Branches),
+        "--size" => Some(Flag::Size),
+        "--text" => Some(Flag::Text),
         _ => None,
     }
+}
+
+/// The number that tells an option from all others.
+fn number(flag: Flag) -> u32
+    ensures { result ≡ flag_number flag }
+{
+    match flag {
+        Flag::Core => 0,
+        Flag::Time => 1,
+        Flag::Stoch => 2,
+        Flag::Edits => 3,
+        Flag::Report => 4,
+        Flag::Solves => 5,
+        Flag::Pivots => 6,
+        Flag::Workers => 7,
+        Flag::Start => 8,
+        Flag::Stages => 9,
+        Flag::Branches => 10,
+        Flag::Size => 11,
+        Flag::Text => 12,
+    }
+}
+
+/// Whether two options are the same.
+pub(crate) fn is_same(one: Flag, other: Flag) -> bool
+    ensures { result ≡ same_flag one other }
+{
+    number(one) == number(other)
 }

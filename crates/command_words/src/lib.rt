@@ -8,6 +8,6 @@ mod settings;
 mod tests;
 mod value;
 
-pub use command::{Budget, Command, Sources, Verb, read_words};
+pub use command::{Budget, Command, Page, Plan, Sources, Task, Verb, read_words};
 pub use flag::Flag;
 pub use settings::Setting;

@@ -4,7 +4,7 @@ ghost use Rattle.std.specs.Option.{option_map};
 ghost use Rattle.command_words.specs.Words.{Given, setting_of, cut, settings_from, settings_of, value_with, are_once};
 ghost use Rattle.command_words.specs.Views.{given, all_given};
 
-use crate::flag::{Flag, flag_named};
+use crate::flag::{Flag, flag_named, is_same};
 use crate::value::is_value;
 use std::alloc::{AllocError, Global};
 
@@ -38,7 +38,8 @@ fn cut(word: &str) -> Option<(&str, &str)>
 fn next_setting<'a>(word: &'a str, after: &'a [String]) -> Option<(Setting<'a>, &'a [String])>
     ensures none { IfNone result ((done : List Given) → settings_from done (word.now ∷ map string_bytes after.now) ≡ None) }
     ensures some { IfSome result (λ found. (done : List Given)
-        → settings_from done (word.now ∷ map string_bytes after.now) ≡ settings_from (done ++ given found.0 ∷ []) (map string_bytes found.1.now)) }
+        → settings_from done (word.now ∷ map string_bytes after.now)
+        ≡ settings_from (done ++ given found.0 ∷ []) (map string_bytes found.1.now)) }
     ensures shorter { IfSome result (λ found. length found.1.now ≤ length after.now) }
 {
     if let Some((name, value)) = cut(word) {
@@ -74,7 +75,7 @@ pub(crate) fn value_with<'a>(settings: &[Setting<'a>], flag: Flag) -> Option<&'a
     ensures { option_map (λ value. value.now) result ≡ value_with flag (all_given settings.now) }
 {
     for setting in settings {
-        if setting.flag == flag {
+        if is_same(setting.flag, flag) {
             return Some(setting.value);
         }
     }

@@ -1,5 +1,5 @@
 //! The values of options.
-ghost use Rattle.std.specs.Prelude.{◌≡◌, ◌≤◌, true, length};
+ghost use Rattle.std.specs.Prelude.{◌≡◌, ◌≤◌, true, length, IfSome};
 ghost use Rattle.command_words.specs.Words.{is_value, is_digit, are_digits, number_from, number_of, number_within};
 
 /// A number has at most so many digits.
@@ -58,7 +58,8 @@ fn number_of(word: &[u8]) -> Option<u64>
 
 /// The number of a word, where it is one from `least` to `most`.
 pub(crate) fn number_within(word: &[u8], least: u64, most: u64) -> Option<u64>
-    ensures { result ≡ number_within word.now least most }
+    ensures number { result ≡ number_within word.now least most }
+    ensures within { IfSome result (λ number. number ≤ most) }
 {
     let number = number_of(word)?;
     if least <= number && number <= most {

@@ -1,7 +1,7 @@
 -- What a fault of one file says of all files that are named.
 use Rattle.std.proofs.Common.{◌≡◌, ℕ, List, Option, Some, None, refl, sym, subst}
 use Rattle.smps_io.specs.Files.{Files}
-use Rattle.command_words.specs.Words.{FileNames}
+use Rattle.command_words.specs.Commands.{FileNames}
 use Rattle.input_files.specs.declared.kind.FileKind.{FileKind}
 use Rattle.input_files.specs.declared.fetch.Unfetched.{Unfetched}
 use Rattle.input_files.specs.declared.fetch.Unfetched.TheVariants.{Failed, TooLong, Memory}

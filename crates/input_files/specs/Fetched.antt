@@ -1,7 +1,7 @@
 -- The texts of the files that the words name.
 use Rattle.std.specs.Prelude.{◌≡◌, ◌<◌, ◌≤◌, ◌+◌, ◌⊎◌, ⊤, ℕ, List, length, Option, Some, None, IfSome}
 use Rattle.smps_io.specs.Files.{Files, bytes_of}
-use Rattle.command_words.specs.Words.{FileNames}
+use Rattle.command_words.specs.Commands.{FileNames}
 use Rattle.input_files.specs.declared.kind.FileKind.{FileKind}
 use Rattle.input_files.specs.declared.kind.FileKind.TheVariants.{Core, Time, Stoch, Edits, Report, Trace}
 
@@ -9,11 +9,13 @@ use Rattle.input_files.specs.declared.kind.FileKind.TheVariants.{Core, Time, Sto
 abbrev pub file_limit : ℕ
 file_limit = 8388608
 
--- the bytes of the files that state a program
+-- the bytes of the files that a command takes
 pub record Texts : Type 0 where
   pub core : List ℕ
   pub time : Option (List ℕ)
   pub stoch : Option (List ℕ)
+  pub edits : Option (List ℕ)
+  pub report : Option (List ℕ)
 
 -- These are the bytes of that name, as far as the shelf tells what it holds, and they aren't too long.
 pub record IsGiven (content : Option Files) (name bytes : List ℕ) : Type 0 where
@@ -32,14 +34,16 @@ pub record AreGiven (content : Option Files) (names : FileNames) (texts : Texts)
   pub core : IsGiven content names.core texts.core
   pub time : IsGivenIf content names.time texts.time
   pub stoch : IsGivenIf content names.stoch texts.stoch
+  pub edits : IsGivenIf content names.edits texts.edits
+  pub report : IsGivenIf content names.report texts.report
 
 -- the name of the file of a kind
 abbrev pub name_of : FileNames → FileKind → Option (List ℕ)
 name_of names Core = Some names.core
 name_of names Time = names.time
 name_of names Stoch = names.stoch
-name_of names Edits = None
-name_of names Report = None
+name_of names Edits = names.edits
+name_of names Report = names.report
 name_of names Trace = None
 
 -- The file of this kind is one of those that are named.
@@ -48,7 +52,8 @@ IsNamed names kind = (name : List ℕ) × (name_of names kind ≡ Some name)
 
 -- It is, and is too long, as far as the shelf tells.
 abbrev pub IsLong : Option Files → FileNames → FileKind → Type 0
-IsLong content names kind = (name : List ℕ) × (name_of names kind ≡ Some name) × IfSome content (λ files. file_limit < length (bytes_of files name))
+IsLong content names kind =
+    (name : List ℕ) × (name_of names kind ≡ Some name) × IfSome content (λ files. file_limit < length (bytes_of files name))
 
 abbrev pub count_of : Option (List ℕ) → ℕ
 count_of None = 0
@@ -56,4 +61,4 @@ count_of (Some name) = 1
 
 -- how many files are named
 abbrev pub file_count : FileNames → ℕ
-file_count names = 1 + count_of names.time + count_of names.stoch
+file_count names = 1 + count_of names.time + count_of names.stoch + count_of names.edits + count_of names.report

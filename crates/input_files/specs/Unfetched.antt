@@ -1,26 +1,28 @@
 -- Why a file wasn't fetched.
 use Rattle.std.specs.Prelude.{◌≡◌, ◌<◌, ⊤, ℕ, List, length, Option, Some, None, IfSome, Vec}
-use Rattle.std.specs.Borrow.{Bor}
 use Rattle.std.specs.declared.alloc.Global.{Global}
 use Rattle.std.specs.Option.{option_map}
 use Rattle.smps_io.specs.Files.{Files, bytes_of}
-use Rattle.command_words.specs.Words.{FileNames}
+use Rattle.command_words.specs.Commands.{FileNames}
 use Rattle.input_files.specs.declared.kind.FileKind.{FileKind}
 use Rattle.input_files.specs.declared.fetch.Texts.{Texts as TextsOf}
 use Rattle.input_files.specs.declared.fetch.Unfetched.{Unfetched}
 use Rattle.input_files.specs.declared.fetch.Unfetched.TheVariants.{Failed, TooLong, Memory}
 use Rattle.input_files.specs.Fetched.{Texts, IsNamed, IsLong, file_limit}
 
--- the texts of the code, as their bytes
-abbrev pub texts_view : TextsOf → Texts
-texts_view t = record { core = t.core.items; time = option_map (λ bytes. bytes.items) t.time; stoch = option_map (λ bytes. bytes.items) t.stoch }
-
--- a name that need not be there, and the bytes that need not
-abbrev pub given_name : Option (Bor (List ℕ)) → Option (List ℕ)
-given_name = option_map (λ (name : Bor (List ℕ)). name.now)
-
+-- the bytes of a text that need not be there
 abbrev pub given_bytes : Option (Vec ℕ Global) → Option (List ℕ)
 given_bytes = option_map (λ (bytes : Vec ℕ Global). bytes.items)
+
+-- the texts of the code, as their bytes
+abbrev pub texts_view : TextsOf → Texts
+texts_view t = record {
+  core = t.core.items;
+  time = given_bytes t.time;
+  stoch = given_bytes t.stoch;
+  edits = given_bytes t.edits;
+  report = given_bytes t.report;
+}
 
 -- what the fault of one file says of it
 abbrev pub IsCauseOf : Option Files → List ℕ → FileKind → Unfetched → Type 0

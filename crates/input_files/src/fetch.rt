@@ -1,10 +1,10 @@
 //! The files that the words name, fetched in their order.
 ghost use Rattle.std.specs.Prelude.{◌≡◌, ◌<◌, ◌≤◌, Err, IfOk, IfErr, OnOk};
 ghost use Rattle.smps_io.specs.Faults.{Rose, RoseBy};
-ghost use Rattle.command_words.specs.Views.{sources_view};
+ghost use Rattle.command_words.specs.Views.{sources_view, name_given};
 ghost use Rattle.input_files.specs.Fetched.{IsGiven, IsGivenIf, AreGiven, file_limit, file_count, count_of};
 ghost use Rattle.input_files.specs.declared.kind.FileKind.{FileKind};
-ghost use Rattle.input_files.specs.Unfetched.{texts_view, given_name, given_bytes, IsCause, IsCauseOf, IsCauseIf};
+ghost use Rattle.input_files.specs.Unfetched.{texts_view, given_bytes, IsCause, IsCauseOf, IsCauseIf};
 
 use crate::kind::FileKind;
 use command_words::Sources;
@@ -13,14 +13,16 @@ use std::alloc::Global;
 use std::rt::Runtime;
 
 /// A file has at most so many bytes.
-const FILE_LIMIT: u64 = 8_388_608;
+pub const FILE_LIMIT: u64 = 8_388_608;
 
-/// The bytes of the files that state a program.
+/// The bytes of the files that a command takes.
 #[derive(Drop)]
 pub struct Texts {
     pub core: Vec<u8>,
     pub time: Option<Vec<u8>>,
     pub stoch: Option<Vec<u8>>,
+    pub edits: Option<Vec<u8>>,
+    pub report: Option<Vec<u8>>,
 }
 
 /// Why a file wasn't fetched.
@@ -66,12 +68,12 @@ fn fetched_if<R: Runtime, H: Shelf>(
     kind: FileKind,
     name: Option<&str>,
 ) -> Result<Option<Vec<u8>>, Unfetched>
-    ensures given { IfOk result (λ bytes. IsGivenIf (H.content shelf.old) (given_name name.entry) (given_bytes bytes)) }
-    ensures cause { IfErr result (IsCauseIf (H.content shelf.old) (given_name name.entry) kind) }
+    ensures given { IfOk result (λ bytes. IsGivenIf (H.content shelf.old) (name_given name.entry) (given_bytes bytes)) }
+    ensures cause { IfErr result (IsCauseIf (H.content shelf.old) (name_given name.entry) kind) }
     ensures failed { result ≡ Err (Unfetched.Failed kind) → Rose (H.faults shelf.old) (H.faults shelf.new) }
     ensures long { result ≡ Err (Unfetched.TooLong kind) → file_limit < H.given shelf.new }
     ensures later { H.faults shelf.old ≤ H.faults shelf.new }
-    ensures counts { OnOk result (RoseBy (H.fetches shelf.old) (count_of (given_name name.entry)) (H.fetches shelf.new)) }
+    ensures counts { OnOk result (RoseBy (H.fetches shelf.old) (count_of (name_given name.entry)) (H.fetches shelf.new)) }
     ensures same { H.content shelf.new ≡ H.content shelf.old }
 {
     match name {
@@ -83,7 +85,8 @@ fn fetched_if<R: Runtime, H: Shelf>(
     }
 }
 
-/// The bytes of all files that are named, in the order core, time, stoch: each is fetched once, up to the first that isn't given.
+/// The bytes of all files that are named, in the order core, time, stoch, edits, report: each is fetched once, up to the first that
+/// isn't given.
 pub fn fetched_texts<R: Runtime, H: Shelf>(
     rt: &R,
     alloc: Global,
@@ -104,8 +107,22 @@ pub fn fetched_texts<R: Runtime, H: Shelf>(
         Ok(bytes) => bytes,
         Err(fault) => return Err(fault),
     };
-    match fetched_if(rt, alloc, shelf, FileKind::Stoch, sources.stoch) {
-        Ok(stoch) => Ok(Texts { core, time, stoch }),
+    let stoch = match fetched_if(rt, alloc, shelf, FileKind::Stoch, sources.stoch) {
+        Ok(bytes) => bytes,
+        Err(fault) => return Err(fault),
+    };
+    let edits = match fetched_if(rt, alloc, shelf, FileKind::Edits, sources.edits) {
+        Ok(bytes) => bytes,
+        Err(fault) => return Err(fault),
+    };
+    match fetched_if(rt, alloc, shelf, FileKind::Report, sources.report) {
+        Ok(report) => Ok(Texts {
+            core,
+            time,
+            stoch,
+            edits,
+            report,
+        }),
         Err(fault) => Err(fault),
     }
 }

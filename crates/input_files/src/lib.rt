@@ -4,5 +4,5 @@
 mod fetch;
 mod kind;
 
-pub use fetch::{Texts, Unfetched, fetched_texts};
+pub use fetch::{FILE_LIMIT, Texts, Unfetched, fetched_texts};
 pub use kind::FileKind;

@@ -1,5 +1,5 @@
 use Rattle.std.proofs.Common.{◌≡◌, drop}
-use Rattle.command_words.specs.Words.{all_allowed}
+use Rattle.command_words.specs.Commands.{all_allowed}
 use Rattle.command_words.specs.Views.{all_given}
 use Rattle.command_words.proofs.command.all_allowed.Given as goal
 

@@ -18,3 +18,17 @@ pub returns-in-Err-fetched_if-2-clause-cause : goal.returns-in-Err-fetched_if-2-
 returns-in-Err-fetched_if-2-clause-cause g c =
     subst (λ (content : Option Files). IsCause content (sources_view c.args.sources.now) c.in-Err-fetched_if-2.fault) (c.in-Ok-fetched_if.ensures.same ∙ c.in-Ok.ensures.same)
     (cause_if (g.H.Shelf.content c.fetched_if.new.shelf) (sources_view c.args.sources.now) kind.Stoch (sources_view c.args.sources.now).stoch refl c.in-Err-fetched_if-2.fault c.in-Err-fetched_if-2.ensures.cause)
+
+pub returns-in-Err-fetched_if-3-clause-cause : goal.returns-in-Err-fetched_if-3-clause-cause
+returns-in-Err-fetched_if-3-clause-cause g c =
+    subst (λ (content : Option Files). IsCause content (sources_view c.args.sources.now) c.in-Err-fetched_if-3.fault)
+    (c.in-Ok-fetched_if-2.ensures.same ∙ c.in-Ok-fetched_if.ensures.same ∙ c.in-Ok.ensures.same)
+    (cause_if (g.H.Shelf.content c.fetched_if-2.new.shelf) (sources_view c.args.sources.now) kind.Edits (sources_view c.args.sources.now).edits refl
+    c.in-Err-fetched_if-3.fault c.in-Err-fetched_if-3.ensures.cause)
+
+pub returns-in-Err-fetched_if-4-clause-cause : goal.returns-in-Err-fetched_if-4-clause-cause
+returns-in-Err-fetched_if-4-clause-cause g c =
+    subst (λ (content : Option Files). IsCause content (sources_view c.args.sources.now) c.in-Err-fetched_if-4.fault)
+    (c.in-Ok-fetched_if-3.ensures.same ∙ c.in-Ok-fetched_if-2.ensures.same ∙ c.in-Ok-fetched_if.ensures.same ∙ c.in-Ok.ensures.same)
+    (cause_if (g.H.Shelf.content c.fetched_if-3.new.shelf) (sources_view c.args.sources.now) kind.Report (sources_view c.args.sources.now).report refl
+    c.in-Err-fetched_if-4.fault c.in-Err-fetched_if-4.ensures.cause)
