@@ -1,3 +1,4 @@
 pub mod RefusedLemmas
 pub mod CaseLemmas
 pub mod TreeLemmas
+pub mod EditedLemmas

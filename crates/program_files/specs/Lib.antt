@@ -1,3 +1,4 @@
 pub mod Meant
 pub mod Refused
+pub mod Edited
 pub mod Views

@@ -19,6 +19,8 @@ pub record AreWithin (texts : Texts) : Type 0 where
   pub core : length texts.core ≤ file_limit
   pub time : IfSome texts.time (λ text. length text ≤ file_limit)
   pub stoch : IfSome texts.stoch (λ text. length text ≤ file_limit)
+  pub edits : IfSome texts.edits (λ text. length text ≤ file_limit)
+  pub report : IfSome texts.report (λ text. length text ≤ file_limit)
 
 -- No line is at fault and no section is missing, and the text means this core.
 pub record MeansCore (text : List ℕ) (core : Core) : Type 0 where

@@ -1,6 +1,5 @@
--- What reading the three texts gives.
+-- What reading the texts gives.
 use Rattle.std.specs.Prelude.{⊤, ℕ, List, Option, Some, None, Result, Ok, Err, Vec}
-use Rattle.std.specs.Option.{option_map}
 use Rattle.std.specs.declared.alloc.Global.{Global}
 use Rattle.input_files.specs.declared.kind.FileKind.{FileKind}
 use Rattle.core_defs.specs.declared.cause.Cause.TheVariants.{ScenarioLimit, Passes}
@@ -17,16 +16,15 @@ use Rattle.stoch_defs.specs.declared.stoch.Stoch.{Stoch}
 use Rattle.stoch_defs.specs.Random.{content as content_of}
 use Rattle.stoch_defs.specs.File.{IsStochReading}
 use Rattle.scen_defs.specs.declared.program.Program.{Program}
-use Rattle.scen_defs.specs.Program.{content}
+use Rattle.scen_defs.specs.Program.{Program as ProgramView, content}
+use Rattle.scen_defs.specs.declared.report.Report.{Report}
+use Rattle.edit_defs.specs.declared.edit.Script.{Script}
 use Rattle.input_files.specs.Fetched.{Texts}
 use Rattle.program_files.specs.declared.reading.Unread.{Unread}
 use Rattle.program_files.specs.declared.reading.Unread.TheVariants.{Refused, Memory}
 use Rattle.program_files.specs.Meant.{MeansPeriods, MeansRandom, MeansProgram}
 use Rattle.program_files.specs.Refused.{RefusesProgram}
-
--- the bytes of a text that need not be there
-abbrev pub text_of : Option (Vec ℕ Global) → Option (List ℕ)
-text_of = option_map (λ (bytes : Vec ℕ Global). bytes.items)
+use Rattle.program_files.specs.Edited.{MeansScript, MeansReports, RefusesEdits, RefusesReports}
 
 -- the periods that the time file means, or its first fault, or memory was wanting
 abbrev pub GivesPeriods : Core → Option (List ℕ) → Result Periods ReadFail → Type 0
@@ -58,3 +56,15 @@ abbrev pub MeansOrRefused : Texts → Result Program Unread → Type 0
 MeansOrRefused texts (Ok program) = MeansProgram texts (content program)
 MeansOrRefused texts (Err (Refused file refusal core)) = RefusesProgram texts file refusal core
 MeansOrRefused texts (Err Memory) = ⊤
+
+-- the script that the edit list means, or its first fault, or memory was wanting
+abbrev pub GivesScript : Texts → ProgramView → Result Script Unread → Type 0
+GivesScript texts p (Ok script) = MeansScript texts p script.items.items
+GivesScript texts p (Err (Refused file refusal known)) = RefusesEdits texts file refusal known
+GivesScript texts p (Err Memory) = ⊤
+
+-- the reports that the report file states, so many at most, or its first fault, or memory was wanting
+abbrev pub GivesReports : Texts → ℕ → Program → Result (Vec Report Global) Unread → Type 0
+GivesReports texts most program (Ok reports) = MeansReports texts most program reports.items
+GivesReports texts most program (Err (Refused file refusal known)) = RefusesReports texts file refusal known
+GivesReports texts most program (Err Memory) = ⊤

@@ -1,4 +1,4 @@
-//! Reads three texts.
+//! Reads the three texts of a program.
 ghost use Rattle.std.specs.Prelude.{◌≡◌, ◌≤◌, Some, IfOk, IfSome, length};
 ghost use Rattle.core_defs.specs.declared.cause.Cause.{Cause};
 ghost use Rattle.core_defs.specs.Core.{IsCore};
@@ -7,11 +7,11 @@ ghost use Rattle.scen_defs.specs.Valid.{IsProgram};
 ghost use Rattle.stoch_defs.specs.Random.{content as content_of};
 ghost use Rattle.smps_time.specs.View.{stages_view};
 ghost use Rattle.input_files.specs.Fetched.{file_limit};
-ghost use Rattle.input_files.specs.Unfetched.{texts_view};
+ghost use Rattle.input_files.specs.Unfetched.{texts_view, given_bytes};
 ghost use Rattle.tree_build.specs.Walks.{Fits};
 ghost use Rattle.program_files.specs.Meant.{AreWithin, MeansCore, MeansPeriods, MeansRandom};
 ghost use Rattle.program_files.specs.Refused.{build_file};
-ghost use Rattle.program_files.specs.Views.{text_of, GivesPeriods, GivesRandom, MeansOrRefused, unread_of, unbuilt_of};
+ghost use Rattle.program_files.specs.Views.{GivesPeriods, GivesRandom, MeansOrRefused, unread_of, unbuilt_of};
 
 use core_defs::{Cause, Core, ReadFail, Refusal};
 use frac128::Memory;
@@ -25,10 +25,11 @@ use std::alloc::Global;
 use stoch_defs::Stoch;
 use tree_build::build;
 
-/// Why the texts give no program.
+/// Why the texts give no program, or why those beside it give no script or no reports.
 #[derive(Drop)]
 pub enum Unread {
-    /// This file has this fault. The core is there where it was read: its names are those that a cause tells by number.
+    /// This file has this fault. The core is there where it was read and gives no program: its names are those that a cause tells by
+    /// number.
     Refused(FileKind, Refusal, Option<Core>),
     /// Memory was wanting.
     Memory,
@@ -36,8 +37,8 @@ pub enum Unread {
 
 /// The periods of a core: those of the time file, or a single one.
 fn read_periods(alloc: Global, text: &Option<Vec<u8>>, core: &Core) -> Result<Periods, ReadFail>
-    requires { IfSome (text_of text.now) (λ bytes. length bytes ≤ file_limit) }
-    ensures gives { GivesPeriods core.now (text_of text.now) result }
+    requires { IfSome (given_bytes text.now) (λ bytes. length bytes ≤ file_limit) }
+    ensures gives { GivesPeriods core.now (given_bytes text.now) result }
     ensures fits { IfOk result (λ periods. Fits core.now (stages_view periods)) }
 {
     match text {
@@ -56,8 +57,8 @@ fn read_cases(
     core: &Core,
     periods: &Periods,
 ) -> Result<Stoch, ReadFail>
-    requires { IfSome (text_of text.now) (λ bytes. length bytes ≤ file_limit) }
-    ensures { GivesRandom core.now (stages_view periods.now) (text_of text.now) result }
+    requires { IfSome (given_bytes text.now) (λ bytes. length bytes ≤ file_limit) }
+    ensures { GivesRandom core.now (stages_view periods.now) (given_bytes text.now) result }
 {
     match text {
         Some(text) => read_stoch(alloc, text, core, periods),
@@ -66,7 +67,7 @@ fn read_cases(
 }
 
 /// What stops the reading of this file.
-fn stopped(file: FileKind, fail: ReadFail, core: Option<Core>) -> Unread
+pub(crate) fn stopped(file: FileKind, fail: ReadFail, core: Option<Core>) -> Unread
     ensures { result ≡ unread_of file fail core }
 {
     match fail {
@@ -77,7 +78,7 @@ fn stopped(file: FileKind, fail: ReadFail, core: Option<Core>) -> Unread
 
 /// Which file refuses a program that isn't built: the stoch file where there is one, else the core file.
 fn build_file(stoch: &Option<Vec<u8>>) -> FileKind
-    ensures { result ≡ build_file (text_of stoch.now) }
+    ensures { result ≡ build_file (given_bytes stoch.now) }
 {
     match stoch {
         Some(_) => FileKind::Stoch,
@@ -113,8 +114,8 @@ fn with_cases(
     requires core { MeansCore texts.now.core.items core }
     requires is_core { IsCore core }
     requires fits { Fits core (stages_view periods.now) }
-    requires periods { MeansPeriods core (text_of texts.now.time) (stages_view periods.now) }
-    requires cases { MeansRandom core (stages_view periods.now) (text_of texts.now.stoch) (content_of stoch.now) }
+    requires periods { MeansPeriods core (given_bytes texts.now.time) (stages_view periods.now) }
+    requires cases { MeansRandom core (stages_view periods.now) (given_bytes texts.now.stoch) (content_of stoch.now) }
     ensures means { MeansOrRefused (texts_view texts.now) result }
     ensures keeps { IfOk result (λ program. IsProgram (content program)) }
     ensures tree { IfOk result (λ program. IsTree (view_of (content program))) }
@@ -136,7 +137,7 @@ fn with_periods(
     requires core { MeansCore texts.now.core.items core }
     requires is_core { IsCore core }
     requires fits { Fits core (stages_view periods.now) }
-    requires periods { MeansPeriods core (text_of texts.now.time) (stages_view periods.now) }
+    requires periods { MeansPeriods core (given_bytes texts.now.time) (stages_view periods.now) }
     ensures means { MeansOrRefused (texts_view texts.now) result }
     ensures keeps { IfOk result (λ program. IsProgram (content program)) }
     ensures tree { IfOk result (λ program. IsTree (view_of (content program))) }

@@ -1,11 +1,12 @@
 use Rattle.std.proofs.Common.{ℕ, List, Option, sym, ap, subst}
 use Rattle.smps_time.specs.View.{stages_view}
 use Rattle.smps_stoch.specs.View.{MeansOrRefused as ReadsCases}
-use Rattle.program_files.specs.Views.{text_of, GivesRandom}
+use Rattle.input_files.specs.Unfetched.{given_bytes}
+use Rattle.program_files.specs.Views.{GivesRandom}
 use Rattle.program_files.proofs.CaseLemmas.{gives_cases}
 use Rattle.program_files.proofs.reading.read_cases.Goals as goal
 
 pub returns-in-Some : goal.returns-in-Some
-returns-in-Some c = subst (λ (text : Option (List ℕ)). GivesRandom c.args.core.now (stages_view c.args.periods.now) text c.read_stoch.result) (sym (ap text_of c.in-Some.is))
+returns-in-Some c = subst (λ (text : Option (List ℕ)). GivesRandom c.args.core.now (stages_view c.args.periods.now) text c.read_stoch.result) (sym (ap given_bytes c.in-Some.is))
     (gives_cases c.args.core.now (stages_view c.args.periods.now) c.in-Some.text.items c.read_stoch.result
     (subst (λ (text : List ℕ). ReadsCases c.args.core.now (stages_view c.args.periods.now) text c.read_stoch.result) c.deref.ensures.value c.read_stoch.ensures))

@@ -1,8 +1,8 @@
 use Rattle.std.proofs.Common.{Err, sym, subst}
 use Rattle.input_files.specs.declared.kind.FileKind.{FileKind}
-use Rattle.input_files.specs.Unfetched.{texts_view}
+use Rattle.input_files.specs.Unfetched.{texts_view, given_bytes}
 use Rattle.program_files.specs.declared.reading.Unread.{Unread}
-use Rattle.program_files.specs.Views.{text_of, MeansOrRefused, unbuilt_of}
+use Rattle.program_files.specs.Views.{MeansOrRefused, unbuilt_of}
 use Rattle.smps_time.specs.View.{stages_view}
 use Rattle.stoch_defs.specs.Random.{content as content_of}
 use Rattle.program_files.proofs.RefusedLemmas.{stops_build}
@@ -17,10 +17,10 @@ returns-in-Err-clause-means c = subst (λ (u : Unread). MeansOrRefused (texts_vi
 
 pub returns-in-Ok-clause-keeps : goal.returns-in-Ok-clause-keeps
 returns-in-Ok-clause-keeps c =
-    program_of c.args.core (text_of c.args.texts.now.time) (stages_view c.args.periods.now) (text_of c.args.texts.now.stoch) (content_of c.args.stoch.now) (content c.in-Ok.program)
+    program_of c.args.core (given_bytes c.args.texts.now.time) (stages_view c.args.periods.now) (given_bytes c.args.texts.now.stoch) (content_of c.args.stoch.now) (content c.in-Ok.program)
     c.requires.is_core c.requires.fits c.requires.periods c.requires.cases c.in-Ok.ensures.0 c.in-Ok.ensures.1
 
 pub returns-in-Ok-clause-tree : goal.returns-in-Ok-clause-tree
 returns-in-Ok-clause-tree c =
-    tree_of c.args.core (text_of c.args.texts.now.time) (stages_view c.args.periods.now) (text_of c.args.texts.now.stoch) (content_of c.args.stoch.now) (content c.in-Ok.program)
+    tree_of c.args.core (given_bytes c.args.texts.now.time) (stages_view c.args.periods.now) (given_bytes c.args.texts.now.stoch) (content_of c.args.stoch.now) (content c.in-Ok.program)
     c.requires.is_core c.requires.fits c.requires.periods c.requires.cases c.in-Ok.ensures.0 c.in-Ok.ensures.1
