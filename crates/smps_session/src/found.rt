@@ -10,6 +10,9 @@ use std::alloc::Global;
 /// More nodes than this have no numbers.
 const MANY: usize = 1 << 32;
 
+/// More solves than are ever committed.
+const ENDLESS: u64 = u64::MAX;
+
 /// What is claimed of a program; why its report is open, where that doesn't settle it; and where a test of the claim that passes
 /// 128 bits is told.
 #[derive(Drop)]
@@ -22,8 +25,8 @@ pub(crate) struct Found {
 /// The method on a program with its tree.
 #[derive(Drop)]
 pub(crate) struct Working {
-    state: State,
-    tree: Tree,
+    pub(crate) state: State,
+    pub(crate) tree: Tree,
 }
 
 /// The nested method at work.
@@ -47,7 +50,7 @@ fn nothing(why: Open) -> Found {
 }
 
 /// Why there is no tree: its totals or shares don't fit, which never comes of a program that was built.
-fn treeless(fault: TreeFault) -> Result<Open, Memory> {
+pub(crate) fn treeless(fault: TreeFault) -> Result<Open, Memory> {
     match fault {
         TreeFault::Passed(passed) => Ok(Open::Passed(Place::Dual, passed)),
         TreeFault::Memory => Err(Memory),
@@ -55,10 +58,10 @@ fn treeless(fault: TreeFault) -> Result<Open, Memory> {
 }
 
 impl Working {
-    /// Takes steps until nothing is left to find.
-    fn run(&mut self, alloc: Global, program: &Program) -> Result<(), Memory> {
+    /// Takes steps until so many solves were committed since the last item, or nothing is left to find.
+    fn run(&mut self, alloc: Global, program: &Program, work: u64) -> Result<(), Memory> {
         for _ in 0..u64::MAX {
-            if self.state.settled().is_some() || !self.state.advance(alloc, program, &self.tree)? {
+            if self.state.is_ripe(work) || !self.state.advance(alloc, program, &self.tree)? {
                 break;
             }
         }
@@ -67,7 +70,7 @@ impl Working {
 
     /// What is found where nothing is left to find.
     fn find(&mut self, alloc: Global, program: &Program) -> Result<Found, Memory> {
-        self.run(alloc, program)?;
+        self.run(alloc, program, ENDLESS)?;
         let place = Place::Cost(self.state.commits());
         let closed = self.state.close(alloc)?;
         Ok(Found {
@@ -95,6 +98,19 @@ impl Method {
         match State::start(alloc, program, budget)? {
             Some(state) => Ok(Method::Working(Working { state, tree })),
             None => Ok(Method::Idle(Open::Solves(budget.solves))),
+        }
+    }
+
+    /// Works on the program until so many solves were committed since the last item, or nothing is left to find.
+    pub(crate) fn work(
+        &mut self,
+        alloc: Global,
+        program: &Program,
+        work: u64,
+    ) -> Result<(), Memory> {
+        match self {
+            Method::Working(working) => working.run(alloc, program, work),
+            Method::Idle(_) => Ok(()),
         }
     }
 

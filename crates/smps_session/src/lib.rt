@@ -1,7 +1,12 @@
-//! One solve of a program on a tree, and its report.
+//! The reports of a program on a tree: of one solve, and of a script of edits and solves.
 #![tactic(auto)]
 
+mod edits;
 mod found;
 mod running;
+mod scripts;
+mod told;
 
 pub use running::session;
+pub use scripts::scripted;
+pub use told::Told;

@@ -25,9 +25,33 @@ pub fn session(alloc: Global, program: &Program, solves: u64, pivots: u64) -> Re
     ensures truth { IsTree (view_of (content program.now)) → IfOk result (IsTrue (view_of (content program.now)) (told_reasons solves)) }
 {
     let mut method = Method::begin(alloc, program, Budget { solves, pivots })?;
+    reported(alloc, program, &mut method, 1, solves)
+}
+
+/// The report of what the method finds of the program, where nothing is left to find.
+pub(crate) fn reported(
+    alloc: Global,
+    program: &Program,
+    method: &mut Method,
+    number: u32,
+    solves: u64,
+) -> Result<Report, Memory>
+    ensures number { IfOk result (λ report. report.number ≡ number) }
+    ensures counts { IsSmall (content program.now) → IfOk result (HasCounts (view_of (content program.now))) }
+    ensures names { IfOk result (ListsHaveNames program.now) }
+    ensures truth { IsTree (view_of (content program.now)) → IfOk result (IsTrue (view_of (content program.now)) (told_reasons solves)) }
+{
     let found = method.find(alloc, program)?;
     let why = told(found.why, solves);
-    report(alloc, program, 1, found.claim, found.place, why, solves)
+    report(
+        alloc,
+        program,
+        number,
+        found.claim,
+        found.place,
+        why,
+        solves,
+    )
 }
 
 /// Why the report is open, with the number of solves that were allowed.

@@ -1,0 +1,40 @@
+//! A report as it is told.
+ghost use Rattle.std.specs.Prelude.{IfOk};
+ghost use Rattle.scen_defs.specs.Program.{content};
+ghost use Rattle.scen_defs.specs.Valid.{IsProgram};
+ghost use Rattle.smps_session.specs.Told.{IsTold};
+
+use crate::found::Method;
+use crate::running::reported;
+use frac128::Memory;
+use report_text::print_report;
+use scen_defs::{Finding, Program};
+use std::alloc::Global;
+
+/// What is told of a report.
+#[derive(Drop)]
+pub struct Told {
+    /// Its text, all of it.
+    pub text: Vec<u8>,
+    pub finding: Finding,
+}
+
+/// Tells what the method finds of the program, where nothing is left to find.
+pub(crate) fn told_one(
+    alloc: Global,
+    program: &Program,
+    method: &mut Method,
+    number: u32,
+    solves: u64,
+) -> Result<Told, Memory>
+    requires { IsProgram (content program.now) }
+    ensures { IfOk result (IsTold solves number (content program.now)) }
+{
+    let report = reported(alloc, program, method, number, solves)?;
+    let mut text = Vec::new(alloc);
+    print_report(alloc, program, &report, &mut text)?;
+    Ok(Told {
+        text,
+        finding: report.finding,
+    })
+}
