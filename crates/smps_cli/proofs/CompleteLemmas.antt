@@ -3,20 +3,17 @@ use Rattle.std.proofs.Common.{◌≡◌, ◌<◌, ◌≤◌, ℕ, List, length, 
 use Rattle.smps_io.specs.Files.{Files, bytes_of}
 use Rattle.core_defs.specs.declared.cause.Cause.{Cause}
 use Rattle.core_defs.specs.declared.cause.Cause.TheVariants.{Passes}
-use Rattle.command_words.specs.Words.{FileNames, Asked}
-use Rattle.command_words.specs.Words.Asked.{SolveThese}
+use Rattle.command_words.specs.declared.command.Task.TheVariants.{Solve}
+use Rattle.command_words.specs.Commands.{Asked}
+use Rattle.command_words.specs.Commands.Asked.{OnFiles}
 use Rattle.input_files.specs.declared.kind.FileKind.{FileKind}
 use Rattle.input_files.specs.declared.kind.FileKind.TheVariants as kind
 use Rattle.input_files.specs.Fetched.{Texts, AreGiven, IsLong, name_of, file_limit}
 use Rattle.smps_cli.specs.declared.status.Status.{Status}
 use Rattle.smps_cli.specs.declared.status.Status.TheVariants.{Done, SomeOpen, Words, Refused, TooLong, ReadFault, WriteFault, Memory}
 use Rattle.smps_cli.specs.Answers.{MayAnswer, MayAnswerFor, MayBeSolved}
-use Rattle.smps_cli.specs.Completes.{AsksForReport, EndsOrWantsMemory}
+use Rattle.smps_cli.specs.Completes.{AsksForReport, EndsOrWantsMemory, alone}
 use Rattle.smps_cli.specs.Printed.{IsRefusedAt}
-
--- the words name a core file alone
-abbrev alone : List ℕ → FileNames
-alone name = record { core = name; time = None; stoch = None }
 
 module _ (content : Option Files) (words : List (List ℕ)) (asks : AsksForReport content words) where
   refused : (line : ℕ) (cause : Cause) → IsRefusedAt (bytes_of asks.files asks.name) line cause → EndsOrWantsMemory (Refused kind.Core line cause)
@@ -45,7 +42,7 @@ module _ (content : Option Files) (words : List (List ℕ)) (asks : AsksForRepor
   not_long kind.Report long = let e = long.1 in absurd (cc)
   not_long kind.Trace long = let e = long.1 in absurd (cc)
 
-  by_command : (status : Status) (output : List ℕ) → ((file : FileKind) → status ≡ ReadFault file → ⊥) → MayAnswerFor (Some (SolveThese (alone asks.name) asks.budget)) (Some asks.files) status output → EndsOrWantsMemory status
+  by_command : (status : Status) (output : List ℕ) → ((file : FileKind) → status ≡ ReadFault file → ⊥) → MayAnswerFor (Some (OnFiles (alone asks.name) (Solve asks.budget))) (Some asks.files) status output → EndsOrWantsMemory status
   by_command status output given (inl fault) = absurd (given fault.0 fault.2)
   by_command status output given (inr (inl long)) = absurd (not_long long.0 long.1)
   by_command status output given (inr (inr came)) = by_status status output (subst (λ (bytes : List ℕ). MayBeSolved asks.budget.pivots bytes status output) came.1.core.told came.2)
@@ -53,5 +50,5 @@ module _ (content : Option Files) (words : List (List ℕ)) (asks : AsksForRepor
   pub comes_to_a_report : (status : Status) (output : List ℕ) → ((file : FileKind) → status ≡ ReadFault file → ⊥) → MayAnswer content words status output → EndsOrWantsMemory status
   comes_to_a_report status output given may =
       by_command status output given
-      (subst (λ (told : Option Files). MayAnswerFor (Some (SolveThese (alone asks.name) asks.budget)) told status output) asks.told
+      (subst (λ (told : Option Files). MayAnswerFor (Some (OnFiles (alone asks.name) (Solve asks.budget))) told status output) asks.told
       (subst (λ (command : Option Asked). MayAnswerFor command content status output) asks.command may))

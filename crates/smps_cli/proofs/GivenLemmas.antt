@@ -2,7 +2,7 @@
 use Rattle.std.proofs.Common.{◌≡◌, ◌≤◌, ℕ, List, length, Option, Some, None}
 use Rattle.std.specs.Prelude.{IfSome}
 use Rattle.smps_io.specs.Files.{Files}
-use Rattle.command_words.specs.Words.{FileNames}
+use Rattle.command_words.specs.Commands.{FileNames}
 use Rattle.input_files.specs.Fetched.{Texts, AreGiven, IsGivenIf, file_limit}
 use Rattle.program_files.specs.Meant.{AreWithin}
 
@@ -13,4 +13,10 @@ within_if content (Some name) None h = tt
 within_if content (Some name) (Some bytes) h = h.within
 
 pub given_within : (content : Option Files) (names : FileNames) (texts : Texts) → AreGiven content names texts → AreWithin texts
-given_within content names texts h = record { core = h.core.within; time = within_if content names.time texts.time h.time; stoch = within_if content names.stoch texts.stoch h.stoch }
+given_within content names texts h = record {
+  core = h.core.within;
+  time = within_if content names.time texts.time h.time;
+  stoch = within_if content names.stoch texts.stoch h.stoch;
+  edits = within_if content names.edits texts.edits h.edits;
+  report = within_if content names.report texts.report h.report;
+}

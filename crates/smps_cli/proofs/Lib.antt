@@ -3,5 +3,5 @@ pub mod PrintLemmas
 pub mod AnswerLemmas
 pub mod CompleteLemmas
 pub mod GivenLemmas
-pub mod ShowLemmas
-pub mod TreeLemmas
+pub mod EndLemmas
+pub mod WriteLemmas

@@ -3,51 +3,60 @@ use Rattle.std.specs.Prelude.{◌≡◌, ◌⊎◌, ⊤, ℕ, List, length, Opti
 use Rattle.smps_io.specs.Faults.{RoseBy}
 use Rattle.smps_io.specs.Files.{Files}
 use Rattle.smps_io.specs.Puts.{Appends, AppendsPrefix}
-use Rattle.command_words.specs.Words.{FileNames, Budget, Asked, command_of}
-use Rattle.command_words.specs.Words.Asked.{SolveThese, ShowThese}
+use Rattle.command_words.specs.declared.command.Budget.{Budget}
+use Rattle.command_words.specs.declared.command.Task.{Task}
+use Rattle.command_words.specs.declared.command.Task.TheVariants.{Solve, Check, Show}
+use Rattle.command_words.specs.Commands.{FileNames, Asked, command_of}
+use Rattle.command_words.specs.Commands.Asked.{OnFiles, MakeThis}
 use Rattle.input_files.specs.declared.kind.FileKind.{FileKind}
 use Rattle.input_files.specs.declared.kind.FileKind.TheVariants.{Core}
 use Rattle.input_files.specs.Fetched.{Texts, AreGiven, IsNamed, IsLong}
 use Rattle.smps_cli.specs.declared.status.Status.{Status}
 use Rattle.smps_cli.specs.declared.status.Status.TheVariants.{Done, SomeOpen, Words, Refused, TooLong, ReadFault, WriteFault, Memory}
-use Rattle.smps_cli.specs.Sources.{files_of}
 use Rattle.smps_cli.specs.Lines.{status_line}
+use Rattle.smps_cli.specs.Ends.{MayEnd}
 use Rattle.smps_cli.specs.Printed.{PrintsTrueReport, IsRefusedAt}
 use Rattle.smps_cli.specs.Shown.{MayBeShown}
 use Rattle.smps_cli.specs.Trees.{MayBeSolvedOnTree}
+use Rattle.smps_cli.specs.Checks.{MayBeChecked}
+use Rattle.smps_cli.specs.Makes.{MakesPlan}
 
 -- What the bytes of a core file alone may come to, where so many pivots are allowed.
 abbrev pub MayBeSolved : ℕ → List ℕ → Status → List ℕ → Type 0
-MayBeSolved pivots bytes Done output = PrintsTrueReport pivots bytes output Done
-MayBeSolved pivots bytes SomeOpen output = PrintsTrueReport pivots bytes output SomeOpen
-MayBeSolved pivots bytes (Refused file line cause) output = (file ≡ Core) × IsRefusedAt bytes line cause × (output ≡ status_line (Refused file line cause))
-MayBeSolved pivots bytes Words output = ⊥
-MayBeSolved pivots bytes (TooLong file) output = ⊥
-MayBeSolved pivots bytes (ReadFault file) output = ⊥
-MayBeSolved pivots bytes WriteFault output = ⊥
-MayBeSolved pivots bytes Memory output = ⊥
+MayBeSolved pivots bytes = MayEnd
+    (λ status output. PrintsTrueReport pivots bytes output status)
+    (λ file line cause output.
+    (file ≡ Core) × IsRefusedAt bytes line cause × (output ≡ status_line (Refused file line cause)))
 
--- What `solve` may come to: a core file alone is a program of one period, and with a time file one on a tree.
-abbrev pub MaySolve : Option (List ℕ) → Budget → Texts → Status → List ℕ → Type 0
-MaySolve None budget texts status output = MayBeSolved budget.pivots texts.core status output
-MaySolve (Some time) budget texts status output = MayBeSolvedOnTree budget texts status output
+-- What `solve` may come to: a core file alone is a program of one period; with a time file or an edit list it is one on a tree.
+abbrev pub MaySolve : Option (List ℕ) → Option (List ℕ) → Budget → Texts → Status → List ℕ → Type 0
+MaySolve None None budget texts status output = MayBeSolved budget.pivots texts.core status output
+MaySolve None (Some edits) budget texts status output = MayBeSolvedOnTree budget texts status output
+MaySolve (Some time) edits budget texts status output = MayBeSolvedOnTree budget texts status output
 
--- What a command may come to on the texts of its files.
-abbrev pub MayCome : Asked → Texts → Status → List ℕ → Type 0
-MayCome (SolveThese names budget) texts status output = MaySolve names.time budget texts status output
-MayCome (ShowThese names) texts status output = MayBeShown texts status output
+-- What a task may come to on the texts of its files.
+abbrev pub MayCome : FileNames → Task → Texts → Status → List ℕ → Type 0
+MayCome names (Solve budget) texts status output = MaySolve names.time names.edits budget texts status output
+MayCome names Check texts status output = MayBeChecked texts status output
+MayCome names Show texts status output = MayBeShown texts status output
 
 -- A file is too long, and the line says so.
 abbrev pub SaysTooLong : Option Files → FileNames → Status → List ℕ → Type 0
-SaysTooLong content names status output = (kind : FileKind) × IsLong content names kind × (status ≡ TooLong kind) × (output ≡ status_line (TooLong kind))
+SaysTooLong content names status output =
+    (kind : FileKind) × IsLong content names kind × (status ≡ TooLong kind) × (output ≡ status_line (TooLong kind))
 
 -- A file couldn't be read, and the line says so.
 abbrev pub SaysReadFault : FileNames → Status → List ℕ → Type 0
-SaysReadFault names status output = (kind : FileKind) × IsNamed names kind × (status ≡ ReadFault kind) × (output ≡ status_line (ReadFault kind))
+SaysReadFault names status output =
+    (kind : FileKind) × IsNamed names kind × (status ≡ ReadFault kind) × (output ≡ status_line (ReadFault kind))
 
--- A command comes to this on texts that the shelf gave for its files: those of the shelf, where it tells what it holds.
-abbrev pub ComesToThis : Option Files → Asked → Status → List ℕ → Type 0
-ComesToThis content asked status output = (texts : Texts) × AreGiven content (files_of asked) texts × MayCome asked texts status output
+-- A task comes to this on texts that the shelf gave for its files: those of the shelf, where it tells what it holds.
+abbrev pub ComesToThis : Option Files → FileNames → Task → Status → List ℕ → Type 0
+ComesToThis content names task status output = (texts : Texts) × AreGiven content names texts × MayCome names task texts status output
+
+abbrev pub MayAnswerTask : Option Files → FileNames → Task → Status → List ℕ → Type 0
+MayAnswerTask content names task status output =
+    SaysReadFault names status output ⊎ SaysTooLong content names status output ⊎ ComesToThis content names task status output
 
 -- the words aren't a command's, and the line says so
 abbrev pub RefusesWords : Status → List ℕ → Type 0
@@ -56,23 +65,27 @@ RefusesWords status output = (status ≡ Words) × (output ≡ status_line Words
 -- With these words a run may come to this status with this whole output.
 abbrev pub MayAnswerFor : Option Asked → Option Files → Status → List ℕ → Type 0
 MayAnswerFor None content status output = RefusesWords status output
-MayAnswerFor (Some asked) content status output = SaysReadFault (files_of asked) status output ⊎ SaysTooLong content (files_of asked) status output ⊎ ComesToThis content asked status output
+MayAnswerFor (Some (OnFiles names task)) content status output = MayAnswerTask content names task status output
+MayAnswerFor (Some (MakeThis plan)) content status output = MakesPlan plan status output
 
 abbrev pub MayAnswer : Option Files → List (List ℕ) → Status → List ℕ → Type 0
 MayAnswer content words status output = MayAnswerFor (command_of words) content status output
 
 -- The run came to a status and an output. It answers this status, the sink has the whole output, and has taken as many bytes as
 -- that has; or the sink failed or memory was wanting, and the sink has a prefix of it.
-pub record Written (content : Option Files) (words : List (List ℕ)) (before after : Option (List ℕ)) (taken taken_after : ℕ) (status : Status) : Type 0 where
+pub record Written (content : Option Files) (words : List (List ℕ)) (before after : Option (List ℕ)) (taken taken_after : ℕ)
+    (status : Status) : Type 0 where
   pub meant : Status
   pub output : List ℕ
   pub may : MayAnswer content words meant output
   pub prefix : AppendsPrefix before output after
-  pub ends : ((status ≡ meant) × Appends before output after × RoseBy taken (length output) taken_after) ⊎ (status ≡ WriteFault) ⊎ (status ≡ Memory)
+  pub ends : ((status ≡ meant) × Appends before output after × RoseBy taken (length output) taken_after) ⊎ (status ≡ WriteFault)
+      ⊎ (status ≡ Memory)
 
 -- memory was wanting before anything was written, or see above
 abbrev pub Answers : Option Files → List (List ℕ) → Option (List ℕ) → Option (List ℕ) → ℕ → ℕ → Status → Type 0
-Answers content words before after taken taken_after status = Written content words before after taken taken_after status ⊎ ((status ≡ Memory) × (after ≡ before))
+Answers content words before after taken taken_after status =
+    Written content words before after taken taken_after status ⊎ ((status ≡ Memory) × (after ≡ before))
 
 -- A status that comes after all files were given.
 abbrev pub HasTexts : Status → Type 0

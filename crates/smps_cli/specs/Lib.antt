@@ -2,7 +2,11 @@ pub mod Lines
 pub mod Sources
 pub mod Findings
 pub mod Printed
+pub mod Ends
+pub mod Inputs
 pub mod Trees
+pub mod Checks
 pub mod Shown
+pub mod Makes
 pub mod Answers
 pub mod Completes

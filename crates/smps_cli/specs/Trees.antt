@@ -1,41 +1,40 @@
--- What `solve` prints for a program of several periods.
-use Rattle.std.specs.Prelude.{◌≡◌, ℕ, List}
-use Rattle.core_defs.specs.declared.cause.Cause.{Cause}
-use Rattle.scen_defs.specs.Program.{content}
-use Rattle.scen_defs.specs.declared.program.Program.{Program}
-use Rattle.scen_defs.specs.declared.report.Report.{Report}
-use Rattle.command_words.specs.Words.{Budget}
+-- What `solve` prints for a program on a tree.
+use Rattle.std.specs.Prelude.{◌≡◌, ℕ, Bool, false, ◌||◌, List, [], ◌∷◌}
+use Rattle.std.specs.List.{flat_map}
+use Rattle.scen_defs.specs.Program.{Program}
+use Rattle.edit_defs.specs.declared.edit.Item.{Item}
+use Rattle.command_words.specs.declared.command.Budget.{Budget}
 use Rattle.input_files.specs.Fetched.{Texts}
 use Rattle.program_files.specs.Meant.{MeansProgram}
-use Rattle.report_defs.specs.Seen.{seen}
-use Rattle.report_defs.specs.Truth.{IsTrue, HasCounts}
-use Rattle.report_text.specs.Text.{report_text}
-use Rattle.smps_session.specs.Reasons.{told_reasons}
+use Rattle.program_files.specs.Edited.{MeansScript}
+use Rattle.smps_session.specs.declared.told.Told.{Told}
+use Rattle.smps_session.specs.Told.{AreTold}
 use Rattle.smps_cli.specs.declared.status.Status.{Status}
-use Rattle.smps_cli.specs.declared.status.Status.TheVariants.{Done, SomeOpen, Words, Refused, TooLong, ReadFault, WriteFault, Memory}
-use Rattle.smps_cli.specs.Findings.{command_status}
-use Rattle.smps_cli.specs.Shown.{RefusesTexts}
+use Rattle.smps_cli.specs.Ends.{MayEnd, RefusesTexts}
+use Rattle.smps_cli.specs.Findings.{is_open_finding, open_status}
 
--- The output is the text of a report that is true of the program that the texts mean. Its finding gives the status.
-pub record PrintsTreeReport (budget : Budget) (texts : Texts) (output : List ℕ) (status : Status) : Type 0 where
-  -- the program on a tree that the three texts mean
+abbrev pub told_text : Told → List ℕ
+told_text told = told.text.items
+
+-- a report is open
+abbrev pub any_open : List Told → Bool
+any_open [] = false
+any_open (told ∷ tolds) = is_open_finding told.finding || any_open tolds
+
+-- The output is the texts of reports, one for each SOLVE of the edit list, each of them true of the program after the edits before its
+-- SOLVE. Their findings give the status.
+pub record PrintsReports (budget : Budget) (texts : Texts) (status : Status) (output : List ℕ) : Type 0 where
+  -- the program that the texts mean, and what the edit list means for it
   pub program : Program
-  pub means : MeansProgram texts (content program)
-  -- the report that is printed, all of it
-  pub report : Report
-  pub text : output ≡ report_text program report
-  pub told : status ≡ command_status report.finding
-  -- its ends are shown by its lists, its finding by its reason; and its counts are the program's
-  pub truth : IsTrue (seen program) (told_reasons budget.solves) report
-  pub counts : HasCounts (seen program) report
+  pub means : MeansProgram texts program
+  pub items : List Item
+  pub script : MeansScript texts program items
+  -- the reports, all of them
+  pub tolds : List Told
+  pub told : AreTold budget.solves 1 program items tolds
+  pub text : output ≡ flat_map told_text tolds
+  pub ends : status ≡ open_status (any_open tolds)
 
--- What the texts of the files may come to: a report, or the first fault.
+-- What the texts of the files may come to: reports, or the first fault.
 abbrev pub MayBeSolvedOnTree : Budget → Texts → Status → List ℕ → Type 0
-MayBeSolvedOnTree budget texts Done output = PrintsTreeReport budget texts output Done
-MayBeSolvedOnTree budget texts SomeOpen output = PrintsTreeReport budget texts output SomeOpen
-MayBeSolvedOnTree budget texts (Refused file line cause) output = RefusesTexts texts file line cause output
-MayBeSolvedOnTree budget texts Words output = ⊥
-MayBeSolvedOnTree budget texts (TooLong file) output = ⊥
-MayBeSolvedOnTree budget texts (ReadFault file) output = ⊥
-MayBeSolvedOnTree budget texts WriteFault output = ⊥
-MayBeSolvedOnTree budget texts Memory output = ⊥
+MayBeSolvedOnTree budget texts = MayEnd (PrintsReports budget texts) (RefusesTexts texts)

@@ -1,21 +1,24 @@
 //! What a run comes to before anything is written.
-ghost use Rattle.std.specs.Prelude.{◌≡◌, ◌≢◌, ◌<◌, None, Some, IfOk, map, string_bytes};
+ghost use Rattle.std.specs.Prelude.{◌≡◌, ◌≢◌, ◌<◌, None, Some, IfOk, OnOk, map, string_bytes};
 ghost use Rattle.smps_io.specs.Faults.{Rose, RoseBy};
-ghost use Rattle.command_words.specs.Words.{Asked, command_of};
+ghost use Rattle.command_words.specs.Commands.{Asked, command_of};
 ghost use Rattle.command_words.specs.Views.{asked, sources_view};
 ghost use Rattle.input_files.specs.Fetched.{AreGiven, file_limit, file_count};
 ghost use Rattle.input_files.specs.Unfetched.{texts_view};
 ghost use Rattle.input_files.specs.declared.kind.FileKind.{FileKind};
 ghost use Rattle.program_files.specs.Meant.{AreWithin};
-ghost use Rattle.smps_cli.specs.Answers.{MayAnswer, MayAnswerFor, MayCome, HasTexts};
-ghost use Rattle.smps_cli.specs.Sources.{files_of};
+ghost use Rattle.smps_cli.specs.Answers.{MayAnswer, MayAnswerFor, MayAnswerTask, MayCome, HasTexts};
+ghost use Rattle.smps_cli.specs.Makes.{MakesPlan};
+ghost use Rattle.smps_cli.specs.Sources.{fetch_count};
 ghost use Rattle.smps_cli.specs.Lines.{line_with, status_line};
 
+use crate::check::checked;
+use crate::make::made;
 use crate::show::shown;
 use crate::solve::solved;
 use crate::status::Status;
 use crate::trees::solved_on_tree;
-use command_words::{Command, Sources, read_words};
+use command_words::{Command, Sources, Task, read_words};
 use core_defs::Core;
 use frac128::Memory;
 use input_files::{Texts, Unfetched, fetched_texts};
@@ -30,61 +33,75 @@ pub(crate) struct Answer {
     pub(crate) output: Vec<u8>,
 }
 
-/// The files that a command needs.
-fn sources_of<'a>(command: &Command<'a>) -> Sources<'a>
-    ensures { sources_view result ≡ files_of (asked command.now) }
-{
-    match *command {
-        Command::Solve { sources, budget: _ } => sources,
-        Command::Show { sources } => sources,
-    }
-}
-
-/// What a command comes to on its texts.
-fn come(alloc: Global, command: &Command<'_>, texts: &Texts) -> Result<Answer, Memory>
+/// What a task comes to on its texts.
+fn come(alloc: Global, sources: &Sources<'_>, task: Task, texts: &Texts) -> Result<Answer, Memory>
     requires { AreWithin (texts_view texts.now) }
-    ensures may { IfOk result (λ answer. MayCome (asked command.now) (texts_view texts.now) answer.status answer.output.items) }
-    ensures not_words { IfOk result (λ answer. answer.status ≢ Status.Words) }
-    ensures not_written { IfOk result (λ answer. answer.status ≢ Status.WriteFault) }
-    ensures not_read { IfOk result (λ answer. (kind : FileKind) → answer.status ≢ Status.ReadFault kind) }
-    ensures not_long { IfOk result (λ answer. (kind : FileKind) → answer.status ≢ Status.TooLong kind) }
+    ensures may { IfOk result (λ answer.
+        MayCome (sources_view sources.now) task (texts_view texts.now) answer.status answer.output.items) }
+    ensures has { IfOk result (λ answer. HasTexts answer.status) }
 {
-    match command {
-        Command::Solve { sources, budget } => {
-            if sources.time.is_none() {
+    match task {
+        Task::Solve(budget) => {
+            if sources.time.is_none() && sources.edits.is_none() {
                 solved(alloc, &texts.core, budget.pivots)
             } else {
-                solved_on_tree(alloc, texts, *budget)
+                solved_on_tree(alloc, texts, budget)
             }
         }
-        Command::Show { sources: _ } => shown(alloc, texts),
+        Task::Check => checked(alloc, texts),
+        Task::Show => shown(alloc, texts),
     }
 }
 
-/// What the words and the files come to. Reads no file where the words aren't a command's.
+/// What a task on files comes to: fetches them first.
+fn on_files<R: Runtime, H: Shelf>(
+    rt: &R,
+    alloc: Global,
+    sources: &Sources<'_>,
+    task: Task,
+    shelf: &mut H,
+) -> Result<Answer, Memory>
+    ensures may { IfOk result (λ answer.
+        MayAnswerTask (H.content shelf.old) (sources_view sources.now) task answer.status answer.output.items) }
+    ensures words { IfOk result (λ answer. answer.status ≢ Status.Words) }
+    ensures written { IfOk result (λ answer. answer.status ≢ Status.WriteFault) }
+    ensures read { IfOk result (λ answer.
+        (kind : FileKind) → answer.status ≡ Status.ReadFault kind → Rose (H.faults shelf.old) (H.faults shelf.new)) }
+    ensures long { IfOk result (λ answer. (kind : FileKind) → answer.status ≡ Status.TooLong kind → file_limit < H.given shelf.new) }
+    ensures fetched { IfOk result (λ answer. HasTexts answer.status
+        → RoseBy (H.fetches shelf.old) (file_count (sources_view sources.now)) (H.fetches shelf.new)) }
+{
+    match fetched_texts(rt, alloc, shelf, sources) {
+        Ok(texts) => come(alloc, sources, task, &texts),
+        Err(Unfetched::Failed(kind)) => one_line(alloc, Status::ReadFault(kind)),
+        Err(Unfetched::TooLong(kind)) => one_line(alloc, Status::TooLong(kind)),
+        Err(Unfetched::Memory) => Err(Memory),
+    }
+}
+
+/// What the words and the files come to. Reads no file where the words aren't a command's, or the command takes none.
 pub(crate) fn answered<R: Runtime, H: Shelf>(
     rt: &R,
     alloc: Global,
     words: &[String],
     shelf: &mut H,
 ) -> Result<Answer, Memory>
-    ensures may { IfOk result (λ answer. MayAnswer (H.content shelf.old) (map string_bytes words.now) answer.status answer.output.items) }
+    ensures may { IfOk result (λ answer.
+        MayAnswer (H.content shelf.old) (map string_bytes words.now) answer.status answer.output.items) }
     ensures words { IfOk result (λ answer. answer.status ≡ Status.Words → command_of (map string_bytes words.now) ≡ None) }
     ensures written { IfOk result (λ answer. answer.status ≢ Status.WriteFault) }
-    ensures read { IfOk result (λ answer. (kind : FileKind) → answer.status ≡ Status.ReadFault kind → Rose (H.faults shelf.old) (H.faults shelf.new)) }
+    ensures read { IfOk result (λ answer.
+        (kind : FileKind) → answer.status ≡ Status.ReadFault kind → Rose (H.faults shelf.old) (H.faults shelf.new)) }
     ensures long { IfOk result (λ answer. (kind : FileKind) → answer.status ≡ Status.TooLong kind → file_limit < H.given shelf.new) }
-    ensures fetched { IfOk result (λ answer. HasTexts answer.status → (command : Asked) → command_of (map string_bytes words.now) ≡ Some command
-        → RoseBy (H.fetches shelf.old) (file_count (files_of command)) (H.fetches shelf.new)) }
+    ensures fetched { IfOk result (λ answer. HasTexts answer.status → (command : Asked)
+        → command_of (map string_bytes words.now) ≡ Some command
+        → RoseBy (H.fetches shelf.old) (fetch_count command) (H.fetches shelf.new)) }
     ensures none_fetched { command_of (map string_bytes words.now) ≡ None → H.fetches shelf.new ≡ H.fetches shelf.old }
 {
-    let Some(command) = read_words(alloc, words)? else {
-        return one_line(alloc, Status::Words);
-    };
-    match fetched_texts(rt, alloc, shelf, &sources_of(&command)) {
-        Ok(texts) => come(alloc, &command, &texts),
-        Err(Unfetched::Failed(kind)) => one_line(alloc, Status::ReadFault(kind)),
-        Err(Unfetched::TooLong(kind)) => one_line(alloc, Status::TooLong(kind)),
-        Err(Unfetched::Memory) => Err(Memory),
+    match read_words(alloc, words)? {
+        None => one_line(alloc, Status::Words),
+        Some(Command::OnFiles { sources, task }) => on_files(rt, alloc, &sources, task, shelf),
+        Some(Command::Make(plan)) => made(alloc, plan),
     }
 }
 

@@ -2,6 +2,10 @@
 #![tactic(auto)]
 
 mod answer;
+mod check;
+mod input;
+mod make;
+mod refuse;
 mod show;
 mod solve;
 mod status;
@@ -9,6 +13,7 @@ mod status;
 mod tests;
 mod top_call;
 mod trees;
+mod write;
 
 pub use input_files::FileKind;
 pub use status::Status;

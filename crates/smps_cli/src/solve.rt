@@ -8,11 +8,11 @@ ghost use Rattle.smps_cli.specs.Printed.{PrintsReportOf, RefusesEnd};
 ghost use Rattle.input_files.specs.Fetched.{file_limit};
 ghost use Rattle.smps_cli.specs.Answers.{MayBeSolved};
 ghost use Rattle.report_text.specs.Text.{report_text};
-ghost use Rattle.smps_cli.specs.Findings.{command_status};
+ghost use Rattle.smps_cli.specs.Findings.{command_status, is_open_finding};
 ghost use Rattle.smps_cli.specs.Lines.{status_line};
 
 use crate::answer::{Answer, one_line};
-use crate::status::Status;
+use crate::status::{Status, open_status};
 use frac128::Memory;
 use input_files::FileKind;
 use mps_core::{Cause, Core, ReadFail, read_core};
@@ -37,7 +37,8 @@ pub(crate) fn solved(alloc: Global, text: &[u8], pivots: u64) -> Result<Answer, 
 /// The answer for a core.
 fn solved_core(alloc: Global, core: &Core, pivots: u64) -> Result<Answer, Memory>
     requires { IsCore core.now }
-    ensures { IfOk result (λ answer. PrintsReportOf pivots core.now answer.output.items answer.status ⊎ RefusesEnd core.now answer.output.items answer.status) }
+    ensures { IfOk result (λ answer. PrintsReportOf pivots core.now answer.output.items answer.status
+        ⊎ RefusesEnd core.now answer.output.items answer.status) }
 {
     match single(alloc, core) {
         Ok(program) => solved_program(alloc, core, &program, pivots),
@@ -76,15 +77,17 @@ fn solved_program(
 
 /// The answer that refuses a core file.
 fn refused(alloc: Global, line: u32, cause: Cause) -> Result<Answer, Memory>
-    ensures { IfOk result (λ answer. (answer.status ≡ Status.Refused FileKind.Core line cause) × (answer.output.items ≡ status_line (Status.Refused FileKind.Core line cause))) }
+    ensures { IfOk result (λ answer. (answer.status ≡ Status.Refused FileKind.Core line cause)
+        × (answer.output.items ≡ status_line (Status.Refused FileKind.Core line cause))) }
 {
     one_line(alloc, Status::Refused(FileKind::Core, line, cause))
 }
 
 /// The answer that prints a report.
-pub(crate) fn printed(alloc: Global, program: &Program, report: &Report) -> Result<Answer, Memory>
+fn printed(alloc: Global, program: &Program, report: &Report) -> Result<Answer, Memory>
     requires { ListsHaveNames program.now report.now }
-    ensures { IfOk result (λ answer. (answer.output.items ≡ report_text program.now report.now) × (answer.status ≡ command_status report.now.finding)) }
+    ensures { IfOk result (λ answer. (answer.output.items ≡ report_text program.now report.now)
+        × (answer.status ≡ command_status report.now.finding)) }
 {
     let mut output = Vec::new(alloc);
     print_report(alloc, program, report, &mut output)?;
@@ -92,14 +95,19 @@ pub(crate) fn printed(alloc: Global, program: &Program, report: &Report) -> Resu
     Ok(Answer { status, output })
 }
 
-/// How a command ends whose report has this finding.
-fn command_status(finding: Finding) -> Status
-    ensures { result ≡ command_status finding }
+/// Whether a report with this finding is open.
+pub(crate) fn is_open(finding: Finding) -> bool
+    ensures { result ≡ is_open_finding finding }
 {
     match finding {
-        Finding::Optimal | Finding::Infeasible | Finding::Unbounded => Status::Done,
-        Finding::OpenSolves(_) | Finding::OpenPivots(_) | Finding::OpenPassed(_, _) => {
-            Status::SomeOpen
-        }
+        Finding::Optimal | Finding::Infeasible | Finding::Unbounded => false,
+        Finding::OpenSolves(_) | Finding::OpenPivots(_) | Finding::OpenPassed(_, _) => true,
     }
+}
+
+/// How a command ends whose report has this finding.
+pub(crate) fn command_status(finding: Finding) -> Status
+    ensures { result ≡ command_status finding }
+{
+    open_status(is_open(finding))
 }

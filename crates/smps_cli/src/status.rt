@@ -1,6 +1,8 @@
 //! How a run ends, and the line that says so.
 ghost use Rattle.std.specs.Prelude.{◌≡◌, ◌++◌, ◌∷◌, IfOk, OnOk};
-ghost use Rattle.smps_cli.specs.Lines.{file_word, row_name, column_name, numbered_text, values_text, refused_text, line_with, status_line, status_number};
+ghost use Rattle.smps_cli.specs.Findings.{open_status};
+ghost use Rattle.smps_cli.specs.Lines.{file_word, row_name, column_name, numbered_text, values_text, refused_text};
+ghost use Rattle.smps_cli.specs.Lines.{line_with, status_line, status_number};
 
 use core_defs::Core;
 use frac128::{Memory, print};
@@ -28,7 +30,7 @@ pub fn file_word(file: FileKind) -> &'static str
 pub enum Status {
     /// The command ended, and nothing is left open.
     Done,
-    /// The command ended, and a report is OPEN.
+    /// The command ended, and a report is OPEN, or doesn't hold where reports are checked.
     SomeOpen,
     /// The words aren't those of a command.
     Words,
@@ -73,6 +75,17 @@ impl Status {
                 Ok(Vec::new(alloc))
             }
         }
+    }
+}
+
+/// How a command ends, by whether something is left open.
+pub(crate) fn open_status(is_open: bool) -> Status
+    ensures { result ≡ open_status is_open }
+{
+    if is_open {
+        Status::SomeOpen
+    } else {
+        Status::Done
     }
 }
 

@@ -228,7 +228,8 @@ ROWS
 COLUMNS
  X COST 1 NEED 1
 |refused core line 6: 12
-#solve --core F|whole|Refused(Core, 0, Passes(Passed { a: Frac { num: -170141183460469231731687303715884105727, den: 1 }, b: Frac { num: 1, den: 2 }, op: Sub }))
+#solve --core F|whole|Refused(Core, 0, Passes(Passed { a: Frac { num: -170141183460469231731687303715884105727, den: 1 }, \
+    b: Frac { num: 1, den: 2 }, op: Sub }))
 ROWS
  N COST
  L LIM

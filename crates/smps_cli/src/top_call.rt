@@ -1,17 +1,18 @@
 //! The top call.
 ghost use Rattle.std.specs.Prelude.{◌≡◌, ◌<◌, ℕ, List, None, Some, map, string_bytes};
 ghost use Rattle.smps_io.specs.Faults.{Rose, RoseBy};
-ghost use Rattle.input_files.specs.Fetched.{file_limit, file_count};
-ghost use Rattle.command_words.specs.Words.{Asked, command_of};
-ghost use Rattle.smps_cli.specs.Sources.{files_of};
+ghost use Rattle.input_files.specs.Fetched.{file_limit};
+ghost use Rattle.command_words.specs.Commands.{Asked, command_of};
+ghost use Rattle.smps_cli.specs.Sources.{fetch_count};
 ghost use Rattle.smps_cli.specs.Answers.{Answers, HasTexts};
 ghost use Rattle.smps_cli.specs.Completes.{AsksForReport, EndsOrWantsMemory};
 ghost use Rattle.input_files.specs.declared.kind.FileKind.{FileKind};
 
 use crate::answer::answered;
 use crate::status::Status;
+use crate::write::write_texts;
 use frac128::Memory;
-use smps_io::{Shelf, Sink, SinkFault, write_all};
+use smps_io::{Shelf, Sink, SinkFault};
 use std::alloc::Global;
 use std::rt::Runtime;
 
@@ -33,19 +34,20 @@ pub fn run<R: Runtime, H: Shelf, K: Sink>(
     ensures long { (kind : FileKind) → result ≡ Status.TooLong kind → file_limit < H.given shelf.new }
     ensures none_fetched { command_of (map string_bytes words.now) ≡ None → H.fetches shelf.new ≡ H.fetches shelf.old }
     ensures fetched { HasTexts result → (command : Asked) → command_of (map string_bytes words.now) ≡ Some command
-        → RoseBy (H.fetches shelf.old) (file_count (files_of command)) (H.fetches shelf.new) }
+        → RoseBy (H.fetches shelf.old) (fetch_count command) (H.fetches shelf.new) }
     ensures write { result ≡ Status.WriteFault → Rose (K.faults sink.old) (K.faults sink.new) }
     ensures completes { AsksForReport (H.content shelf.old) (map string_bytes words.now)
         → (¬ Rose (H.faults shelf.old) (H.faults shelf.new))
         → (¬ Rose (K.faults sink.old) (K.faults sink.new))
         → EndsOrWantsMemory result }
-    ensures answers { Answers (H.content shelf.old) (map string_bytes words.now) (K.written sink.old) (K.written sink.new) (K.taken sink.old) (K.taken sink.new) result }
+    ensures answers { Answers (H.content shelf.old) (map string_bytes words.now)
+        (K.written sink.old) (K.written sink.new) (K.taken sink.old) (K.taken sink.new) result }
 {
     let answer = match answered(rt, alloc, words, shelf) {
         Ok(answer) => answer,
         Err(Memory) => return Status::Memory,
     };
-    match write_all(rt, sink, &answer.output) {
+    match write_texts(rt, sink, &answer.output) {
         Ok(()) => answer.status,
         Err(SinkFault::Failed) => Status::WriteFault,
         Err(SinkFault::Memory) => Status::Memory,

@@ -1,46 +1,86 @@
-//! The command `solve` on the files of a program of several periods.
-ghost use Rattle.std.specs.Prelude.{◌≡◌, IfOk};
-ghost use Rattle.scen_defs.specs.Program.{IsTree, content, view_of};
-ghost use Rattle.scen_defs.specs.Valid.{IsProgram};
-ghost use Rattle.command_words.specs.Views.{budget_view};
+//! The command `solve` on the files of a program of several periods, and on an edit list.
+ghost use Rattle.std.specs.Prelude.{◌≡◌, IfOk, OnOk, ◌++◌};
+ghost use Rattle.std.specs.List.{flat_map};
 ghost use Rattle.input_files.specs.Unfetched.{texts_view};
-ghost use Rattle.program_files.specs.Meant.{AreWithin, MeansProgram};
-ghost use Rattle.smps_cli.specs.Trees.{MayBeSolvedOnTree, PrintsTreeReport};
+ghost use Rattle.program_files.specs.Meant.{AreWithin};
+ghost use Rattle.smps_cli.specs.Findings.{open_status};
+ghost use Rattle.smps_cli.specs.Inputs.{IsInput};
+ghost use Rattle.smps_cli.specs.Trees.{MayBeSolvedOnTree, PrintsReports, told_text, any_open};
 
 use crate::answer::Answer;
-use crate::show::stopped;
-use crate::solve::printed;
+use crate::input::{Input, read_input};
+use crate::refuse::stopped;
+use crate::solve::is_open;
+use crate::status::open_status;
 use command_words::Budget;
 use frac128::Memory;
 use input_files::Texts;
-use program_files::read_program;
-use scen_defs::Program;
-use smps_session::session;
+use smps_session::{Told, scripted};
 use std::alloc::Global;
 
-/// The answer for the texts of the files: the report of the program that they mean, or their first fault.
+/// The answer for the texts of the files: the reports of the program that they mean, or their first fault.
 pub(crate) fn solved_on_tree(alloc: Global, texts: &Texts, budget: Budget) -> Result<Answer, Memory>
     requires { AreWithin (texts_view texts.now) }
-    ensures { IfOk result (λ answer. MayBeSolvedOnTree (budget_view budget) (texts_view texts.now) answer.status answer.output.items) }
+    ensures { IfOk result (λ answer. MayBeSolvedOnTree budget (texts_view texts.now) answer.status answer.output.items) }
 {
-    match read_program(alloc, texts) {
-        Ok(program) => solved_program(alloc, texts, &program, budget),
+    match read_input(alloc, texts) {
+        Ok(mut input) => solved_input(alloc, texts, &mut input, budget),
         Err(unread) => stopped(alloc, unread),
     }
 }
 
-/// The answer for the program that the texts mean.
-fn solved_program(
+/// The answer for the input of the texts: solves it for each SOLVE.
+fn solved_input(
     alloc: Global,
     texts: &Texts,
-    program: &Program,
+    input: &mut Input,
     budget: Budget,
 ) -> Result<Answer, Memory>
-    requires means { MeansProgram (texts_view texts.now) (content program.now) }
-    requires keeps { IsProgram (content program.now) }
-    requires tree { IsTree (view_of (content program.now)) }
-    ensures { IfOk result (λ answer. PrintsTreeReport (budget_view budget) (texts_view texts.now) answer.output.items answer.status) }
+    requires { IsInput (texts_view texts.now) input.old }
+    ensures { IfOk result (λ answer. PrintsReports budget (texts_view texts.now) answer.status answer.output.items) }
 {
-    let report = session(alloc, program, budget.solves, budget.pivots)?;
-    printed(alloc, program, &report)
+    let _core = texts.core.len();
+    let tolds = scripted(
+        alloc,
+        &mut input.program,
+        &input.script,
+        budget.solves,
+        budget.pivots,
+    )?;
+    told(alloc, &tolds)
+}
+
+/// The answer that prints reports.
+fn told(alloc: Global, tolds: &[Told]) -> Result<Answer, Memory>
+    ensures { IfOk result (λ answer. (answer.output.items ≡ flat_map told_text tolds.now)
+        × (answer.status ≡ open_status (any_open tolds.now))) }
+{
+    let mut output = Vec::new(alloc);
+    print_reports(tolds, &mut output)?;
+    Ok(Answer {
+        status: open_status(any_open(tolds)),
+        output,
+    })
+}
+
+/// Appends the text of each report.
+fn print_reports(tolds: &[Told], out: &mut Vec<u8>) -> Result<(), Memory>
+    ensures { OnOk result (out.new.items ≡ out.old.items ++ flat_map told_text tolds.now) }
+{
+    for told in tolds {
+        out.extend_from_slice(&told.text)?;
+    }
+    Ok(())
+}
+
+/// Whether a report is open.
+fn any_open(tolds: &[Told]) -> bool
+    ensures { result ≡ any_open tolds.now }
+{
+    for told in tolds {
+        if is_open(told.finding) {
+            return true;
+        }
+    }
+    false
 }

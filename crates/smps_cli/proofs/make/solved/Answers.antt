@@ -1,0 +1,16 @@
+use Rattle.std.proofs.Common.{subst}
+use Rattle.scen_defs.specs.Program.{content}
+use Rattle.input_files.specs.Fetched.{Texts}
+use Rattle.program_files.specs.Meant.{MeansProgram}
+use Rattle.smps_cli.proofs.make.solved.Goals as goal
+
+pub returns : goal.returns
+returns c = record {
+  program = c.args.program.now;
+  means = subst (λ (texts : Texts). MeansProgram texts (content c.args.program.now)) c.requires.texts c.requires.means;
+  report = c.in_ok-report.report;
+  truth = c.in_ok-report.ensures.truth c.requires.tree;
+  counts = c.in_ok-report.ensures.counts c.requires.keeps.small;
+  text = c.in_ok-output.ensures;
+  told = c.command_status.ensures;
+}

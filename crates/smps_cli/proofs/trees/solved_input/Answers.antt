@@ -1,0 +1,25 @@
+use Rattle.std.proofs.Common.{rules, ◌≡◌, List, ap, ◌∙◌}
+use Rattle.std.specs.List.{flat_map}
+use Rattle.std.proofs.lemmas.Result.{IfOk-weaker}
+use Rattle.scen_defs.specs.Program.{content}
+use Rattle.input_files.specs.Unfetched.{texts_view}
+use Rattle.smps_session.specs.declared.told.Told.{Told}
+use Rattle.smps_cli.specs.Findings.{open_status}
+use Rattle.smps_cli.specs.Trees.{PrintsReports, told_text, any_open}
+use Rattle.smps_cli.proofs.trees.solved_input.Goals as goal
+
+pub returns : goal.returns
+returns c =
+    let all : c.deref.result.now ≡ c.in_ok-tolds.tolds.items = c.deref.ensures.value in
+    IfOk-weaker c.told.result _ (λ answer. PrintsReports c.args.budget (texts_view c.args.texts.now) answer.status answer.output.items)
+    (λ answer h. record {
+      program = content c.args.input.now.program;
+      means = c.requires.means;
+      items = c.args.input.now.script.items.items;
+      script = c.requires.script;
+      tolds = c.in_ok-tolds.tolds.items;
+      told = c.in_ok-tolds.ensures;
+      text = h.0 ∙ ap (flat_map told_text) all;
+      ends = h.1 ∙ ap (λ (tolds : List Told). open_status (any_open tolds)) all;
+    })
+    c.told.ensures

@@ -1,0 +1,13 @@
+use Rattle.std.proofs.Common.{arith, rules}
+use Rattle.smps_io.proofs.PutLemmas.{appends_more, rose_more}
+use Rattle.smps_cli.proofs.WriteLemmas.{appends_part}
+use Rattle.smps_cli.proofs.write.write_texts.Goals as goal
+
+pub loop-at-preserved : goal.loop-at-preserved
+loop-at-preserved g c = (
+  omega (arith, c.in_ok-count.ensures.some, c.text_at.ensures.within),
+  appends_more _ _ _ c.args.bytes.now c.loop-at.at c.in_ok-count.count c.loop-at.invariant.1
+      (appends_part _ _ c.args.bytes.now c.text_at.result.now c.loop-at.at c.in_ok-count.count c.text_at.ensures.part (omega (arith, c.in_ok-count.ensures.some)) c.in_ok-count.ensures.appended),
+  omega (arith, c.loop-at.invariant.2, c.put.ensures.cause.later),
+  rose_more _ _ _ c.loop-at.at c.in_ok-count.count c.loop-at.invariant.3 c.in_ok-count.ensures.counts,
+)

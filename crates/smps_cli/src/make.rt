@@ -1,0 +1,163 @@
+//! The command `make`.
+ghost use Rattle.std.specs.Prelude.{◌≡◌, ◌≤◌, true, leb, length, IfOk, IfSome};
+ghost use Rattle.scen_defs.specs.Program.{IsTree, content, view_of};
+ghost use Rattle.scen_defs.specs.Valid.{IsProgram};
+ghost use Rattle.input_files.specs.Fetched.{file_limit};
+ghost use Rattle.input_files.specs.Unfetched.{texts_view, given_bytes};
+ghost use Rattle.program_files.specs.Meant.{AreWithin, MeansProgram};
+ghost use Rattle.workload_maker.specs.Texts.{made_view};
+ghost use Rattle.smps_cli.specs.Findings.{command_status};
+ghost use Rattle.smps_cli.specs.Makes.{MakesPlan, MaySumUp, PrintsSummary, workload, page_text, texts_of};
+ghost use Rattle.smps_cli.specs.Makes.{plan_line, size_line, summary_text};
+
+use crate::answer::Answer;
+use crate::refuse::stopped;
+use crate::solve::command_status;
+use crate::status::Status;
+use command_words::{Page, Plan};
+use frac128::Memory;
+use input_files::{FILE_LIMIT, Texts};
+use program_files::read_program;
+use report_text::print_outcome;
+use scen_defs::{Program, Report};
+use smps_session::session;
+use std::alloc::Global;
+use workload_maker::{Made, make};
+
+/// So many solves, and so many pivots in each, are allowed for the report of a workload.
+const BUDGET: u64 = 100_000;
+
+/// The answer for a plan: the text that is asked for, or the summary.
+pub(crate) fn made(alloc: Global, plan: Plan) -> Result<Answer, Memory>
+    ensures { IfOk result (λ answer. MakesPlan plan answer.status answer.output.items) }
+{
+    let texts = make(alloc, plan.start, plan.stages, plan.branches, plan.size)?;
+    match plan.page {
+        Some(page) => Ok(Answer {
+            status: Status::Done,
+            output: page_of(texts, page),
+        }),
+        None => summed_up(alloc, plan, &texts_of(texts)),
+    }
+}
+
+/// A text of a workload.
+fn page_of(made: Made, page: Page) -> Vec<u8>
+    ensures { result.items ≡ page_text (made_view made) page }
+{
+    match page {
+        Page::Core => made.core,
+        Page::Time => made.time,
+        Page::Stoch => made.stoch,
+    }
+}
+
+/// The texts of a workload as those of files.
+fn texts_of(made: Made) -> Texts
+    ensures { texts_view result ≡ texts_of (made_view made) }
+{
+    Texts {
+        core: made.core,
+        time: Some(made.time),
+        stoch: Some(made.stoch),
+        edits: None,
+        report: None,
+    }
+}
+
+fn is_within(text: &[u8]) -> bool
+    ensures { result ≡ leb (length text.now) file_limit }
+{
+    text.len() as u64 <= FILE_LIMIT
+}
+
+fn is_within_if(text: &Option<Vec<u8>>) -> bool
+    ensures { result ≡ true → IfSome (given_bytes text.now) (λ bytes. length bytes ≤ file_limit) }
+{
+    match text {
+        Some(text) => is_within(text),
+        None => true,
+    }
+}
+
+/// Whether no text is longer than a file may be.
+fn are_within(texts: &Texts) -> bool
+    ensures { result ≡ true → AreWithin (texts_view texts.now) }
+{
+    is_within(&texts.core)
+        && is_within_if(&texts.time)
+        && is_within_if(&texts.stoch)
+        && is_within_if(&texts.edits)
+        && is_within_if(&texts.report)
+}
+
+/// The answer for the texts of a workload: the summary, or their first fault, which never comes. That they are too long never comes
+/// either, and is answered as want of memory.
+fn summed_up(alloc: Global, plan: Plan, texts: &Texts) -> Result<Answer, Memory>
+    requires { texts_view texts.now ≡ texts_of (workload plan) }
+    ensures { IfOk result (λ answer. MaySumUp plan answer.status answer.output.items) }
+{
+    if !are_within(texts) {
+        return Err(Memory);
+    }
+    match read_program(alloc, texts) {
+        Ok(program) => solved(alloc, plan, texts, &program),
+        Err(unread) => stopped(alloc, unread),
+    }
+}
+
+/// The answer for the program of a workload: solves it.
+fn solved(alloc: Global, plan: Plan, texts: &Texts, program: &Program) -> Result<Answer, Memory>
+    requires texts { texts_view texts.now ≡ texts_of (workload plan) }
+    requires means { MeansProgram (texts_view texts.now) (content program.now) }
+    requires keeps { IsProgram (content program.now) }
+    requires tree { IsTree (view_of (content program.now)) }
+    ensures { IfOk result (λ answer. PrintsSummary plan answer.status answer.output.items) }
+{
+    let _core = texts.core.len();
+    let report = session(alloc, program, BUDGET, BUDGET)?;
+    let output = summary(alloc, plan, program, &report)?;
+    Ok(Answer {
+        status: command_status(report.finding),
+        output,
+    })
+}
+
+/// The summary of a workload and its report.
+fn summary(alloc: Global, plan: Plan, program: &Program, report: &Report) -> Result<Vec<u8>, Memory>
+    ensures { IfOk result (λ text. text.items ≡ summary_text plan program.now report.now) }
+{
+    let mut text = plan_line(alloc, plan)?;
+    let sizes = size_line(alloc, program, report)?;
+    text.extend_from_slice(&sizes)?;
+    print_outcome(alloc, report, &mut text)?;
+    text.extend_from_slice(b"END\n")?;
+    Ok(text)
+}
+
+fn plan_line(alloc: Global, plan: Plan) -> Result<Vec<u8>, Memory>
+    ensures { IfOk result (λ text. text.items ≡ plan_line plan) }
+{
+    let Plan {
+        start,
+        stages,
+        branches,
+        size,
+        page: _,
+    } = plan;
+    let line = format!(in alloc; "MAKE {start} {stages} {branches} {size}\n")?;
+    Ok(Vec::from_slice(alloc, line.as_bytes())?)
+}
+
+fn size_line(alloc: Global, program: &Program, report: &Report) -> Result<Vec<u8>, Memory>
+    ensures { IfOk result (λ text. text.items ≡ size_line program.now report.now) }
+{
+    let nodes = report.nodes;
+    let scenarios = report.scenarios;
+    let columns = program.columns.len();
+    let rows = program.rows.len();
+    let line = format!(in alloc;
+        "NODES {nodes} SCENARIOS {scenarios} COLUMNS {columns} ROWS {rows}\n"
+    )?;
+    Ok(Vec::from_slice(alloc, line.as_bytes())?)
+}
