@@ -14,7 +14,7 @@ pub fn sentence(file: FileKind, cause: Cause) -> &'static str {
         Cause::ColumnSplit => "that column's lines don't stand together",
         Cause::EntryTwice => "that row is named twice",
         Cause::FieldCount => "that line has too many or too few fields",
-        Cause::NumberBad => "that field isn't a number",
+        Cause::NumberBad => no_number(file),
         Cause::NumberWide => "that number doesn't fit into 128 bits",
         Cause::BoundKind => "that bound's kind isn't LO, UP, FX, FR, MI or PL",
         Cause::BoundsCross => "that column's lower bound is above its upper bound",
@@ -39,7 +39,7 @@ pub fn sentence(file: FileKind, cause: Cause) -> &'static str {
         Cause::PlaceTwice => "that row or column stands on an earlier line",
         Cause::KindUnknown => "that section's words aren't known",
         Cause::EntryUnknown => "that column and row name no entry",
-        Cause::EntryStage => "that entry's period doesn't fit",
+        Cause::EntryStage => late(file),
         Cause::ProbabilityRange => "that probability isn't above 0, or is above 1",
         Cause::ProbabilitySum(_) => "the probabilities add up to a number too far from 1",
         Cause::ParentUnknown => "that parent isn't ROOT or an earlier scenario",
@@ -47,18 +47,46 @@ pub fn sentence(file: FileKind, cause: Cause) -> &'static str {
         Cause::ScenarioTwice => "that scenario's name was there before",
         Cause::ScenariosMixed => "SCENARIOS can't stand beside another kind of section",
         Cause::ScenarioLimit => "there are too many scenarios, nodes or entries",
-        Cause::CommandUnknown => "that command isn't known",
-        Cause::ScenarioUnknown => "no scenario has that name there",
-        Cause::NameTaken => "a scenario has that name already",
+        Cause::CommandUnknown => "that line's first word isn't SET, PROB, DROP, ADD, WORK or SOLVE",
+        Cause::ScenarioUnknown => "no scenario has that name behind the lines before",
+        Cause::NameTaken => "a scenario has that name behind the lines before",
         Cause::EditProbability => "that probability isn't above 0 and below 1",
-        Cause::LastScenario => "the only scenario can't be changed so",
-        Cause::EditEntryUnknown => "column and row name no entry",
-        Cause::ScriptLimit => "there are more than 10,000 commands",
-        Cause::Passes(_) => "an end of a row doesn't fit into 128 bits",
-        Cause::ReportBad => "that line isn't one of a report there",
+        Cause::LastScenario =>
+            "that scenario is the only one, so that it stays, and its probability is 1",
+        Cause::EditEntryUnknown => "that column and row name no entry",
+        Cause::ScriptLimit => "that command is the 10,001st, and an edit list has at most 10,000",
+        Cause::Passes(_) => passing(file),
+        Cause::ReportBad => "a report has another line there, or no further report is asked for",
         Cause::TraceBad => "that line isn't one of a trace there",
         Cause::FlatLimit => "the deterministic equivalent is too large for a core file",
         Cause::TailName => "a name of the core is one of TAIL_H, TAIL_U and TAIL_R",
+    }
+}
+
+/// What a field has to be.
+fn no_number(file: FileKind) -> &'static str {
+    match file {
+        FileKind::Edits =>
+            "that field isn't a number; behind WORK it is a whole number from 1 to 1,000,000",
+        _ => "that field isn't a number",
+    }
+}
+
+/// Which period doesn't fit.
+fn late(file: FileKind) -> &'static str {
+    match file {
+        FileKind::Edits => "that entry's column is of a later period than its row",
+        _ => "that entry's period doesn't fit",
+    }
+}
+
+/// What doesn't fit into 128 bits.
+fn passing(file: FileKind) -> &'static str {
+    match file {
+        FileKind::Edits =>
+            "behind that edit a probability or an end of a row doesn't fit into 128 bits",
+        FileKind::Stoch => "a value, a probability or an end of a row doesn't fit into 128 bits",
+        _ => "an end of a row doesn't fit into 128 bits",
     }
 }
 

@@ -16,7 +16,9 @@ pub fn name_of<'a>(sources: &Sources<'a>, file: FileKind) -> Option<&'a str> {
         FileKind::Core => Some(sources.core),
         FileKind::Time => sources.time,
         FileKind::Stoch => sources.stoch,
-        FileKind::Edits | FileKind::Report | FileKind::Trace => None,
+        FileKind::Edits => sources.edits,
+        FileKind::Report => sources.report,
+        FileKind::Trace => None,
     }
 }
 

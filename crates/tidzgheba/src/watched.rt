@@ -1,0 +1,40 @@
+//! An output whose lines are looked at on their way.
+use crate::open_lines::{OpenLines, Opens};
+use smps_io::{Sink, SinkFault};
+use std::rt::Runtime;
+
+/// An output that notes which kinds of OPEN the reports have that are written to it.
+#[derive(Drop)]
+pub struct Watched<K> {
+    sink: K,
+    lines: OpenLines,
+}
+
+impl<K: Sink> Watched<K> {
+    /// An output to which no report is written yet.
+    pub fn over(sink: K) -> Watched<K> {
+        Watched {
+            sink,
+            lines: OpenLines::new(),
+        }
+    }
+
+    /// The kinds of OPEN of the reports so far.
+    pub fn opens(&self) -> Opens {
+        self.lines.opens()
+    }
+}
+
+impl<K: Sink> Sink for Watched<K> {
+    ghost written = { λ s. K.written s.sink };
+
+    ghost faults = { λ s. K.faults s.sink };
+
+    ghost taken = { λ s. K.taken s.sink };
+
+    fn put<R: Runtime>(&mut self, rt: &R, bytes: &[u8]) -> Result<u64, SinkFault> {
+        let count = self.sink.put(rt, bytes)?;
+        self.lines.take(&bytes[..count as usize]);
+        Ok(count)
+    }
+}
