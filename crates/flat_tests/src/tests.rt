@@ -10,7 +10,8 @@ use std::alloc::Global;
 use std::test::Fail;
 
 const MIX: &[u8] =
-    b"NAME MIX\nROWS\n N COST\n L LIM1\n L LIM2\nCOLUMNS\n A COST -3 LIM1 1\n A LIM2 1\n B COST -2 LIM1 1\n B LIM2 3\nRHS\n RHS LIM1 4 LIM2 6\nENDATA\n";
+    b"NAME MIX\nROWS\n N COST\n L LIM1\n L LIM2\nCOLUMNS\n A COST -3 LIM1 1\n A LIM2 1\n B COST -2 LIM1 1\n B LIM2 3\n\
+    RHS\n RHS LIM1 4 LIM2 6\nENDATA\n";
 
 fn program(alloc: Global, text: &[u8]) -> Result<Program, Fail>
     requires { length text.now < 2 ^ 32 - 1 }

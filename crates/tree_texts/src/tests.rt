@@ -3,12 +3,11 @@ ghost use Rattle.std.specs.Prelude.{IfOk};
 ghost use Rattle.tree_build.specs.Values.{stages};
 ghost use Rattle.tree_build.specs.Walks.{Fits};
 
-mod outcome;
 mod programs;
 
 use core_defs::Core;
 use mps_core::read_core;
-use outcome::program_text;
+use program_notes::program_text;
 use programs::PROGRAMS;
 use scen_defs::Program;
 use smps_stoch::{Stoch, read_stoch};

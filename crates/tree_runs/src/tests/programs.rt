@@ -4,8 +4,9 @@
 ///   an expected profit of 108,390.
 /// - Three periods with independent cases in the third: the cost is 45/8 + 1 + 9/4 + 3/2 + 1/2.
 /// - The same with three solves, which are those of the nodes 0, 1 and 2: nothing is known yet.
-pub const PROGRAMS: &str = "\
-|0
+pub(super) const PROGRAMS: &str = "\
+solve --core C --time T --stoch S|0
+C
 NAME FARMER
 ROWS
  N COST
@@ -33,12 +34,14 @@ BOUNDS
  UP BND BSELL 6000
 ENDATA
 |
+T
 TIME FARMER
 PERIODS LP
  WHEAT LAND P1
  WBUY REQW P2
 ENDATA
 |
+S
 STOCH FARMER
 BLOCKS DISCRETE
  BL YIELD P2 .333333
@@ -64,44 +67,8 @@ UPPER -108390
 0 CORN 80
 0 BEETS 250
 END
-#|0
-NAME THREE
-ROWS
- N COST
- G R2
- G R3
- G R4
-COLUMNS
- X COST 1.875 R2 1
- X R3 1
- Y COST 2 R2 1
- Y R3 1
- V COST 3 R3 1
- W COST 1 R4 1
-ENDATA
-|
-TIME THREE
-PERIODS
- X COST P1
- Y R2 P2
- V R3 P3
-ENDATA
-|
-STOCH THREE
-BLOCKS DISCRETE
- BL A P2 0.5
- RHS R2 2
- BL A P2 0.5
- RHS R2 4
- BL B P3 0.5
- RHS R3 3
- BL B P3 0.5
- RHS R3 6
- BL C P3 0.5
- RHS R4 0
- BL C P3 0.5
- RHS R4 1
-ENDATA
+#solve --core C --time T --stoch S|0
+three
 |
 some
 REPORT 1 NODES 11 SCENARIOS 8
@@ -120,48 +87,11 @@ POLICY 10
 10 V 2
 10 W 1
 END
-#--solves 3|1
-NAME THREE
-ROWS
- N COST
- G R2
- G R3
- G R4
-COLUMNS
- X COST 1.875 R2 1
- X R3 1
- Y COST 2 R2 1
- Y R3 1
- V COST 3 R3 1
- W COST 1 R4 1
-ENDATA
-|
-TIME THREE
-PERIODS
- X COST P1
- Y R2 P2
- V R3 P3
-ENDATA
-|
-STOCH THREE
-BLOCKS DISCRETE
- BL A P2 0.5
- RHS R2 2
- BL A P2 0.5
- RHS R2 4
- BL B P3 0.5
- RHS R3 3
- BL B P3 0.5
- RHS R3 6
- BL C P3 0.5
- RHS R4 0
- BL C P3 0.5
- RHS R4 1
-ENDATA
+#solve --core C --time T --stoch S --solves 3|1
+three
 |
 REPORT 1 NODES 11 SCENARIOS 8
 STATUS OPEN SOLVES 3
 LOWER none
 UPPER none
-END
-";
+END";

@@ -1,32 +1,6 @@
 //! Programs of several periods. In the first, X costs 1 and is bought before the demand of 2 or 6 is known, Y costs 3/2 behind it: the
 //! cost x + 3/4 (2 - x) + 3/4 (6 - x), each part at least 0, has the slope -1/2 below 2 and 1/4 between 2 and 6.
 
-pub const COVER: &str = "\
-NAME COVER
-ROWS
- N COST
- G DEMAND
-COLUMNS
- X COST 1 DEMAND 1
- Y COST 3/2 DEMAND 1
-RHS
- RHS DEMAND 2
-ENDATA";
-
-pub const COVER_PERIODS: &str = "\
-TIME COVER
-PERIODS
- X COST P1
- Y DEMAND P2
-ENDATA";
-
-pub const COVER_CASES: &str = "\
-STOCH COVER
-INDEP DISCRETE
- RHS DEMAND 2 P2 0.5
- RHS DEMAND 6 P2 0.5
-ENDATA";
-
 /// - Y at 3: the slope is -1/2 between 2 and 6 too, so X is 6.
 /// - Bounds of 3 and 1: the demand of 6 lacks 6 - 3 - 1 = 2.
 /// - A free W that costs -1 at each node of the second period: the cost falls for ever; without it X is 0 and Y meets the demand.
@@ -36,12 +10,8 @@ ENDATA";
 /// - Probabilities of 0.5005 and 0.5 add up to 2001/2000 and are divided by that: 1001/2001 and 1000/2001. X is 2, and 4 are to be
 ///   bought with 1000/2001: 2 + 6000/2001 = 3334/667.
 /// - One period: X meets the demand alone. A stoch file without cases: the same, since the demand of 2 is certain.
-pub const TREES: &str = "\
-|0
-cover
-|
-cover
-|
+pub(super) const TREES: &str = "\
+solve --core C --time T --stoch S|0
 cover
 |
 REPORT 1 NODES 3 SCENARIOS 2
@@ -55,8 +25,8 @@ DUAL 2
 1 DEMAND 1/4
 2 DEMAND 3/4
 END
-
-#|0
+#solve --core C --time T --stoch S|0
+C
 NAME COVER
 ROWS
  N COST
@@ -70,8 +40,6 @@ ENDATA
 |
 cover
 |
-cover
-|
 some
 STATUS OPTIMAL
 LOWER 6
@@ -79,24 +47,8 @@ UPPER 6
 POLICY 1
 0 X 6
 END
-#|0
-NAME COVER
-ROWS
- N COST
- G DEMAND
-COLUMNS
- X COST 1 DEMAND 1
- Y COST 3/2 DEMAND 1
-RHS
- RHS DEMAND 2
-BOUNDS
- UP BND X 3
- UP BND Y 1
-ENDATA
-|
-cover
-|
-cover
+#solve --core C --time T --stoch S|0
+bounded
 |
 REPORT 1 NODES 3 SCENARIOS 2
 STATUS INFEASIBLE
@@ -106,25 +58,8 @@ VALUE 2
 RAY 1
 2 DEMAND 1
 END
-
-#|0
-NAME COVER
-ROWS
- N COST
- G DEMAND
-COLUMNS
- X COST 1 DEMAND 1
- Y COST 3/2 DEMAND 1
- W COST -1
-RHS
- RHS DEMAND 2
-BOUNDS
- FR BND W
-ENDATA
-|
-cover
-|
-cover
+#solve --core C --time T --stoch S|0
+falling
 |
 REPORT 1 NODES 3 SCENARIOS 2
 STATUS UNBOUNDED
@@ -138,8 +73,8 @@ DIRECTION 2
 1 W 1
 2 W 1
 END
-
-#|0
+#solve --core C --time T --stoch S|0
+C
 NAME COVER
 ROWS
  N COST
@@ -151,13 +86,14 @@ RHS
  RHS DEMAND -2
 ENDATA
 |
-cover
-|
+S
 STOCH COVER
 INDEP DISCRETE
  RHS DEMAND -2 P2 0.5
  RHS DEMAND -6 P2 0.5
 ENDATA
+|
+cover
 |
 REPORT 1 NODES 3 SCENARIOS 2
 STATUS OPTIMAL
@@ -168,18 +104,16 @@ POLICY 1
 DUAL 1
 1 DEMAND 1
 END
-
-#|0
-cover
-|
-cover
-|
+#solve --core C --time T --stoch S|0
+S
 SCENARIOS DISCRETE
  SC SCEN1 ROOT 0.5 P2
  RHS DEMAND 2
  SC SCEN2 SCEN1 0.5 P1
  RHS DEMAND 6
 ENDATA
+|
+cover
 |
 REPORT 1 NODES 3 SCENARIOS 2
 STATUS OPTIMAL
@@ -192,10 +126,8 @@ DUAL 2
 1 DEMAND 1/4
 2 DEMAND 3/4
 END
-
-#|0
-cover
-|
+#solve --core C --time T --stoch S|0
+T
 TIME COVER
 PERIODS EXPLICIT
  P1
@@ -207,11 +139,14 @@ COLUMNS
  X P1
 ENDATA
 |
+S
 STOCH COVER
 INDEP DISCRETE ADD
  RHS DEMAND 0 P2 0.5
  RHS DEMAND 4 P2 0.5
 ENDATA
+|
+cover
 |
 REPORT 1 NODES 3 SCENARIOS 2
 STATUS OPTIMAL
@@ -224,18 +159,16 @@ DUAL 2
 1 DEMAND 1/4
 2 DEMAND 3/4
 END
-
-#|0
-cover
-|
-cover
-|
+#solve --core C --time T --stoch S|0
+S
 STOCH COVER
 INDEP DISCRETE
  RHS DEMAND 1 P2 1/7
  RHS DEMAND 2 P2 2/7
  RHS DEMAND 4 P2 4/7
 ENDATA
+|
+cover
 |
 REPORT 1 NODES 4 SCENARIOS 3
 STATUS OPTIMAL
@@ -248,17 +181,15 @@ DUAL 2
 2 DEMAND 1/7
 3 DEMAND 6/7
 END
-
-#|0
-cover
-|
-cover
-|
+#solve --core C --time T --stoch S|0
+S
 STOCH COVER
 INDEP DISCRETE
  RHS DEMAND 2 P2 0.5005
  RHS DEMAND 6 P2 0.5
 ENDATA
+|
+cover
 |
 REPORT 1 NODES 3 SCENARIOS 2
 STATUS OPTIMAL
@@ -271,14 +202,12 @@ DUAL 2
 1 DEMAND 167/667
 2 DEMAND 500/667
 END
-
-#|0
-cover
-|
-cover
-|
+#solve --core C --time T --stoch S|0
+S
 STOCH COVER
 ENDATA
+|
+cover
 |
 REPORT 1 NODES 2 SCENARIOS 1
 STATUS OPTIMAL
@@ -289,17 +218,18 @@ POLICY 1
 DUAL 1
 1 DEMAND 1
 END
-
-#|0
-cover
-|
+#solve --core C --time T --stoch S|0
+T
 TIME COVER
 PERIODS
  X COST P1
 ENDATA
 |
+S
 STOCH COVER
 ENDATA
+|
+cover
 |
 REPORT 1 NODES 1 SCENARIOS 1
 STATUS OPTIMAL
@@ -310,23 +240,19 @@ POLICY 1
 DUAL 1
 0 DEMAND 1
 END
-
-#|3
-cover
-|
-cover
-|
+#solve --core C --time T --stoch S|3
+S
 STOCH COVER
 INDEP DISCRETE
  RHS DEMAND 2 P2 0.5
  RHS DEMAND 6 P2 0.4
 ENDATA
 |
-refused stoch line 5: 44 9/10
-
-#|3
 cover
 |
+refused stoch line 5: 44 9/10
+#solve --core C --time T --stoch S|3
+T
 TIME COVER
 PERIODS
  Y DEMAND P2
@@ -335,5 +261,4 @@ ENDATA
 |
 cover
 |
-refused time line 3: 31
-";
+refused time line 3: 31";

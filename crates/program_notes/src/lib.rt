@@ -1,11 +1,12 @@
-//! A program, as a text.
-use frac128::{Form, Frac, print};
+//! A program as a text that shows its nodes too, for tests.
+#![tactic(auto)]
+
+use frac128::{Form, Frac, Memory, print};
 use report_text::print_program;
 use scen_defs::{Node, NodeRow, Program};
 use std::alloc::Global;
-use std::test::Fail;
 
-fn push_terms(alloc: Global, text: &mut Vec<u8>, before: &str, form: &Form) -> Result<(), Fail> {
+fn push_terms(alloc: Global, text: &mut Vec<u8>, before: &str, form: &Form) -> Result<(), Memory> {
     for term in form.terms() {
         let column = term.column;
         let head = format!(in alloc; " {before}{column}=")?;
@@ -15,7 +16,7 @@ fn push_terms(alloc: Global, text: &mut Vec<u8>, before: &str, form: &Form) -> R
     Ok(())
 }
 
-fn push_end(alloc: Global, text: &mut Vec<u8>, end: Option<Frac>) -> Result<(), Fail> {
+fn push_end(alloc: Global, text: &mut Vec<u8>, end: Option<Frac>) -> Result<(), Memory> {
     match end {
         Some(value) => print(alloc, value, text)?,
         None => text.extend_from_slice(b"*")?,
@@ -24,7 +25,7 @@ fn push_end(alloc: Global, text: &mut Vec<u8>, end: Option<Frac>) -> Result<(), 
 }
 
 /// The number, the entries by column and the interval.
-fn push_row(alloc: Global, text: &mut Vec<u8>, row: &NodeRow) -> Result<(), Fail> {
+fn push_row(alloc: Global, text: &mut Vec<u8>, row: &NodeRow) -> Result<(), Memory> {
     let number = row.row;
     let head = format!(in alloc; " r{number}")?;
     text.extend_from_slice(head.as_bytes())?;
@@ -38,7 +39,7 @@ fn push_row(alloc: Global, text: &mut Vec<u8>, row: &NodeRow) -> Result<(), Fail
 }
 
 /// The stage, the parent, the costs by column and the rows.
-fn push_node(alloc: Global, text: &mut Vec<u8>, node: &Node) -> Result<(), Fail> {
+fn push_node(alloc: Global, text: &mut Vec<u8>, node: &Node) -> Result<(), Memory> {
     let stage = node.stage;
     let head = match node.parent {
         Some(parent) => format!(in alloc; "{stage} {parent}")?,
@@ -53,8 +54,9 @@ fn push_node(alloc: Global, text: &mut Vec<u8>, node: &Node) -> Result<(), Fail>
     Ok(())
 }
 
-/// The text of a program, and then its nodes.
-pub(super) fn program_text(alloc: Global, program: &Program) -> Result<Vec<u8>, Fail> {
+/// The text of a program as it is shown, and then a line for each place of its nodes: the stage, the parent, the costs by column,
+/// and for each row the entries by column and the interval; or `dropped`.
+pub fn program_text(alloc: Global, program: &Program) -> Result<Vec<u8>, Memory> {
     let mut text = Vec::new(alloc);
     print_program(alloc, program, &mut text)?;
     for slot in &program.nodes {

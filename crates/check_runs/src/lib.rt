@@ -1,0 +1,5 @@
+//! Tests of whole runs of `check`.
+#![tactic(auto)]
+
+#[cfg(test)]
+mod tests;

@@ -1,0 +1,535 @@
+//! Runs of `solve` with an edit list.
+//!
+//! In their order:
+//!
+//! - a demand of 10 in place of 6: 2 + 1/2 * 3/2 * 8; a scenario that goes; both ends 35/4 where at most 5 are bought behind the demand,
+//!   since X is 5 then: 5 + 1/2 * 3/2 * 5; an empty list; a scenario like the second: between X at 2 and at 6 the slope is 0
+//! - the same report twice; a scenario that goes and comes again, with another node; a probability of 3/4: the slope is -1/2 below 2 and
+//!   5/8 above, 2 + 1/4 * 3/2 * 4; X at 2 is never bought: 1/2 * 3 + 1/2 * 9; an edit that is taken back
+//! - a program that isn't infeasible any more: 3 + 1/2 * 3/2; a list of one report; one that isn't unbounded any more
+//! - three periods, of which one scenario is left: X at 3 meets both demands, 3 * 15/8
+//! - a core alone
+//! - open reports, before a report, between two, and twice
+//! - a sink that fails behind the first report, which is whole then; before it, and before the line of a refusal
+/// In the form of a run.
+pub(super) const SOLVES: &str = "\
+solve --core C --time T --stoch S --edits E|0
+cover
+|
+E
+SOLVE
+SET S2 RHS DEMAND 10
+|
+REPORT 1 NODES 3 SCENARIOS 2
+STATUS OPTIMAL
+LOWER 5
+UPPER 5
+POLICY 2
+0 X 2
+2 Y 4
+DUAL 2
+1 DEMAND 1/4
+2 DEMAND 3/4
+END
+REPORT 2 NODES 3 SCENARIOS 2
+STATUS OPTIMAL
+LOWER 8
+UPPER 8
+POLICY 2
+0 X 2
+2 Y 8
+DUAL 2
+1 DEMAND 1/4
+2 DEMAND 3/4
+END
+#solve --core C --time T --stoch S --edits E|0
+cover
+|
+E
+SOLVE
+DROP S2
+|
+REPORT 1 NODES 3 SCENARIOS 2
+STATUS OPTIMAL
+LOWER 5
+UPPER 5
+POLICY 2
+0 X 2
+2 Y 4
+DUAL 2
+1 DEMAND 1/4
+2 DEMAND 3/4
+END
+REPORT 2 NODES 2 SCENARIOS 1
+STATUS OPTIMAL
+LOWER 2
+UPPER 2
+POLICY 1
+0 X 2
+DUAL 1
+1 DEMAND 1
+END
+#solve --core C --time T --stoch S --edits E|0
+C
+NAME COVER
+ROWS
+ N COST
+ G DEMAND
+COLUMNS
+ X COST 1 DEMAND 1
+ Y COST 3/2 DEMAND 1
+RHS
+ RHS DEMAND 2
+BOUNDS
+ UP BND Y 5
+ENDATA
+|
+cover
+|
+E
+WORK 2
+SET S2 RHS DEMAND 10
+SOLVE
+|
+REPORT 1 NODES 3 SCENARIOS 2
+STATUS OPTIMAL
+LOWER 35/4
+UPPER 35/4
+POLICY 2
+0 X 5
+2 Y 5
+DUAL 1
+2 DEMAND 1
+END
+#solve --core C --time T --stoch S --edits E|0
+cover
+|
+E
+|
+REPORT 1 NODES 3 SCENARIOS 2
+STATUS OPTIMAL
+LOWER 5
+UPPER 5
+POLICY 2
+0 X 2
+2 Y 4
+DUAL 2
+1 DEMAND 1/4
+2 DEMAND 3/4
+END
+#solve --core C --time T --stoch S --edits E|0
+cover
+|
+E
+ADD S3 S2 1/3 P2
+|
+some
+REPORT 1 NODES 4 SCENARIOS 3
+STATUS OPTIMAL
+LOWER 6
+UPPER 6
+END
+#solve --core C --time T --stoch S --edits E|0
+cover
+|
+E
+* twice the same
+SOLVE
+ SOLVE
+|
+REPORT 1 NODES 3 SCENARIOS 2
+STATUS OPTIMAL
+LOWER 5
+UPPER 5
+POLICY 2
+0 X 2
+2 Y 4
+DUAL 2
+1 DEMAND 1/4
+2 DEMAND 3/4
+END
+REPORT 2 NODES 3 SCENARIOS 2
+STATUS OPTIMAL
+LOWER 5
+UPPER 5
+POLICY 2
+0 X 2
+2 Y 4
+DUAL 2
+1 DEMAND 1/4
+2 DEMAND 3/4
+END
+#solve --core C --time T --stoch S --edits E|0
+cover
+|
+E
+DROP S1
+SOLVE
+ADD S1 S2 1/2 P2
+SET S1 RHS DEMAND 2
+|
+REPORT 1 NODES 2 SCENARIOS 1
+STATUS OPTIMAL
+LOWER 6
+UPPER 6
+POLICY 1
+0 X 6
+DUAL 1
+2 DEMAND 1
+END
+REPORT 2 NODES 3 SCENARIOS 2
+STATUS OPTIMAL
+LOWER 5
+UPPER 5
+POLICY 2
+0 X 2
+2 Y 4
+DUAL 2
+2 DEMAND 3/4
+3 DEMAND 1/4
+END
+#solve --core C --time T --stoch S --edits E|0
+cover
+|
+E
+PROB S1 3/4
+|
+REPORT 1 NODES 3 SCENARIOS 2
+STATUS OPTIMAL
+LOWER 7/2
+UPPER 7/2
+POLICY 2
+0 X 2
+2 Y 4
+DUAL 2
+1 DEMAND 5/8
+2 DEMAND 3/8
+END
+#solve --core C --time T --stoch S --edits E|0
+cover
+|
+E
+SET S1 X COST 2
+|
+REPORT 1 NODES 3 SCENARIOS 2
+STATUS OPTIMAL
+LOWER 6
+UPPER 6
+POLICY 2
+1 Y 2
+2 Y 6
+DUAL 2
+1 DEMAND 3/4
+2 DEMAND 3/4
+END
+#solve --core C --time T --stoch S --edits E|0
+cover
+|
+E
+SET S2 RHS DEMAND 10
+SET S2 RHS DEMAND 6
+SOLVE
+|
+REPORT 1 NODES 3 SCENARIOS 2
+STATUS OPTIMAL
+LOWER 5
+UPPER 5
+POLICY 2
+0 X 2
+2 Y 4
+DUAL 2
+1 DEMAND 1/4
+2 DEMAND 3/4
+END
+#solve --core C --time T --stoch S --edits E|0
+bounded
+|
+E
+SOLVE
+SET S2 RHS DEMAND 4
+SOLVE
+|
+some
+REPORT 1 NODES 3 SCENARIOS 2
+STATUS INFEASIBLE
+LOWER none
+UPPER none
+VALUE 2
+RAY 1
+2 DEMAND 1
+END
+REPORT 2 NODES 3 SCENARIOS 2
+STATUS OPTIMAL
+LOWER 15/4
+UPPER 15/4
+POLICY 2
+0 X 3
+2 Y 1
+END
+#solve --core C --time T --stoch S --edits E|0
+cover
+|
+E
+SOLVE
+|
+REPORT 1 NODES 3 SCENARIOS 2
+STATUS OPTIMAL
+LOWER 5
+UPPER 5
+POLICY 2
+0 X 2
+2 Y 4
+DUAL 2
+1 DEMAND 1/4
+2 DEMAND 3/4
+END
+#solve --core C --time T --stoch S --edits E|0
+falling
+|
+E
+SOLVE
+SET S1 W COST 0
+SET S2 W COST 0
+|
+some
+REPORT 1 NODES 3 SCENARIOS 2
+STATUS UNBOUNDED
+LOWER none
+UPPER 6
+SLOPE -1
+POLICY 2
+1 Y 2
+2 Y 6
+DIRECTION 2
+1 W 1
+2 W 1
+END
+REPORT 2 NODES 3 SCENARIOS 2
+STATUS OPTIMAL
+LOWER 5
+UPPER 5
+0 X 2
+2 Y 4
+DUAL 2
+1 DEMAND 1/4
+2 DEMAND 3/4
+END
+#solve --core C --time T --stoch S --edits E|0
+three
+|
+E
+SOLVE
+DROP S2
+DROP S3
+DROP S4
+DROP S5
+DROP S6
+DROP S7
+DROP S8
+|
+some
+REPORT 1 NODES 11 SCENARIOS 8
+STATUS OPTIMAL
+LOWER 87/8
+UPPER 87/8
+0 X 3
+10 W 1
+END
+REPORT 2 NODES 3 SCENARIOS 1
+STATUS OPTIMAL
+LOWER 45/8
+UPPER 45/8
+POLICY 1
+0 X 3
+2 R3 15/8
+END
+#solve --core C --edits E|0
+C
+ROWS
+ N COST
+ G NEED
+COLUMNS
+ X COST 1 NEED 1
+RHS
+ RHS NEED 5
+ENDATA
+|
+E
+SOLVE
+SET S1 RHS NEED 7
+|
+REPORT 1 NODES 1 SCENARIOS 1
+STATUS OPTIMAL
+LOWER 5
+UPPER 5
+POLICY 1
+0 X 5
+DUAL 1
+0 NEED 1
+END
+REPORT 2 NODES 1 SCENARIOS 1
+STATUS OPTIMAL
+LOWER 7
+UPPER 7
+POLICY 1
+0 X 7
+DUAL 1
+0 NEED 1
+END
+#solve --core C --edits E|0
+C
+ROWS
+ N COST
+ G NEED
+COLUMNS
+ X COST 1 NEED 1
+RHS
+ RHS NEED 5
+ENDATA
+|
+E
+|
+REPORT 1 NODES 1 SCENARIOS 1
+STATUS OPTIMAL
+LOWER 5
+UPPER 5
+POLICY 1
+0 X 5
+DUAL 1
+0 NEED 1
+END
+#solve --core C --edits E|1
+C
+ROWS
+ N COST
+ G NEED
+COLUMNS
+ X COST 1E20 NEED 1
+RHS
+ RHS NEED 1E20
+ENDATA
+|
+E
+SOLVE
+SET S1 RHS NEED 1
+|
+REPORT 1 NODES 1 SCENARIOS 1
+STATUS OPEN PASSED COST 1 MUL 100000000000000000000 100000000000000000000
+LOWER none
+UPPER none
+END
+REPORT 2 NODES 1 SCENARIOS 1
+STATUS OPTIMAL
+LOWER 100000000000000000000
+UPPER 100000000000000000000
+POLICY 1
+0 X 1
+DUAL 1
+0 NEED 100000000000000000000
+END
+#solve --core C --edits E|1
+C
+ROWS
+ N COST
+ G NEED
+COLUMNS
+ X COST 1E20 NEED 1
+RHS
+ RHS NEED 1
+ENDATA
+|
+E
+SOLVE
+SET S1 RHS NEED 1E20
+SOLVE
+SET S1 RHS NEED 2
+|
+some
+REPORT 1 NODES 1 SCENARIOS 1
+STATUS OPTIMAL
+LOWER 100000000000000000000
+UPPER 100000000000000000000
+POLICY 1
+0 X 1
+DUAL 1
+0 NEED 100000000000000000000
+END
+REPORT 2 NODES 1 SCENARIOS 1
+LOWER none
+UPPER none
+END
+REPORT 3 NODES 1 SCENARIOS 1
+STATUS OPTIMAL
+LOWER 200000000000000000000
+UPPER 200000000000000000000
+POLICY 1
+0 X 2
+DUAL 1
+0 NEED 100000000000000000000
+END
+#solve --core C --time T --stoch S --edits E --solves 3|1
+three
+|
+E
+|
+REPORT 1 NODES 11 SCENARIOS 8
+STATUS OPEN SOLVES 3
+LOWER none
+UPPER none
+END
+#solve --core C --time T --stoch S --edits=E --solves 3|1
+cover
+|
+E
+SOLVE
+SOLVE
+|
+REPORT 1 NODES 3 SCENARIOS 2
+STATUS OPEN SOLVES 3
+LOWER none
+UPPER 6
+POLICY 2
+1 Y 2
+2 Y 6
+END
+REPORT 2 NODES 3 SCENARIOS 2
+STATUS OPEN SOLVES 3
+LOWER none
+UPPER 6
+POLICY 2
+1 Y 2
+2 Y 6
+END
+#solve --core C --time T --stoch S --edits E|4|2
+cover
+|
+E
+SOLVE
+SET S2 RHS DEMAND 10
+|
+REPORT 1 NODES 3 SCENARIOS 2
+STATUS OPTIMAL
+LOWER 5
+UPPER 5
+POLICY 2
+0 X 2
+2 Y 4
+DUAL 2
+1 DEMAND 1/4
+2 DEMAND 3/4
+END
+#solve --core C --time T --stoch S --edits E|4|1
+cover
+|
+E
+SOLVE
+SET S2 RHS DEMAND 10
+|
+
+#solve --core C --time T --stoch S --edits E|4|1
+cover
+|
+E
+NONE
+|
+";
