@@ -119,23 +119,31 @@ fn printed_line(part: &str) -> Option<&str> {
     Some(line)
 }
 
-/// Whether a file is answered with this line. A core file is solved; a time file is shown with the core of `cover`, and a
-/// stoch file with its core and its time file.
+/// Whether a file is answered with this line.
 fn is_refused<R: Runtime>(
     rt: &R,
     alloc: Global,
     file: &[u8],
     line: &str,
 ) -> Result<bool, AllocError> {
-    let words = if line.starts_with("refused time") {
+    let expected = format!(in alloc; "{line}\n")?;
+    is_answered(rt, alloc, words_for(line), file, expected.as_bytes())
+}
+
+/// The words whose file F is the one that this line refuses. A core file is solved by itself; any other is read with the files of
+/// `cover` before it.
+fn words_for(line: &str) -> &'static str {
+    if line.starts_with("refused time") {
         "show --core COVER --time F"
     } else if line.starts_with("refused stoch") {
         "show --core COVER --time TIMES --stoch F"
+    } else if line.starts_with("refused edits") {
+        "show --core COVER --time TIMES --stoch CASES --edits F"
+    } else if line.starts_with("refused report") {
+        "check --core COVER --time TIMES --stoch CASES --report F"
     } else {
         "solve --core F"
-    };
-    let expected = format!(in alloc; "{line}\n")?;
-    is_answered(rt, alloc, words, file, expected.as_bytes())
+    }
 }
 
 /// Whether a run with these words, over this file F and the files of `cover`, writes just this.
@@ -159,6 +167,10 @@ fn is_answered<R: Runtime>(
         (
             String::from_str(alloc, "TIMES")?,
             TIMES.as_bytes().to_vec(alloc)?
+        ),
+        (
+            String::from_str(alloc, "CASES")?,
+            CASES.as_bytes().to_vec(alloc)?
         ),
     ]?;
     let mut sink = MemorySink::new(alloc, 4096, Vec::new(alloc));
