@@ -10,7 +10,7 @@ use Rattle.rationals.specs.Passes.{wide}
 use Rattle.frac128.specs.declared.text.NumFault.TheVariants.{Wide}
 use Rattle.frac128.specs.Literals.{LiteralLaws}
 use Rattle.frac128.specs.Numbers.{choose, decimal_value, power_value}
-use Rattle.frac128.specs.Ratio.{signed}
+use Rattle.ratio128.specs.Ratio.{signed}
 use Rattle.frac128.proofs.ParseLemmas.{ten_pos}
 use Rattle.frac128.proofs.LiteralLemmas.{decimal_found}
 use Rattle.frac128.proofs.ReadBack.{read_back, trims, zero_is}

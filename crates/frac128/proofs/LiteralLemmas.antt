@@ -10,7 +10,7 @@ use Rattle.rationals.specs.Passes.{wide}
 use Rattle.frac128.specs.declared.text.NumFault.TheVariants.{Wide}
 use Rattle.frac128.specs.Numbers.{choose, number, number_from, is_nothing, exponent, with_exponent, decimal_literal, literal_value, decimal_value, power_value, trim}
 use Rattle.frac128.specs.Numbers.Literal.{no_number}
-use Rattle.frac128.specs.Ratio.{signed}
+use Rattle.ratio128.specs.Ratio.{signed}
 use Rattle.frac128.specs.Significand.{IsTrimmed, IsTooLong, AllDigits}
 use Rattle.frac128.proofs.ParseLemmas.{wide_where}
 use Rattle.frac128.proofs.SignificandLemmas.{long_on, one_zero, ten_times}

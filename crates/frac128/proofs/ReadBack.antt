@@ -9,7 +9,7 @@ use Rattle.std.proofs.lemmas.Fmt.{decimal_by_steps_wide}
 use native.Mathlib.Nat.{pow-zero}
 use Rattle.rationals.specs.Rational.{ℚ, ◌÷◌, zero_ℚ, frac_self}
 use Rattle.rationals.specs.Passes.{wide}
-use Rattle.frac128.specs.Ratio.{signed}
+use Rattle.ratio128.specs.Ratio.{signed}
 use Rattle.frac128.specs.Text.{text_of, text_by}
 use Rattle.frac128.specs.Numbers.{choose, slash, decimal_literal, with_exponent, is_digit, digits, after_digits, number, is_nothing, is_negative, after_sign, plus, minus, literal, literal_after, fraction_literal, literal_value, decimal_value, power_value, read_number}
 use Rattle.frac128.specs.Numbers.Literal.{no_number, fraction}

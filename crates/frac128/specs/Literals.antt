@@ -3,7 +3,7 @@ use Rattle.std.specs.Prelude.{◌≡◌, ℕ, pos, negsuc, ◌*◌, ◌^◌, ◌
 use Rattle.rationals.specs.Rational.{ℚ, ◌÷◌}
 use Rattle.frac128.specs.Numbers.{literal_value, read_number}
 use Rattle.frac128.specs.Numbers.Literal.{fraction, decimal}
-use Rattle.frac128.specs.Ratio.{signed}
+use Rattle.ratio128.specs.Ratio.{signed}
 use Rattle.frac128.specs.Text.{text_of}
 
 pub record LiteralLaws : Type 0 where

@@ -7,20 +7,14 @@ mod edge_tests;
 mod form;
 mod frac_step;
 mod fraction;
-mod gcd;
 mod literal;
 mod memory;
-mod order;
-mod parts;
 mod passed;
 mod significand;
-mod step;
 mod term;
 #[cfg(test)]
 mod tests;
 mod text;
-mod wide;
-mod wide_parts;
 
 pub use form::{Form, FormFault, value_in};
 pub use fraction::Frac;

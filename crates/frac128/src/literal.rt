@@ -1,5 +1,6 @@
 // The parts of a number's text: sign, exponent, decimal digits, fraction.
-ghost use Rattle.std.specs.Prelude.{◌≡◌, pos, true, ◌≢◌, ◌<◌, ◌≤◌, ◌-◌, ◌*◌, ◌+◌, ◌^◌, ◌%◌, length, ◌+ℤ◌, neg_ℤ};
+ghost use Rattle.std.specs.Prelude.{◌≡◌, pos, true, ◌≢◌, ◌<◌, ◌≤◌, ◌-◌, ◌*◌, ◌+◌, ◌^◌, ◌%◌};
+ghost use Rattle.std.specs.Prelude.{length, ◌+ℤ◌, neg_ℤ};
 ghost use Rattle.frac128.specs.Numbers.{number, is_negative, after_sign, is_short, exponent, power_value, decimal_literal};
 ghost use Rattle.frac128.specs.Numbers.{fraction_literal, literal_value};
 ghost use Rattle.frac128.specs.Significand.{AllDigits};

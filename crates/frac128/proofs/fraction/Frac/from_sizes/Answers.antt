@@ -1,5 +1,5 @@
 use Rattle.std.proofs.Common.{sym}
-use Rattle.frac128.specs.Ratio.{signed}
+use Rattle.ratio128.specs.Ratio.{signed}
 use Rattle.frac128.proofs.Bridge.{lowest_value}
 use Rattle.frac128.proofs.fraction.Frac.from_sizes.Goals as goal
 

@@ -2,7 +2,7 @@ use Rattle.std.proofs.Common.{sym, ap₂, ◌∙◌, eqb-true}
 use Rattle.std.proofs.lemmas.Bool.{eq-eqb}
 use Rattle.rationals.specs.Rational.{◌÷◌, laws}
 use Rattle.frac128.proofs.Bridge.{one_parts}
-use Rattle.frac128.proofs.RatioLemmas.{passed}
+use Rattle.ratio128.proofs.RatioLemmas.{passed}
 use Rattle.frac128.proofs.fraction.Frac.is_one.Goals as goal
 
 pub returns-then-is_one_int : goal.returns-then-is_one_int

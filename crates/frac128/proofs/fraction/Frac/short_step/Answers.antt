@@ -1,5 +1,5 @@
 use Rattle.std.proofs.Common.{sym, subst}
-use Rattle.frac128.specs.Ratio.{Fits}
+use Rattle.ratio128.specs.Ratio.{Fits}
 use Rattle.frac128.proofs.Bridge.{step_found, step_value}
 use Rattle.frac128.proofs.fraction.Frac.short_step.Goals as goal
 
