@@ -1,6 +1,8 @@
 -- Rational numbers: fractions with the least denominator.
-use Rattle.std.proofs.Common.{zero-lt-suc, le_refl, ◌↔◌, T, ◌≡◌, ℕ, zero, suc, ◌+◌, ◌*◌, ◌/◌, ◌%◌, ◌<◌, ◌≤◌, ℤ, pos, negsuc, ◌+ℤ◌, ◌*ℤ◌}
-use Rattle.std.proofs.Common.{neg_ℤ, ◌≤ℤ◌, ◌<ℤ◌, ◌⊎◌, inl, inr, List, [], ◌∷◌, refl, sym, ap, ap₂, ◌∙◌, subst, arith, eqb, Bool, true}
+use Rattle.std.proofs.Common.{zero-lt-suc, le_refl, ◌↔◌, T, ◌≡◌, ℕ, zero, suc, ◌+◌, ◌*◌, ◌/◌, ◌%◌, ◌<◌}
+use Rattle.std.proofs.Common.{◌≤◌, ℤ, pos, negsuc, ◌+ℤ◌, ◌*ℤ◌}
+use Rattle.std.proofs.Common.{neg_ℤ, ◌≤ℤ◌, ◌<ℤ◌, ◌⊎◌, inl, inr, List, [], ◌∷◌, refl, sym, ap, ap₂, ◌∙◌}
+use Rattle.std.proofs.Common.{subst, arith, eqb, Bool, true}
 use Rattle.std.proofs.Common.{false, eqb-true, div-add-mod', subst₂, mul-pos, ⊎_elim}
 use Rattle.std.proofs.lemmas.Bool.{eqb-false}
 use Rattle.std.proofs.lemmas.Int.{ints}
@@ -62,7 +64,8 @@ divides d (pos a) h = go (nat_divides d a h)
         no (negsuc q) e = omega (arith, ints)
 divides d (negsuc a) h = go (nat_divides d (suc a) h)
   where
-    go : ((q : ℕ) × (q * d ≡ suc a)) ⊎ ((q : ℕ) → q * d ≡ suc a → ⊥) → Divides d (negsuc a) ⊎ (Divides d (negsuc a) → ⊥)
+    go : ((q : ℕ) × (q * d ≡ suc a)) ⊎ ((q : ℕ) → q * d ≡ suc a → ⊥)
+        → Divides d (negsuc a) ⊎ (Divides d (negsuc a) → ⊥)
     go (inl r) = inl (record { quotient = neg_ℤ (pos r.0); is = negated_quotient r.0 d a r.1 })
     go (inr f) = inr (λ r. no r.quotient r.is)
       where
@@ -83,7 +86,8 @@ smaller n d zero h = inr (λ s. omega (arith, s.below))
 smaller n d (suc zero) h = inr (λ s. omega (arith, s.below, s.e_pos))
 smaller n d (suc (suc j)) h = go (smaller n d (suc j) h) (divides d (n *ℤ pos (suc j)) h)
   where
-    go : Smaller n d (suc j) ⊎ (Smaller n d (suc j) → ⊥) → Divides d (n *ℤ pos (suc j)) ⊎ (Divides d (n *ℤ pos (suc j)) → ⊥)
+    go : Smaller n d (suc j) ⊎ (Smaller n d (suc j) → ⊥)
+        → Divides d (n *ℤ pos (suc j)) ⊎ (Divides d (n *ℤ pos (suc j)) → ⊥)
         → Smaller n d (suc (suc j)) ⊎ (Smaller n d (suc (suc j)) → ⊥)
     go (inl s) _ = inl (record { e = s.e; e_pos = s.e_pos; below = omega (arith, s.below); m = s.m; same = s.same })
     go (inr f) (inl q) = inl (record { e = suc j; e_pos = omega arith; below = omega arith; m = q.quotient; same = q.is })
@@ -104,7 +108,8 @@ pub record Reduced (n : ℤ) (d : ℕ) : Type 0 where
   pub it : ℚ
   pub same : it.num *ℤ pos d ≡ n *ℤ pos it.den
 
-pub through : (a s n : ℤ) (b d e : ℕ) → 0 < e → a *ℤ pos e ≡ s *ℤ pos b → s *ℤ pos d ≡ n *ℤ pos e → a *ℤ pos d ≡ n *ℤ pos b
+pub through : (a s n : ℤ) (b d e : ℕ) → 0 < e → a *ℤ pos e ≡ s *ℤ pos b
+    → s *ℤ pos d ≡ n *ℤ pos e → a *ℤ pos d ≡ n *ℤ pos b
 through a s n b d e p h k = cancel_pos (a *ℤ pos d) (n *ℤ pos b) e p
     (fromZ (a ∷ s ∷ n ∷ pos b ∷ pos d ∷ pos e ∷ []) (by_eq (pos d) h (by_eq (pos b) k done)) (search reif depth 40) tt)
 
@@ -169,7 +174,8 @@ frac_cross n m d e p q h =
     let hx : x.num *ℤ pos d ≡ n *ℤ pos x.den = frac_is n d p in
     let hy : x.num *ℤ pos e ≡ m *ℤ pos x.den = subst (λ (z : ℚ). z.num *ℤ pos e ≡ m *ℤ pos z.den) (sym h) (frac_is m e q) in
     cancel_pos (n *ℤ pos e) (m *ℤ pos d) x.den x.den_pos
-    (fromZ (x.num ∷ n ∷ m ∷ pos d ∷ pos e ∷ pos x.den ∷ []) (by_eq (neg_ℤ (pos e)) hx (by_eq (pos d) hy done)) (search reif depth 40) tt)
+    (fromZ (x.num ∷ n ∷ m ∷ pos d ∷ pos e ∷ pos x.den ∷ [])
+    (by_eq (neg_ℤ (pos e)) hx (by_eq (pos d) hy done)) (search reif depth 40) tt)
 
 pub frac_self : (a : ℚ) → a.num ÷ a.den ≡ a
 frac_self a = same_ℚ (a.num ÷ a.den) a (frac_is a.num a.den a.den_pos)
@@ -433,10 +439,12 @@ b6 = r_at 6
 abbrev pub b7 : {a b c d e f g h : ℚ} {s : List ℚ} → Reif ring_ℚ (b ∷ c ∷ d ∷ e ∷ f ∷ g ∷ h ∷ a ∷ s) a
 b7 = r_at 7
 
-abbrev pub b8 : {a v0 v1 v2 v3 v4 v5 v6 v7 : ℚ} {s : List ℚ} → Reif ring_ℚ (v0 ∷ v1 ∷ v2 ∷ v3 ∷ v4 ∷ v5 ∷ v6 ∷ v7 ∷ a ∷ s) a
+abbrev pub b8 : {a v0 v1 v2 v3 v4 v5 v6 v7 : ℚ} {s : List ℚ}
+    → Reif ring_ℚ (v0 ∷ v1 ∷ v2 ∷ v3 ∷ v4 ∷ v5 ∷ v6 ∷ v7 ∷ a ∷ s) a
 b8 = r_at 8
 
-abbrev pub b9 : {a v0 v1 v2 v3 v4 v5 v6 v7 v8 : ℚ} {s : List ℚ} → Reif ring_ℚ (v0 ∷ v1 ∷ v2 ∷ v3 ∷ v4 ∷ v5 ∷ v6 ∷ v7 ∷ v8 ∷ a ∷ s) a
+abbrev pub b9 : {a v0 v1 v2 v3 v4 v5 v6 v7 v8 : ℚ} {s : List ℚ}
+    → Reif ring_ℚ (v0 ∷ v1 ∷ v2 ∷ v3 ∷ v4 ∷ v5 ∷ v6 ∷ v7 ∷ v8 ∷ a ∷ s) a
 b9 = r_at 9
 
 abbrev pub b10 : {a v0 v1 v2 v3 v4 v5 v6 v7 v8 v9 : ℚ} {s : List ℚ}
@@ -460,7 +468,8 @@ abbrev pub b14 : {a v0 v1 v2 v3 v4 v5 v6 v7 v8 v9 v10 v11 v12 v13 : ℚ} {s : Li
 b14 = r_at 14
 
 abbrev pub b15 : {a v0 v1 v2 v3 v4 v5 v6 v7 v8 v9 v10 v11 v12 v13 v14 : ℚ} {s : List ℚ}
-    → Reif ring_ℚ (v0 ∷ v1 ∷ v2 ∷ v3 ∷ v4 ∷ v5 ∷ v6 ∷ v7 ∷ v8 ∷ v9 ∷ v10 ∷ v11 ∷ v12 ∷ v13 ∷ v14 ∷ a ∷ s) a
+    → Reif ring_ℚ (v0 ∷ v1 ∷ v2 ∷ v3 ∷ v4 ∷ v5 ∷ v6 ∷ v7 ∷ v8 ∷ v9 ∷ v10
+    ∷ v11 ∷ v12 ∷ v13 ∷ v14 ∷ a ∷ s) a
 b15 = r_at 15
 
 -- a whole number
@@ -471,7 +480,8 @@ pub times-one : (n : ℕ) → times ring_ℚ n one_ℚ ≡ pos n ÷ 1
 unfolding times zero_ℚ one_ℚ
 times-one zero = refl
 times-one (suc n) = ap (λ x. pos 1 ÷ 1 +ℚ x) (times-one n) ∙ frac-add (pos 1) (pos n) 1 1 (omega arith) (omega arith)
-    ∙ frac_same _ _ _ _ (omega arith) (omega arith) (let e : (pos 1 *ℤ pos 1) +ℤ (pos n *ℤ pos 1) ≡ pos (suc n) = omega (arith, ints)
+    ∙ frac_same _ _ _ _ (omega arith) (omega arith)
+    (let e : (pos 1 *ℤ pos 1) +ℤ (pos n *ℤ pos 1) ≡ pos (suc n) = omega (arith, ints)
     in ap (λ z. z *ℤ pos 1) e)
 
 abbrev pub r_int : {s : List ℚ} (n : ℕ) → Reif ring_ℚ s (pos n ÷ 1)
@@ -569,7 +579,8 @@ inv_nonneg_ℚ {a} h =
     let e : a *ℚ inv_ℚ a ≡ one_ℚ = mul_inv_ℚ a (ne_of_gt_ℚ h) in
     let p : zero_ℚ ≤ℚ a = lt_le_ℚ h in
     ⊎_elim (λ k. k) (λ k. absurd (not_le_of_lt_ℚ zero_lt_one_ℚ
-    (by_facts (a ∷ inv_ℚ a ∷ []) (by_times p k (by_same one_ℚ (sym e) end)) (search terms depth 40) tt))) (le_or_ge_ℚ zero_ℚ (inv_ℚ a))
+    (by_facts (a ∷ inv_ℚ a ∷ []) (by_times p k (by_same one_ℚ (sym e) end)) (search terms depth 40) tt)))
+    (le_or_ge_ℚ zero_ℚ (inv_ℚ a))
 
 pub le_cancel_ℚ : {a b c : ℚ} → zero_ℚ <ℚ c → c *ℚ a ≤ℚ c *ℚ b → a ≤ℚ b
 le_cancel_ℚ {a} {b} {c} h k =
@@ -606,8 +617,10 @@ at_most_false a b e = lt_of_not_le_ℚ (λ h. let k : (a.num *ℤ pos b.den) ≤
 pub record Laws : Type 0 where
   pub each_is_a_fraction : (a : ℚ) → (n : ℤ) × (d : ℕ) × (0 < d) × (n ÷ d ≡ a)
   pub equal_by_cross_products : (n m : ℤ) (d e : ℕ) → 0 < d → 0 < e → (n ÷ d ≡ m ÷ e) ↔ (n *ℤ pos e ≡ m *ℤ pos d)
-  pub order_by_cross_products : (n m : ℤ) (d e : ℕ) → 0 < d → 0 < e → (n ÷ d ≤ℚ m ÷ e) ↔ ((n *ℤ pos e) ≤ℤ (m *ℤ pos d))
-  pub sum_of_fractions : (n m : ℤ) (d e : ℕ) → 0 < d → 0 < e → n ÷ d +ℚ m ÷ e ≡ ((n *ℤ pos e) +ℤ (m *ℤ pos d)) ÷ (d * e)
+  pub order_by_cross_products : (n m : ℤ) (d e : ℕ) → 0 < d → 0 < e
+      → (n ÷ d ≤ℚ m ÷ e) ↔ ((n *ℤ pos e) ≤ℤ (m *ℤ pos d))
+  pub sum_of_fractions : (n m : ℤ) (d e : ℕ) → 0 < d → 0 < e
+      → n ÷ d +ℚ m ÷ e ≡ ((n *ℤ pos e) +ℤ (m *ℤ pos d)) ÷ (d * e)
   pub product_of_fractions : (n m : ℤ) (d e : ℕ) → 0 < d → 0 < e → n ÷ d *ℚ m ÷ e ≡ (n *ℤ m) ÷ (d * e)
   pub negated_fraction : (n : ℤ) (d : ℕ) → 0 < d → neg_ℚ (n ÷ d) ≡ neg_ℤ n ÷ d
   pub quotient_of_itself : (a : ℚ) → (a ≡ zero_ℚ → ⊥) → a /ℚ a ≡ one_ℚ
