@@ -1,5 +1,6 @@
 //! Options with their values.
-ghost use Rattle.std.specs.Prelude.{◌≡◌, ◌≤◌, ℕ, List, [], ◌∷◌, ◌++◌, None, length, map, string_bytes, IfOk, IfSome, IfNone};
+ghost use Rattle.std.specs.Prelude.{◌≡◌, ◌≤◌, ℕ, List, [], ◌∷◌, ◌++◌, None, length, map, string_bytes, IfOk};
+ghost use Rattle.std.specs.Prelude.{IfSome, IfNone};
 ghost use Rattle.std.specs.Option.{option_map};
 ghost use Rattle.command_words.specs.Words.{Given, setting_of, cut, settings_from, settings_of, value_with, are_once};
 ghost use Rattle.command_words.specs.Views.{given, all_given};
@@ -56,7 +57,8 @@ pub(crate) fn settings<'a>(
     alloc: Global,
     words: &'a [String],
 ) -> Result<Option<Vec<Setting<'a>>>, AllocError>
-    ensures { IfOk result (λ found. option_map (λ settings. all_given settings.items) found ≡ settings_of (map string_bytes words.now)) }
+    ensures { IfOk result (λ found. option_map (λ settings. all_given settings.items) found
+        ≡ settings_of (map string_bytes words.now)) }
 {
     let mut settings = Vec::new(alloc);
     let mut rest = words;

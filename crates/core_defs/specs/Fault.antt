@@ -1,5 +1,6 @@
 -- Which line of a core file is refused, and for which cause, by the lines before it.
-use Rattle.std.specs.Prelude.{◌≡◌, ℕ, ◌+◌, Bool, true, false, List, [], ◌∷◌, ◌++◌, Option, Some, None, Result, Ok, Err, ◌&&◌, ◌||◌, ◌⊎◌}
+use Rattle.std.specs.Prelude.{◌≡◌, ℕ, ◌+◌, Bool, true, false, List, [], ◌∷◌, ◌++◌, Option, Some, None, Result, Ok}
+use Rattle.std.specs.Prelude.{Err, ◌&&◌, ◌||◌, ◌⊎◌}
 use Rattle.std.specs.Prelude.{not, is_some, nat_lt, length, codes, if◌then◌else◌}
 use Rattle.rationals.specs.Forms.{is_zero}
 use Rattle.smps_words.specs.Line.{TextLine, reading_of}
@@ -89,7 +90,8 @@ column_fault before line (column ∷ row ∷ word ∷ []) =
     else (split_fault before column orelse (pairs_fault before (entry_pairs before) (pairs_after column (row ∷ word ∷ []))
     orelse limit_fault (before ++ line ∷ [])))
 column_fault before line (column ∷ row ∷ word ∷ second ∷ other ∷ []) =
-    split_fault before column orelse (pairs_fault before (entry_pairs before) (pairs_after column (row ∷ word ∷ second ∷ other ∷ []))
+    split_fault before column orelse (pairs_fault before (entry_pairs before)
+    (pairs_after column (row ∷ word ∷ second ∷ other ∷ []))
     orelse limit_fault (before ++ line ∷ []))
 column_fault before line [] = Some cause.FieldCount
 column_fault before line (_ ∷ []) = Some cause.FieldCount
@@ -140,7 +142,8 @@ range_pair_fault before pairs pair =
 
 abbrev pub range_pairs_fault : List TextLine → List Pair → List Pair → Option Cause
 range_pairs_fault before pairs [] = None
-range_pairs_fault before pairs (pair ∷ more) = range_pair_fault before pairs pair orelse range_pairs_fault before (pairs ++ pair ∷ []) more
+range_pairs_fault before pairs (pair ∷ more) = range_pair_fault before pairs pair
+    orelse range_pairs_fault before (pairs ++ pair ∷ []) more
 
 abbrev pub range_fault : List TextLine → List (List ℕ) → Option Cause
 range_fault before fields =

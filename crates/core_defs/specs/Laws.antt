@@ -35,8 +35,10 @@ pub record CoreFileLaws : Type 0 where
   -- a text is filed exactly where it is a core file; else its first fault is named
   pub reading : (text : List ℕ) → IsReading (reading_of 0 text).lines (reading_of 0 text).end_line (filed_text text)
   -- a text has one fault at most, and a core file none
-  pub one_fault : (lines : List TextLine) (end_line : ℕ) (one other : Refusal) → IsFault lines end_line one → IsFault lines end_line other
+  pub one_fault : (lines : List TextLine) (end_line : ℕ) (one other : Refusal)
+      → IsFault lines end_line one → IsFault lines end_line other
       → one ≡ other
-  pub no_fault : (lines : List TextLine) (end_line : ℕ) (refusal : Refusal) → IsCoreFile lines → IsFault lines end_line refusal → ⊥
+  pub no_fault : (lines : List TextLine) (end_line : ℕ) (refusal : Refusal) → IsCoreFile lines
+      → IsFault lines end_line refusal → ⊥
   -- lines mean one core
   pub one_meaning : (lines : List TextLine) (one other : Core) → Means lines one → Means lines other → AreSame one other

@@ -1,5 +1,6 @@
 -- What a line adds to the lines filed before it, or the cause that refuses it.
-use Rattle.std.specs.Prelude.{ℕ, Bool, true, false, not, List, [], ◌∷◌, ◌++◌, ◌+◌, ◌&&◌, ◌||◌, Option, Some, None, Result, Ok, Err, is_some}
+use Rattle.std.specs.Prelude.{ℕ, Bool, true, false, not, List, [], ◌∷◌, ◌++◌, ◌+◌, ◌&&◌, ◌||◌, Option, Some, None}
+use Rattle.std.specs.Prelude.{Result, Ok, Err, is_some}
 use Rattle.std.specs.Prelude.{nat_lt, length, codes, if◌then◌else◌, slice_index_or, slice_set}
 use Rattle.rationals.specs.Rational.{ℚ, zero_ℚ}
 use Rattle.rationals.specs.Forms.{find, is_zero}
@@ -171,7 +172,8 @@ unfoldable pub rhs_line : Filed → List (List ℕ) → Result Filed Cause
 rhs_line f (row ∷ word ∷ []) = in_rhs_set f None (λ g. with_rhs g row word)
 rhs_line f (set ∷ row ∷ word ∷ []) = in_rhs_set f (Some set) (λ g. with_rhs g row word)
 rhs_line f (row ∷ word ∷ second ∷ other ∷ []) = in_rhs_set f None (λ g. with_rhs g row word >>= λ h. with_rhs h second other)
-rhs_line f (set ∷ row ∷ word ∷ second ∷ other ∷ []) = in_rhs_set f (Some set) (λ g. with_rhs g row word >>= λ h. with_rhs h second other)
+rhs_line f (set ∷ row ∷ word ∷ second ∷ other ∷ []) =
+    in_rhs_set f (Some set) (λ g. with_rhs g row word >>= λ h. with_rhs h second other)
 rhs_line f [] = Err cause.FieldCount
 rhs_line f (_ ∷ []) = Err cause.FieldCount
 rhs_line f (_ ∷ _ ∷ _ ∷ _ ∷ _ ∷ _ ∷ _) = Err cause.FieldCount
@@ -201,7 +203,8 @@ with_range f name word = do
 unfoldable pub range_line : Filed → List (List ℕ) → Result Filed Cause
 range_line f (row ∷ word ∷ []) = in_range_set f None (λ g. with_range g row word)
 range_line f (set ∷ row ∷ word ∷ []) = in_range_set f (Some set) (λ g. with_range g row word)
-range_line f (row ∷ word ∷ second ∷ other ∷ []) = in_range_set f None (λ g. with_range g row word >>= λ h. with_range h second other)
+range_line f (row ∷ word ∷ second ∷ other ∷ []) =
+    in_range_set f None (λ g. with_range g row word >>= λ h. with_range h second other)
 range_line f (set ∷ row ∷ word ∷ second ∷ other ∷ []) = in_range_set f (Some set)
     (λ g. with_range g row word >>= λ h. with_range h second other)
 range_line f [] = Err cause.FieldCount

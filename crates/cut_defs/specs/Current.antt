@@ -37,7 +37,8 @@ SupportIsPresent h k cut = Each (IsPresent h k) (support cut)
 -- above 0 is known to be touched with that version; and the stamp is no newer than the part
 pub record IsTold (h : History) (k : ℕ) (known : List Touch) (a : Stamp) : Type 0 where
   pub gone : IsLive (h.after k) a.node ⊎ IsAmong (record { node = a.node; part = Gone; version = 1 }) known
-  pub touched : (v : ℕ) → version_at h k a.node a.part ≡ suc v → IsAmong (record { node = a.node; part = a.part; version = suc v }) known
+  pub touched : (v : ℕ) → version_at h k a.node a.part ≡ suc v
+      → IsAmong (record { node = a.node; part = a.part; version = suc v }) known
   pub past : a.version ≤ version_at h k a.node a.part
 
 -- ---- the same by the records: rows of each, costs of each Bound one

@@ -35,7 +35,8 @@ is_bound Ray = false
 -- the coefficient of column j: less entry times multiplier by row, plus weight times the used cut's coefficient
 unfoldable mutual
   pub slope : View → Cut → ℕ → ℚ
-  slope v (Cut_of n kind y uses) j = slopes v uses j -ℚ sum_ℚ (λ (r : NodeRow). coefficient r.entries j *ℚ coefficient y r.row) (v.rows n)
+  slope v (Cut_of n kind y uses) j = slopes v uses j
+      -ℚ sum_ℚ (λ (r : NodeRow). coefficient r.entries j *ℚ coefficient y r.row) (v.rows n)
 
   pub slopes : View → Uses → ℕ → ℚ
   slopes v No_use j = zero_ℚ
@@ -89,7 +90,8 @@ HasWeights v Ray n uses = UsesRays uses
 pub record IsRecord (v : View) (n : ℕ) (kind : CutKind) (y : List Entry) (uses : Uses) : Type 0 where
   pub live : IsLive v n
   pub rows : Each (λ (r : NodeRow). IsGoodAt r.low r.high (coefficient y r.row)) (v.rows n)
-  pub bounds : Each (λ j. IsGoodAt (v.lower j) (v.upper j) (cost_in v kind n j +ℚ slope v (Cut_of n kind y uses) j)) (v.columns (v.stage n))
+  pub bounds : Each (λ j. IsGoodAt (v.lower j) (v.upper j) (cost_in v kind n j +ℚ slope v (Cut_of n kind y uses) j))
+      (v.columns (v.stage n))
   pub weights : HasWeights v kind n uses
 
 pub record IsUse (v : View) (n : ℕ) (w : ℚ) (m : ℕ) : Type 0 where
@@ -118,7 +120,8 @@ limit_of v x Ray m = zero_ℚ
 -- a Bound cut is at most the cost from its node on, and a Ray cut at most 0
 abbrev pub IsSound : View → Cut → Type 0
 IsSound v cut =
-    (x : ℕ → ℕ → ℚ) → Each (FeasibleAt v x) (subtree v (node_of cut)) → value_at v cut x ≤ℚ limit_of v x (kind_of cut) (node_of cut)
+    (x : ℕ → ℕ → ℚ) → Each (FeasibleAt v x) (subtree v (node_of cut))
+    → value_at v cut x ≤ℚ limit_of v x (kind_of cut) (node_of cut)
 
 -- ---- the flat dual of a cut
 -- at (m, i): the multipliers of row i in the records of m, each times the weights on the way down to it, over all ways
@@ -139,13 +142,15 @@ priced v Ray = without_costs v
 abbrev mutual
   pub IsGround : View → (ℕ → ℕ → ℚ) → Cut → Type 0
   IsGround v y (Cut_of n kind m uses) =
-      (kind ≡ Bound) × Each (λ (r : NodeRow). coefficient m r.row ≡ y n r.row /ℚ total v n) (v.rows n) × AreGround v y (children v n) uses
+      (kind ≡ Bound) × Each (λ (r : NodeRow). coefficient m r.row ≡ y n r.row /ℚ total v n) (v.rows n)
+      × AreGround v y (children v n) uses
 
   pub AreGround : View → (ℕ → ℕ → ℚ) → List ℕ → Uses → Type 0
   AreGround v y [] No_use = Unit {0}
   AreGround v y (m ∷ ms) No_use = ⊥
   AreGround v y [] (Use weight cut uses) = ⊥
-  AreGround v y (m ∷ ms) (Use weight cut uses) = (node_of cut ≡ m) × (weight ≡ share v m) × IsGround v y cut × AreGround v y ms uses
+  AreGround v y (m ∷ ms) (Use weight cut uses) = (node_of cut ≡ m) × (weight ≡ share v m)
+      × IsGround v y cut × AreGround v y ms uses
 
 -- ---- the ways down from a cut, each with the product of the weights on it, depth first
 pub record Way : Type 0 where

@@ -28,7 +28,8 @@ FlatsAreGood = (v : View) (cut : Cut) → IsTree v → IsMade v cut → IsRoot v
 -- the ground cut of a live node is made, and so sound, where the flat dual is good
 abbrev pub GroundCutsAreMade : Type 0
 GroundCutsAreMade =
-    (v : View) (y : ℕ → ℕ → ℚ) (cut : Cut) → IsTree v → IsGood v y → IsLive v (node_of cut) → IsGround v y cut → IsMade v cut
+    (v : View) (y : ℕ → ℕ → ℚ) (cut : Cut) → IsTree v → IsGood v y → IsLive v (node_of cut)
+    → IsGround v y cut → IsMade v cut
 
 -- a cut that is made for the data of a history is sound after every number of edits at which its support is present
 abbrev pub StoredCutsAreSound : Type 0
@@ -36,7 +37,8 @@ StoredCutsAreSound = (h : History) (book : Book) (cut : Stored) → IsBook h boo
 
 -- and the flat dual of a stored root cut is good then, and worth at least its constant
 abbrev pub StoredFlatsAreGood : Type 0
-StoredFlatsAreGood = (h : History) (book : Book) (cut : Stored) → IsBook h book → IsMadeFor book cut → (k : ℕ) → SupportIsPresent h k cut
+StoredFlatsAreGood = (h : History) (book : Book) (cut : Stored) → IsBook h book → IsMadeFor book cut
+    → (k : ℕ) → SupportIsPresent h k cut
     → IsRoot (h.after k) (source_of cut).node
     → IsGood (priced (h.after k) (source_of cut).kind) (stored_flat cut)
     × (constant_of cut ≤ℚ value (priced (h.after k) (source_of cut).kind) (stored_flat cut))
@@ -48,11 +50,13 @@ FlatsAreSumsOverWays = (cut : Cut) (n i : ℕ)
 
 -- numbers for the nodes, each at least the cost of the node and, by their shares, the numbers of its children
 abbrev pub CoversCosts : View → (ℕ → ℕ → ℚ) → (ℕ → ℚ) → Type 0
-CoversCosts v x worth_of = Each (λ n. node_cost v x n +ℚ sum_ℚ (λ m. share v m *ℚ worth_of m) (children v n) ≤ℚ worth_of n) v.live
+CoversCosts v x worth_of = Each (λ n. node_cost v x n +ℚ sum_ℚ (λ m. share v m *ℚ worth_of m) (children v n)
+    ≤ℚ worth_of n) v.live
 
 -- where such numbers of a feasible point meet a root cut at the root, the point's cost is the value of the cut's flat dual
 abbrev pub EndsMeet : Type 0
-EndsMeet = (v : View) (x : ℕ → ℕ → ℚ) (worth_of : ℕ → ℚ) (cut : Cut) → IsTree v → Feasible v x → CoversCosts v x worth_of → IsMade v cut
+EndsMeet = (v : View) (x : ℕ → ℕ → ℚ) (worth_of : ℕ → ℚ) (cut : Cut) → IsTree v
+    → Feasible v x → CoversCosts v x worth_of → IsMade v cut
     → IsRoot v (node_of cut) → kind_of cut ≡ Bound
     → worth_of (node_of cut) ≤ℚ constant v cut → IsGood v (flat cut) × (value v (flat cut) ≡ cost v x)
 
@@ -75,7 +79,8 @@ pub record SupportLaws : Type 0 where
   pub current : (h : History) (k : ℕ) (cut : Stored) → SupportIsPresent h k cut → IsCurrent h k cut
   pub present : (h : History) (k : ℕ) (cut : Stored) → IsCurrent h k cut → SupportIsPresent h k cut
   -- where all is known that touched the nodes of the support, and the cut rests on none of it, the support is present
-  pub untouched : (h : History) (k : ℕ) (known : List Touch) (cut : Stored) → Each (IsTold h k known) (support cut) → RestsOnNone cut known
+  pub untouched : (h : History) (k : ℕ) (known : List Touch) (cut : Stored)
+      → Each (IsTold h k known) (support cut) → RestsOnNone cut known
       → SupportIsPresent h k cut
 
 -- a record with sums that are made from its datum, and used cuts that are made for the book, is a cut that is made for the book

@@ -68,7 +68,8 @@ reduced_of d s uses j = cost_of d s.kind j +ℚ slope_of d s uses j
 -- the weights on Bound cuts about node m
 abbrev pub weight_on : StoredUses → ℕ → ℚ
 weight_on No_stored m = zero_ℚ
-weight_on (Use_stored weight cut uses) m = value_if (is_bound (source_of cut).kind && eqb (source_of cut).node m) weight +ℚ weight_on uses m
+weight_on (Use_stored weight cut uses) m =
+    value_if (is_bound (source_of cut).kind && eqb (source_of cut).node m) weight +ℚ weight_on uses m
 
 abbrev pub StoredRays : StoredUses → Type 0
 StoredRays No_stored = Unit {0}

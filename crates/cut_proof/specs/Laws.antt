@@ -24,7 +24,8 @@ pub record RepairLaws : Type 0 where
   -- where no stamp of the node's rows is older than the version before the shift's, the repair doesn't rest on the shift's touch
   pub fresh : (s : Shift) (cut : Stored) → cut_rests cut (touch_before s) ≡ false → cut_rests (repair s cut) (touch_of s) ≡ false
   -- the repair of a cut that is made for a book is made for it
-  pub made : (book : Book) (s : Shift) (cut r : Stored) → IsShift book s → IsMadeFor book cut → repair_walk s cut ≡ Ok r → IsMadeFor book r
+  pub made : (book : Book) (s : Shift) (cut r : Stored) → IsShift book s → IsMadeFor book cut
+      → repair_walk s cut ≡ Ok r → IsMadeFor book r
 
 -- where nothing is made of a record, no constant and form are made from its datum: some used end isn't finite
 abbrev pub NotGoodLaw : Type 0

@@ -34,7 +34,8 @@ abbrev pub changes_from : ℚ → StoredUses → StoredUses → Result ℚ Opera
 changes_from sum No_stored vs = Ok sum
 changes_from sum (Use_stored w cut us) No_stored = Ok sum
 changes_from sum (Use_stored w cut us) (Use_stored v new vs) =
-    then_walk (change_step (same (constant_of new) (constant_of cut)) sum w (constant_of new) (constant_of cut)) (λ t. changes_from t us vs)
+    then_walk (change_step (same (constant_of new) (constant_of cut)) sum w (constant_of new) (constant_of cut))
+    (λ t. changes_from t us vs)
 
 -- one more use at the end
 abbrev pub snoc : StoredUses → ℚ → Stored → StoredUses

@@ -12,7 +12,8 @@ use Rattle.dual_assemble.specs.Walks.{form_at, flat_from}
 -- where the walk comes to its end, its numbers are the flat dual of the cut
 abbrev pub FlatLaw : Type 0
 FlatLaw =
-    (cut : Stored) (fs : List (List Entry)) (n i : ℕ) → flat_from [] one_ℚ cut ≡ Ok fs → coefficient (form_at fs n) i ≡ stored_flat cut n i
+    (cut : Stored) (fs : List (List Entry)) (n i : ℕ) → flat_from [] one_ℚ cut ≡ Ok fs
+    → coefficient (form_at fs n) i ≡ stored_flat cut n i
 
 -- the numbers of forms by node
 abbrev pub flat_of : List (List Entry) → ℕ → ℕ → ℚ

@@ -32,9 +32,11 @@ struct Left {
 
 /// What a DROP leaves, where no operation passes.
 fn tested_drop(alloc: Global, program: &Program, name: &Name) -> Result<Left, TreeFault>
-    ensures scenarios { MatchResult result (λ left. drop_told (content program.now) name.now ≡ Ok (scenarios_content left.scenarios.items))
+    ensures scenarios { MatchResult result (λ left. drop_told (content program.now) name.now
+        ≡ Ok (scenarios_content left.scenarios.items))
         (TreeFaultOf (drop_told (content program.now) name.now)) }
-    ensures marks { IfOk result (λ left. left.marks.items ≡ marks_by (scenarios_content left.scenarios.items) (content program.now).nodes) }
+    ensures marks { IfOk result (λ left. left.marks.items
+        ≡ marks_by (scenarios_content left.scenarios.items) (content program.now).nodes) }
 {
     let scenarios = drop_scenarios(alloc, &program.scenarios, name)?;
     let marks = reached(alloc, &program.nodes, &scenarios)?;

@@ -78,7 +78,8 @@ pub(crate) fn test_tree(
     positions: &[Position],
     scenarios: &[Scenario],
 ) -> Result<(), TreeFault>
-    ensures { MatchResult result (λ _. tested_walk positions.now (scenarios_content scenarios.now) ≡ Ok (scenarios_content scenarios.now))
+    ensures { MatchResult result (λ _. tested_walk positions.now (scenarios_content scenarios.now)
+        ≡ Ok (scenarios_content scenarios.now))
         (TreeFaultOf (tested_walk positions.now (scenarios_content scenarios.now))) }
 {
     if positions.len() > u32::MAX as usize {

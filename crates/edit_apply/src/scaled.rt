@@ -103,7 +103,8 @@ fn push_part(
     own: &Option<Frac>,
     scale: &Scale,
 ) -> Result<(), TreeFault>
-    ensures { MatchResult result (λ _. with_part name.now own.now scale.now (scenario_content scenario.now) (scenarios_content made.old.items) ≡ Ok (scenarios_content made.new.items))
+    ensures { MatchResult result (λ _. with_part name.now own.now scale.now (scenario_content scenario.now)
+        (scenarios_content made.old.items) ≡ Ok (scenarios_content made.new.items))
         (TreeFaultOf (with_part name.now own.now scale.now (scenario_content scenario.now) (scenarios_content made.old.items))) }
 {
     if *name == scenario.name {

@@ -1,5 +1,6 @@
 -- What a command of an edit list means for a program, and why it is refused.
-use Rattle.std.specs.Prelude.{⊤, ℕ, nat_eq, Bool, ◌||◌, List, [], ◌∷◌, map, codes, Option, Some, None, Result, Ok, Err, if◌then◌else◌}
+use Rattle.std.specs.Prelude.{⊤, ℕ, nat_eq, Bool, ◌||◌, List, [], ◌∷◌, map, codes, Option, Some, None, Result, Ok, Err}
+use Rattle.std.specs.Prelude.{if◌then◌else◌}
 use Rattle.smps_words.specs.Names.{same_name, place_of}
 use Rattle.smps_words.specs.declared.entry.Entry.{Entry}
 use Rattle.smps_words.specs.declared.entry.Entry.TheVariants.{Cost, Matrix, Rhs}
@@ -75,7 +76,8 @@ unfoldable pub add_edit : Program → List ℕ → List ℕ → List ℕ → Lis
 add_edit p name parent word period =
     if is_known name p.scenarios then Err cause.NameTaken
     else (if is_known parent p.scenarios
-    then (inner_number word >>= λ q. needs cause.BranchPeriod (if_later (place_of p.periods period)) >>= λ t. Ok (edit.Add name parent q t))
+    then (inner_number word >>= λ q. needs cause.BranchPeriod (if_later (place_of p.periods period))
+    >>= λ t. Ok (edit.Add name parent q t))
     else Err cause.ScenarioUnknown)
 
 -- ---- the lines of the commands: a word and its fields

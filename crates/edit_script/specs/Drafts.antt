@@ -44,7 +44,8 @@ KeepsLeads old new = (start : Program) → Leads start old.items.items (content 
 
 -- whatever program the edits came from, those of the script are allowed there
 abbrev pub IsAllowedFrom : Draft → Script → Type 0
-IsAllowedFrom draft script = (start : Program) → Leads start draft.items.items (content draft.program) → AreAllowed start script.items.items
+IsAllowedFrom draft script = (start : Program) → Leads start draft.items.items (content draft.program)
+    → AreAllowed start script.items.items
 
 -- The value is the definition's, or the cause is, unless memory ran out.
 abbrev pub Gives : {A : Type 0} → Result A Stop → Result A Cause → Type 0

@@ -43,11 +43,13 @@ limit_walk bs parts trial f kind end = then_walk (right_walk Sub bs parts trial 
     (λ right. Ok (record { entries = spread_form parts (own_form bs f); kind = kind; right = right }))
 
 -- the same behind the limits that are made
-abbrev pub push_walk : List ColumnBounds → List Part → List Entry → List Entry → List Limit → RowKind → ℚ → Walk (List Limit)
+abbrev pub push_walk : List ColumnBounds → List Part → List Entry → List Entry → List Limit
+    → RowKind → ℚ → Walk (List Limit)
 push_walk bs parts trial f made kind end = then_walk (limit_walk bs parts trial f kind end) (λ limit. Ok (made ++ limit ∷ []))
 
 -- of a row: one equation where its ends are equal, else one limit for each end, the low one first
-abbrev pub ends_walk : List ColumnBounds → List Part → List Entry → List Entry → List Limit → Option ℚ → Option ℚ → Walk (List Limit)
+abbrev pub ends_walk : List ColumnBounds → List Part → List Entry → List Entry → List Limit
+    → Option ℚ → Option ℚ → Walk (List Limit)
 ends_walk bs parts trial f made None None = Ok made
 ends_walk bs parts trial f made (Some low) None = push_walk bs parts trial f made Greater low
 ends_walk bs parts trial f made None (Some high) = push_walk bs parts trial f made Less high
@@ -81,7 +83,8 @@ bound_limits_from m made (b ∷ bs) =
 abbrev pub own_from : List ℚ → List NodeRow → List ℚ → Walk (List ℚ)
 own_from made [] duals = Ok made
 own_from made (r ∷ rs) duals =
-    then_walk (sum_walk (take (limit_count r.low r.high) duals)) (λ y. own_from (made ++ y ∷ []) rs (drop (limit_count r.low r.high) duals))
+    then_walk (sum_walk (take (limit_count r.low r.high) duals))
+    (λ y. own_from (made ++ y ∷ []) rs (drop (limit_count r.low r.high) duals))
 
 abbrev pub own_walk : List NodeRow → List ℚ → Walk (List ℚ)
 own_walk = own_from []

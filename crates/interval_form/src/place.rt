@@ -95,7 +95,8 @@ fn own_term(
     term: Term,
 ) -> Result<Frac, Passed>
     requires { BoundsRise 0 bounds.now }
-    ensures { result ≡ terms_walk (pick is_sum Add Sub) (shift_at parts.now) sum (own_entry (place_of bounds.now term.column) term.value) }
+    ensures { result ≡ terms_walk (pick is_sum Add Sub)
+        (shift_at parts.now) sum (own_entry (place_of bounds.now term.column) term.value) }
 {
     match place_of(bounds, term.column) {
         None => Ok(sum),

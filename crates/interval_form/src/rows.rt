@@ -1,5 +1,6 @@
 //! The own rows of a program as rows of three kinds, operation by operation.
-ghost use Rattle.std.specs.Prelude.{◌≡◌, ◌++◌, ◌<◌, ◌≤◌, ◌+◌, ◌*◌, ◌^◌, ◌∷◌, [], length, IfOk, MatchResult, Ok};
+ghost use Rattle.std.specs.Prelude.{◌≡◌, ◌++◌, ◌<◌, ◌≤◌, ◌+◌, ◌*◌, ◌^◌, ◌∷◌, [], length, IfOk};
+ghost use Rattle.std.specs.Prelude.{MatchResult, Ok};
 ghost use Rattle.rationals.specs.Rational.{one_ℚ};
 ghost use Rattle.rationals.specs.Forms.{IsForm};
 ghost use Rattle.scen_defs.specs.Lists.{Each};

@@ -26,7 +26,8 @@ less_right f [] done = Ok done
 less_right f (y ∷ ys) done = then_walk (less_product_walk zero_ℚ f y.value) (λ v. less_right f ys (keep done y.column v))
 
 -- x comes next in the row; `next` goes on behind x
-abbrev pub less_meet : ℚ → Entry → (List Entry → List Entry → Walk (List Entry)) → List Entry → List Entry → Walk (List Entry)
+abbrev pub less_meet : ℚ → Entry → (List Entry → List Entry → Walk (List Entry))
+    → List Entry → List Entry → Walk (List Entry)
 less_meet f x next [] done = next [] (done ++ x ∷ [])
 less_meet f x next (y ∷ ys) done = elim (ltb x.column y.column) [
   | true ↦ next (y ∷ ys) (done ++ x ∷ [])

@@ -13,4 +13,5 @@ pub record CertificatesHold : Type 0 where
   pub infeasible : (p : Program) (y : List ℚ) (z : ℕ → ℚ) → IsProgram p → IsInfeasible p y → IsFeasible p z → ⊥
   -- along the ray of an unbounded one each step leads to a point, and the cost falls with it
   pub unbounded : (p : Program) (x d : ℕ → ℚ) (s : ℚ) → IsUnbounded p x d → zero_ℚ ≤ℚ s
-      → IsFeasible p (λ j. x j +ℚ s *ℚ d j) × (product p.cost (λ j. x j +ℚ s *ℚ d j) ≡ product p.cost x +ℚ s *ℚ product p.cost d)
+      → IsFeasible p (λ j. x j +ℚ s *ℚ d j)
+      × (product p.cost (λ j. x j +ℚ s *ℚ d j) ≡ product p.cost x +ℚ s *ℚ product p.cost d)

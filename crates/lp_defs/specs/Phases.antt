@@ -1,5 +1,6 @@
 -- The parts of a solve: artificial columns, the objective row that a phase begins with, and the pivots on artificial columns that are left.
-use Rattle.std.specs.Prelude.{ℕ, zero, suc, true, false, ◌+◌, ◌&&◌, ◌||◌, Bool, not, ltb, List, [], ◌∷◌, ◌++◌, Option, Some, None, Ok, Err}
+use Rattle.std.specs.Prelude.{ℕ, zero, suc, true, false, ◌+◌, ◌&&◌, ◌||◌, Bool, not, ltb, List, [], ◌∷◌, ◌++◌}
+use Rattle.std.specs.Prelude.{Option, Some, None, Ok, Err}
 use Rattle.rationals.specs.Rational.{ℚ, one_ℚ, neg_ℚ}
 use Rattle.rationals.specs.Passes.{Operation, then_walk, sub_walk}
 use Rattle.rationals.specs.Sparse.{Entry}
@@ -27,7 +28,8 @@ unit_costs j (suc m) = record { column = j; value = one_ℚ } ∷ unit_costs (su
 -- the objective row that a phase begins with, from the cost on: less, for each row in order, its basic column's cost times the row
 abbrev pub priced : List Entry → List Row → List Entry → Walk (List Entry)
 priced cost [] objective = Ok objective
-priced cost (r ∷ rows) objective = then_walk (cleared_form (value_at cost r.basic) r.line.entries objective) (λ next. priced cost rows next)
+priced cost (r ∷ rows) objective = then_walk (cleared_form (value_at cost r.basic) r.line.entries objective)
+    (λ next. priced cost rows next)
 
 -- ---- the end of phase one
 

@@ -1,5 +1,6 @@
 -- Tests of a number's sign.
-use Rattle.std.proofs.Common.{◌≡◌, ℕ, ◌≤ℤ◌, ◌<ℤ◌, subst, ℤ, negsuc, zero, suc, true, refl, sym, ap, ◌∙◌, arith}
+use Rattle.std.proofs.Common.{◌≡◌, ℕ, ◌≤ℤ◌, ◌<ℤ◌, subst, ℤ, negsuc, zero, suc, true, refl, sym, ap, ◌∙◌}
+use Rattle.std.proofs.Common.{arith}
 use Rattle.std.proofs.lemmas.Bool.{false≢true}
 use Rattle.std.proofs.lemmas.Int.{ints}
 use Rattle.std.specs.Prelude.{Bool, false, pos, int_lt, ◌*ℤ◌}
@@ -7,7 +8,8 @@ use Rattle.std.specs.Ordering.{int_eq, MatchOrdering}
 use Rattle.std.specs.Cmp.{int_ranks}
 use Rattle.std.specs.declared.cmp.Ordering.{Ordering}
 use Rattle.std.specs.declared.cmp.Ordering.TheVariants.{Less, Equal, Greater}
-use Rattle.rationals.specs.Rational.{ℚ, zero_ℚ, sign_ℚ, sign_of, same_ℚ, frac_self, frac_le, frac_le_to, ◌≤ℚ◌, ◌<ℚ◌, ◌÷◌, lt_of_not_le_ℚ}
+use Rattle.rationals.specs.Rational.{ℚ, zero_ℚ, sign_ℚ, sign_of, same_ℚ, frac_self, frac_le, frac_le_to, ◌≤ℚ◌, ◌<ℚ◌}
+use Rattle.rationals.specs.Rational.{◌÷◌, lt_of_not_le_ℚ}
 use Rattle.rationals.specs.Order.{cross, compare}
 use Rattle.rationals.proofs.Lowest.{zero_from_num, num_zero}
 
@@ -56,7 +58,8 @@ below (negsuc n) d e h = omega (arith, ints)
 pub is_above_zero_false : (a : ℚ) → is_above_zero a ≡ false → a ≤ℚ zero_ℚ
 unfolding is_above_zero zero_ℚ
 is_above_zero_false a e =
-    subst (λ (x : ℚ). x ≤ℚ pos 0 ÷ 1) (frac_self a) (frac_le a.num (pos 0) a.den 1 a.den_pos (omega arith) (not_above a.num a.den e))
+    subst (λ (x : ℚ). x ≤ℚ pos 0 ÷ 1) (frac_self a)
+    (frac_le a.num (pos 0) a.den 1 a.den_pos (omega arith) (not_above a.num a.den e))
 
 pub is_above_zero_true : (a : ℚ) → is_above_zero a ≡ true → zero_ℚ <ℚ a
 unfolding is_above_zero zero_ℚ
@@ -66,7 +69,8 @@ is_above_zero_true a e = lt_of_not_le_ℚ (λ h. above a.num a.den e
 pub is_below_zero_false : (a : ℚ) → is_below_zero a ≡ false → zero_ℚ ≤ℚ a
 unfolding is_below_zero zero_ℚ
 is_below_zero_false a e =
-    subst (λ (x : ℚ). pos 0 ÷ 1 ≤ℚ x) (frac_self a) (frac_le (pos 0) a.num 1 a.den (omega arith) a.den_pos (not_below a.num a.den e))
+    subst (λ (x : ℚ). pos 0 ÷ 1 ≤ℚ x) (frac_self a)
+    (frac_le (pos 0) a.num 1 a.den (omega arith) a.den_pos (not_below a.num a.den e))
 
 pub is_below_zero_true : (a : ℚ) → is_below_zero a ≡ true → a <ℚ zero_ℚ
 unfolding is_below_zero zero_ℚ

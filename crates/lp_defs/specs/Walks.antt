@@ -10,7 +10,8 @@ abbrev pub Walk : Type 0 → Type 0
 Walk A = Result A Operation
 
 -- a walk that ends well was well all along
-pub after_ok : {A B : Type 0} (w : Walk A) (go : A → Walk B) (v : B) → then_walk w go ≡ Ok v → (u : A) × (w ≡ Ok u) × (go u ≡ Ok v)
+pub after_ok : {A B : Type 0} (w : Walk A) (go : A → Walk B) (v : B) → then_walk w go ≡ Ok v
+    → (u : A) × (w ≡ Ok u) × (go u ≡ Ok v)
 after_ok (Ok u) go v h = (u, refl, h)
 after_ok (Err e) go v h = absurd (cc)
 

@@ -32,7 +32,8 @@ pub(crate) fn choose(
     used: &mut Option<Option<Name>>,
     set: Option<&[u8]>,
 ) -> Result<bool, AllocError>
-    ensures same { let line = option_map (λ name. name.now) set.entry in IfOk result (λ same. same ≡ same_set (chosen used.old line) line) }
+    ensures same { let line = option_map (λ name. name.now) set.entry in IfOk result
+        (λ same. same ≡ same_set (chosen used.old line) line) }
     ensures used { let line = option_map (λ name. name.now) set.entry in OnOk result (used.new ≡ Some (chosen used.old line)) }
 {
     match used {

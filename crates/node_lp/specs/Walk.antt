@@ -41,7 +41,8 @@ cuts_from bs parts trial made [] = Ok made
 cuts_from bs parts trial made (c ∷ cs) = then_walk (cut_walk bs parts trial c) (λ l. cuts_from bs parts trial (made ++ l ∷ []) cs)
 
 -- the same, child by child, from the child at place k on
-abbrev pub child_cuts_from : List ColumnBounds → List Part → List Entry → Bool → List Limit → ℕ → List ChildCuts → Walk (List Limit)
+abbrev pub child_cuts_from : List ColumnBounds → List Part → List Entry → Bool → List Limit
+    → ℕ → List ChildCuts → Walk (List Limit)
 child_cuts_from bs parts trial priced made k [] = Ok made
 child_cuts_from bs parts trial priced made k (c ∷ cs) =
     then_walk (cuts_from bs parts trial made (taken_of priced k c.cuts.items))

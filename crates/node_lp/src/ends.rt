@@ -1,5 +1,6 @@
 //! What is made of the end of the path.
-ghost use Rattle.std.specs.Prelude.{◌≡◌, ◌++◌, ◌<◌, ◌+◌, ◌^◌, [], length, suc, take, drop, IfOk, OnOk, MatchResult, Ok};
+ghost use Rattle.std.specs.Prelude.{◌≡◌, ◌++◌, ◌<◌, ◌+◌, ◌^◌, [], length, suc, take, drop, IfOk, OnOk, MatchResult};
+ghost use Rattle.std.specs.Prelude.{Ok};
 ghost use Rattle.rationals.specs.declared.Op.TheVariants.{Add};
 ghost use Rattle.rationals.specs.Rational.{zero_ℚ};
 ghost use Rattle.rationals.specs.Sparse.{coefficient};

@@ -1,5 +1,6 @@
 //! The rows of a node's program, operation by operation.
-ghost use Rattle.std.specs.Prelude.{◌≡◌, ◌++◌, ◌<◌, ◌≤◌, ◌+◌, ◌^◌, true, length, [], ◌∷◌, IfOk, OnOk, MatchResult, Ok};
+ghost use Rattle.std.specs.Prelude.{◌≡◌, ◌++◌, ◌<◌, ◌≤◌, ◌+◌, ◌^◌, true, length, [], ◌∷◌, IfOk, OnOk};
+ghost use Rattle.std.specs.Prelude.{MatchResult, Ok};
 ghost use Rattle.rationals.specs.Forms.{IsForm};
 ghost use Rattle.frac128.specs.Faults.{FaultOf, IfNotMemory};
 ghost use Rattle.scen_defs.specs.Lists.{Each, pick};

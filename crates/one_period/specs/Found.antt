@@ -42,7 +42,8 @@ multipliers_walk rows limits y = then_walk (own_walk rows (turned_back limits y)
 -- the multipliers, then the policy
 abbrev pub best_walk : List Part → List NodeRow → List Limit → (ℕ → ℚ) → List ℚ → Walk Found
 best_walk parts rows limits x y =
-    then_walk (multipliers_walk rows limits y) (λ dual. then_walk (columns_walk Point x parts) (λ policy. Ok (found_end.Best policy dual)))
+    then_walk (multipliers_walk rows limits y)
+    (λ dual. then_walk (columns_walk Point x parts) (λ policy. Ok (found_end.Best policy dual)))
 
 -- the multipliers, then the operations that show that they exclude every point
 abbrev pub tested_walk : lp.Program → List ℚ → Walk (Unit {0})

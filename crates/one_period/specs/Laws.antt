@@ -20,5 +20,6 @@ pub record IsWritten (program : Program) (node : Node) (limits : Limits) : Type 
 pub record PeriodLaws : Type 0 where
   pub tree : (program : Program) (node : Node) → IsOneNode program node → IsTree (seen program)
   -- a policy and multipliers prove each other best, multipliers show that nothing is feasible, and so on
-  pub shown : (program : Program) (node : Node) (limits : Limits) (pivots : ℕ) → IsOneNode program node → IsWritten program node limits
+  pub shown : (program : Program) (node : Node) (limits : Limits) (pivots : ℕ) → IsOneNode program node
+      → IsWritten program node limits
       → Shows (seen program) (found program node pivots)

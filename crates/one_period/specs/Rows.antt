@@ -20,7 +20,8 @@ use Rattle.one_period.specs.Parts.{part_of, behind, part_at, shift, entry, sprea
 -- the end less, entry by entry, the entry times the shift of its column, each as a step
 abbrev pub right_walk : List Part → ℚ → List Entry → Walk ℚ
 right_walk parts end [] = Ok end
-right_walk parts end (e ∷ f) = then_walk (less_product_walk end e.value (shift (part_at parts e.column))) (λ rest. right_walk parts rest f)
+right_walk parts end (e ∷ f) = then_walk (less_product_walk end e.value (shift (part_at parts e.column)))
+    (λ rest. right_walk parts rest f)
 
 -- the limit of an end of this form
 abbrev pub limit_walk : List Part → List Entry → RowKind → ℚ → Walk Limit
@@ -76,7 +77,8 @@ limit_count (Some low) (Some high) = pick (same low high) 1 2
 abbrev pub own_from : List ℚ → List NodeRow → List ℚ → Walk (List ℚ)
 own_from made [] duals = Ok made
 own_from made (r ∷ rs) duals =
-    then_walk (sum_walk (take (limit_count r.low r.high) duals)) (λ y. own_from (made ++ y ∷ []) rs (drop (limit_count r.low r.high) duals))
+    then_walk (sum_walk (take (limit_count r.low r.high) duals))
+    (λ y. own_from (made ++ y ∷ []) rs (drop (limit_count r.low r.high) duals))
 
 abbrev pub own_walk : List NodeRow → List ℚ → Walk (List ℚ)
 own_walk = own_from []

@@ -1,6 +1,7 @@
 -- What ties a table to the machine. The lists of the table answer for the machine's functions; three sets hold every node
 -- that may be begun, every uppermost node that isn't open, and every uppermost node that isn't good, and others besides.
-use Rattle.std.specs.Prelude.{◌≡◌, ℕ, ◌<◌, ◌≤◌, ◌⊎◌, ◌↔◌, Bool, true, false, Option, Some, None, List, length, slice_index, slice_index_or}
+use Rattle.std.specs.Prelude.{◌≡◌, ℕ, ◌<◌, ◌≤◌, ◌⊎◌, ◌↔◌, Bool, true, false, Option, Some, None, List, length}
+use Rattle.std.specs.Prelude.{slice_index, slice_index_or}
 use Rattle.pass_table.specs.declared.table.Solve.{Solve}
 use Rattle.pass_table.specs.declared.table.Underway.{Underway}
 use Rattle.pass_table.specs.declared.table.Reading.{Reading}
@@ -103,7 +104,8 @@ pub record HasRead (m : Machine) (f : Flight) (numbers : List ℕ) (readings : L
   pub whole : (c : ℕ) → IsChild m f.node c → IsRead readings c
   pub child : (i : ℕ) → i < length readings → IsChild m f.node (reading_at readings i).child
   pub read : (i : ℕ) → i < length readings → (reading_at readings i).number ≡ f.below (reading_at readings i).child
-  pub present : (i : ℕ) → i < length readings → slice_index numbers (reading_at readings i).child ≡ m.number (reading_at readings i).child
+  pub present : (i : ℕ) → i < length readings
+      → slice_index numbers (reading_at readings i).child ≡ m.number (reading_at readings i).child
 
 -- what a Begin answers and leaves: the least node that may be begun, or that there is none
 abbrev pub Begins : Machine → ℕ → Option ℕ → Table → Type 0

@@ -8,7 +8,8 @@ use Rattle.pass_table.specs.Fits.{Fits, IsHeld}
 -- each event keeps a machine valid
 pub record KeepValid : Type 0 where
   pub begin : (m : Machine) (worker n : ℕ) → IsValid m → m.flight worker ≡ None → MayBegin m n → IsValid (begun m worker n)
-  pub read : (m : Machine) (worker : ℕ) (f : Flight) (c : ℕ) → IsValid m → m.flight worker ≡ Some f → IsValid (read m worker f c)
+  pub read : (m : Machine) (worker : ℕ) (f : Flight) (c : ℕ) → IsValid m → m.flight worker ≡ Some f
+      → IsValid (read m worker f c)
   pub commit : (m : Machine) (worker : ℕ) (f : Flight) (point : Bool) → IsValid m → IsFlown m f.node worker f
       → IsValid (committed m worker f point)
   pub drop : (m : Machine) (worker : ℕ) → IsValid m → IsValid (dropped m worker)
@@ -17,7 +18,8 @@ pub record KeepValid : Type 0 where
 
 -- a Read changes nothing that a table keeps
 abbrev pub ReadsFit : Type 0
-ReadsFit = (t : Table) (m : Machine) (worker : ℕ) (f : Flight) (c : ℕ) → m.flight worker ≡ Some f → Fits t m → Fits t (read m worker f c)
+ReadsFit = (t : Table) (m : Machine) (worker : ℕ) (f : Flight) (c : ℕ) → m.flight worker ≡ Some f
+    → Fits t m → Fits t (read m worker f c)
 
 -- a commit that leaves the run complete is one of a node without children
 abbrev pub CompleteAtLeaves : Type 0
@@ -42,7 +44,8 @@ pub record Outdate : Type 0 where
   pub by_commit : (m : Machine) → IsValid m → (worker : ℕ) (f : Flight) (point : Bool) → IsFlown m f.node worker f → (c : ℕ)
       → IsLive m c → IsAbove m.parent f.node c
       → IsOutdated (committed m worker f point) f.node c
-  pub stays : (m : Machine) → IsValid m → (worker : ℕ) (f : Flight) (point : Bool) (n c : ℕ) → (c ≡ f.node → ⊥) → IsOutdated m n c
+  pub stays : (m : Machine) → IsValid m → (worker : ℕ) (f : Flight) (point : Bool) (n c : ℕ)
+      → (c ≡ f.node → ⊥) → IsOutdated m n c
       → IsOutdated (committed m worker f point) n c
   pub others : (m : Machine) (worker k : ℕ) (f : Flight) (n c : ℕ) → IsOutdated m n c
       → IsOutdated (begun m worker k) n c × IsOutdated (read m worker f k) n c × IsOutdated (dropped m worker) n c

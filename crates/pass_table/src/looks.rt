@@ -1,6 +1,7 @@
 //! Looks at sets that hold every node with some property, and others too: what hasn't the property is taken out on the
 //! way, so that each number that was put in is taken out once at most.
-ghost use Rattle.std.specs.Prelude.{◌≡◌, ℕ, ◌<◌, ◌↔◌, ◌⊎◌, Bool, true, false, IsTrue, length, slice_index_or, MatchOption};
+ghost use Rattle.std.specs.Prelude.{◌≡◌, ℕ, ◌<◌, ◌↔◌, ◌⊎◌, Bool, true, false, IsTrue, length, slice_index_or};
+ghost use Rattle.std.specs.Prelude.{MatchOption};
 ghost use Rattle.pass_table.specs.Marks.{HasNone, IsLeast};
 ghost use Rattle.pass_table.specs.Walks.{IsRising, IsGoodAt, IsFreshAt, IsOpenAt, IsReachedAt, IsReadyAt, KeepsAll};
 
@@ -47,7 +48,8 @@ pub fn are_open(nodes: &mut Marks, parents: &[u32], solves: &[Solve]) -> bool
     requires rising { IsRising parents.now }
     ensures keeps { KeepsAll (λ n. IsOpenAt parents.now solves.now n → ⊥) nodes.old nodes.new }
     ensures all { result ≡ true → HasNone nodes.new }
-    ensures some { result ≡ false → (n : ℕ) × ((slice_index_or nodes.new n false ≡ true) × (IsOpenAt parents.now solves.now n → ⊥)) }
+    ensures some { result ≡ false → (n : ℕ)
+        × ((slice_index_or nodes.new n false ≡ true) × (IsOpenAt parents.now solves.now n → ⊥)) }
 {
     'look: while let Some(node) = nodes.least() {
         if !is_open(parents, solves, node) {
@@ -64,7 +66,8 @@ pub fn are_good(nodes: &mut Marks, parents: &[u32], solves: &[Solve]) -> bool
     requires rising { IsRising parents.now }
     ensures keeps { KeepsAll (λ n. IsGoodAt parents.now solves.now n → ⊥) nodes.old nodes.new }
     ensures all { result ≡ true → HasNone nodes.new }
-    ensures some { result ≡ false → (n : ℕ) × ((slice_index_or nodes.new n false ≡ true) × (IsGoodAt parents.now solves.now n → ⊥)) }
+    ensures some { result ≡ false → (n : ℕ)
+        × ((slice_index_or nodes.new n false ≡ true) × (IsGoodAt parents.now solves.now n → ⊥)) }
 {
     'look: while let Some(node) = nodes.least() {
         if !is_good(parents, solves, node) {

@@ -1,5 +1,6 @@
 //! A set of numbers below a bound that tells its least one at once. Only making it takes memory.
-ghost use Rattle.std.specs.Prelude.{◌≡◌, ℕ, ◌+◌, ◌-◌, ◌*◌, ◌/◌, ◌<◌, ◌≤◌, Bool, true, false, length, slice_index, slice_index_or};
+ghost use Rattle.std.specs.Prelude.{◌≡◌, ℕ, ◌+◌, ◌-◌, ◌*◌, ◌/◌, ◌<◌, ◌≤◌, Bool, true, false, length};
+ghost use Rattle.std.specs.Prelude.{slice_index, slice_index_or};
 ghost use Rattle.std.specs.Prelude.{slice_set, replicate, MatchOption, IfOk, if◌then◌else◌, ◌==◌};
 ghost use Rattle.pass_table.specs.Marks.{nothing, NodesAre, HasNone, IsLeast};
 

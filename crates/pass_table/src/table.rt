@@ -1,5 +1,6 @@
 //! What is fresh, closed and complete, and what may be begun, kept event by event.
-ghost use Rattle.std.specs.Prelude.{◌≡◌, ℕ, ◌+◌, ◌<◌, ◌^◌, ◌↔◌, IsTrue, Some, None, IfOk, length, replicate, slice_index_or};
+ghost use Rattle.std.specs.Prelude.{◌≡◌, ℕ, ◌+◌, ◌<◌, ◌^◌, ◌↔◌, IsTrue, Some, None, IfOk, length, replicate};
+ghost use Rattle.std.specs.Prelude.{slice_index_or};
 ghost use Rattle.pass_table.specs.Marks.{nothing};
 ghost use Rattle.pass_table.specs.Walks.{IsRising, blank};
 ghost use Rattle.pass_table.specs.Readings.{AreWithin};
@@ -229,7 +230,8 @@ impl Table {
         requires worker { worker < length self.old.flights.items }
         requires held { IsHeld self.old.flights.items worker (length self.old.parents.items) }
         requires more { self.old.commits + 1 < 2 ^ 64 }
-        ensures { (m : Machine) (f : Flight) → IsValid m → Fits self.old m → m.flight worker ≡ Some f → (f.run ≡ m.run → IsLive m f.node)
+        ensures { (m : Machine) (f : Flight) → IsValid m → Fits self.old m → m.flight worker ≡ Some f
+            → (f.run ≡ m.run → IsLive m f.node)
             → Fits self.new (dropped m worker) }
     {
         let Some(flight) = self.flights[worker as usize] else {

@@ -29,7 +29,8 @@ cover = record {
   rows = record { name = codes "DEMAND"; stage = 1; kind = Greater; range = None } ∷ [];
   columns = record { name = codes "X"; stage = 0; lower = Some zero_ℚ; upper = None }
       ∷ record { name = codes "Y"; stage = 1; lower = Some zero_ℚ; upper = None } ∷ [];
-  nodes = Some record { stage = 0; parent = None; cost = record { column = 0; value = pos 1 ÷ 1 } ∷ []; rows = [] } ∷ demand 2 ∷ demand 6
+  nodes = Some record { stage = 0; parent = None; cost = record { column = 0; value = pos 1 ÷ 1 } ∷ []; rows = [] }
+      ∷ demand 2 ∷ demand 6
       ∷ [];
   scenarios = record { name = codes "S1"; probability = pos 1 ÷ 2; path = 0 ∷ 1 ∷ [] }
       ∷ record { name = codes "S2"; probability = pos 1 ÷ 2; path = 0 ∷ 2 ∷ [] } ∷ [];

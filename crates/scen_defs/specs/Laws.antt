@@ -9,7 +9,8 @@ abbrev pub WeakDuality : Type 0
 WeakDuality = (v : View) (x y : ℕ → ℕ → ℚ) → IsTree v → Feasible v x → IsGood v y → value v y ≤ℚ cost v x
 
 abbrev pub InfeasibilityShown : Type 0
-InfeasibilityShown = (v : View) (y : ℕ → ℕ → ℚ) → IsTree v → ShowsInfeasible v y → (x : ℕ → ℕ → ℚ) → Feasible v x → ⊥
+InfeasibilityShown = (v : View) (y : ℕ → ℕ → ℚ) → IsTree v → ShowsInfeasible v y
+    → (x : ℕ → ℕ → ℚ) → Feasible v x → ⊥
 
 -- below each number there is a feasible point's cost
 abbrev pub UnboundednessShown : Type 0
@@ -26,4 +27,5 @@ RecessionsAreTrees = (v : View) → IsTree v → IsTree (recession v)
 
 -- multipliers that are good on the recession form, and worth at least 0 there, are good
 abbrev pub RecessionMakesGood : Type 0
-RecessionMakesGood = (v : View) (y : ℕ → ℕ → ℚ) → IsTree v → IsGood (recession v) y → zero_ℚ ≤ℚ value (recession v) y → IsGood v y
+RecessionMakesGood = (v : View) (y : ℕ → ℕ → ℚ) → IsTree v → IsGood (recession v) y
+    → zero_ℚ ≤ℚ value (recession v) y → IsGood v y

@@ -1,5 +1,6 @@
 -- What the type of a program keeps.
-use Rattle.std.proofs.Common.{◌≡◌, ℕ, zero, suc, ◌<◌, ◌≤◌, ◌^◌, is_some, Bool, true, false, ◌||◌, eqb, leb, List, [], ◌∷◌, map, length}
+use Rattle.std.proofs.Common.{◌≡◌, ℕ, zero, suc, ◌<◌, ◌≤◌, ◌^◌, is_some, Bool, true, false, ◌||◌, eqb, leb, List}
+use Rattle.std.proofs.Common.{[], ◌∷◌, map, length}
 use Rattle.std.proofs.Common.{Option, Some, None}
 use Rattle.smps_words.specs.Line.{is_blank}
 use Rattle.smps_words.specs.declared.row_kind.RowKind.{RowKind}

@@ -172,4 +172,5 @@ feasible_walk v x = meets_walk own_end v x
 
 -- with zero ends, and then the cost
 abbrev pub direction_walk : View → (ℕ → ℕ → ℚ) → Result (Unit {0}) Stop
-direction_walk v d = then_walk (meets_walk zero_end v d) (λ _. then_walk (stopping (cost_walk v d)) (λ c. test (not (at_most zero_ℚ c))))
+direction_walk v d = then_walk (meets_walk zero_end v d)
+    (λ _. then_walk (stopping (cost_walk v d)) (λ c. test (not (at_most zero_ℚ c))))

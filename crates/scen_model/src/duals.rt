@@ -172,7 +172,8 @@ fn add_all_columns(
     values: &Values,
     start: Frac,
 ) -> Result<Frac, Stop>
-    ensures { result ≡ all_columns (costs_of costs (view_of (content program.now))) (view_of (content program.now)) (at values.now) start }
+    ensures { result ≡ all_columns (costs_of costs (view_of (content program.now)))
+        (view_of (content program.now)) (at values.now) start }
 {
     let mut sum = start;
     for (place, slot) in program.nodes.iter().enumerate() {

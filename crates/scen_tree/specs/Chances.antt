@@ -39,7 +39,8 @@ share_walk totals total (Below parent) = div_walk total (get_or totals parent ze
 
 abbrev pub shares_from : List ℚ → ℕ → List Position → List Sum
 shares_from totals n [] = []
-shares_from totals n (position ∷ positions) = share_walk totals (get_or totals n zero_ℚ) position ∷ shares_from totals (suc n) positions
+shares_from totals n (position ∷ positions) = share_walk totals (get_or totals n zero_ℚ) position
+    ∷ shares_from totals (suc n) positions
 
 -- the totals and the shares by node
 pub record Chances : Type 0 where

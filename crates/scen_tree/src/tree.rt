@@ -65,7 +65,8 @@ impl Tree {
     /// scenario, and then of the shares by node.
     pub fn of(alloc: Global, program: &Program) -> Result<Tree, TreeFault>
         requires { length program.now.nodes.items < 2 ^ 32 }
-        ensures { MatchResult result (λ tree. tree_walk (content program.now) ≡ Ok tree) (TreeFaultOf (tree_walk (content program.now))) }
+        ensures { MatchResult result (λ tree. tree_walk (content program.now) ≡ Ok tree)
+            (TreeFaultOf (tree_walk (content program.now))) }
     {
         let positions = positions_of(alloc, &program.nodes)?;
         let chances = node_chances(alloc, &positions, &program.scenarios)?;

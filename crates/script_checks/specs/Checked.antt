@@ -33,7 +33,8 @@ pub record IsCheck (p : Program) (report : Report) (check : Checked) : Type 0 wh
   pub shown : check.holds ≡ true → IsShown (view_of p) report
 
 -- a first report with its check, and those behind it; without a report no check
-abbrev pub AreHeads : (Report → Checked → Type 0) → (List Report → List Checked → Type 0) → List Report → List Checked → Type 0
+abbrev pub AreHeads : (Report → Checked → Type 0) → (List Report → List Checked → Type 0)
+    → List Report → List Checked → Type 0
 AreHeads first behind [] checks = behind [] checks
 AreHeads first behind (report ∷ reports) [] = ⊥
 AreHeads first behind (report ∷ reports) (check ∷ checks) = first report check × behind reports checks

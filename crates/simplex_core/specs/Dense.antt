@@ -10,7 +10,10 @@ use Rattle.lp_defs.specs.Path.{Row}
 -- the numbers of column j and those behind it as entries; those that are 0 are left out
 abbrev pub gathered : ℕ → List ℚ → List Entry
 gathered j [] = []
-gathered j (v ∷ vs) = elim (is_zero v) [ true ↦ gathered (suc j) vs | false ↦ record { column = j; value = v } ∷ gathered (suc j) vs ]
+gathered j (v ∷ vs) = elim (is_zero v) [
+  | true ↦ gathered (suc j) vs
+  | false ↦ record { column = j; value = v } ∷ gathered (suc j) vs
+]
 
 -- the numbers, of which that of one column is less v: a step
 abbrev pub less_at : List ℚ → ℕ → ℚ → Walk (List ℚ)

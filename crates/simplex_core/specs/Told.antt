@@ -16,7 +16,8 @@ abbrev pub Tells : Solution → Outcome → Type 0
 Tells s (outcome.Optimal point duals) = (x : ℕ → ℚ) × (s ≡ Optimum x duals.items) × ((c : ℕ) → coefficient point c ≡ x c)
 Tells s (outcome.Infeasible duals) = s ≡ Nowhere duals.items
 Tells s (outcome.Unbounded point ray) =
-    (x : ℕ → ℚ) × (d : ℕ → ℚ) × (s ≡ Endless x d) × ((c : ℕ) → coefficient point c ≡ x c) × ((c : ℕ) → coefficient ray c ≡ d c)
+    (x : ℕ → ℚ) × (d : ℕ → ℚ) × (s ≡ Endless x d) × ((c : ℕ) → coefficient point c ≡ x c)
+    × ((c : ℕ) → coefficient ray c ≡ d c)
 Tells s outcome.PivotsEnded = s ≡ Cut_off
 Tells s (outcome.Passed k p) = s ≡ Passes k p
 

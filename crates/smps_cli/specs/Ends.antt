@@ -12,7 +12,8 @@ use Rattle.smps_cli.specs.declared.status.Status.TheVariants.{Done, SomeOpen, Wo
 use Rattle.smps_cli.specs.Lines.{refused_text}
 
 -- It prints this, or refuses a text: nothing else comes.
-abbrev pub MayEnd : (Status → List ℕ → Type 0) → (FileKind → ℕ → Cause → List ℕ → Type 0) → Status → List ℕ → Type 0
+abbrev pub MayEnd : (Status → List ℕ → Type 0) → (FileKind → ℕ → Cause → List ℕ → Type 0)
+    → Status → List ℕ → Type 0
 MayEnd prints refuses Done output = prints Done output
 MayEnd prints refuses SomeOpen output = prints SomeOpen output
 MayEnd prints refuses (Refused file line cause) output = refuses file line cause output

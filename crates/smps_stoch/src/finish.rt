@@ -1,5 +1,6 @@
 //! ENDATA: the sums of the probabilities, and what the tables mean.
-ghost use Rattle.std.specs.Prelude.{◌≡◌, ◌≢◌, ◌<◌, ◌++◌, ◌∷◌, [], ℕ, pos, IfOk, OnOk, nat_eq, if◌then◌else◌, get_or, length, map};
+ghost use Rattle.std.specs.Prelude.{◌≡◌, ◌≢◌, ◌<◌, ◌++◌, ◌∷◌, [], ℕ, pos, IfOk, OnOk, nat_eq};
+ghost use Rattle.std.specs.Prelude.{if◌then◌else◌, get_or, length, map};
 ghost use Rattle.rationals.specs.Rational.{zero_ℚ, ◌÷◌};
 ghost use Rattle.stoch_defs.specs.Finish.{sum_from, is_near, divided_from, shared, stated_cases, chance_of, own_from, with_parts, block_of};
 ghost use Rattle.stoch_defs.specs.Finish.{blocks_from, stated_branch, branch_with, branches_with};

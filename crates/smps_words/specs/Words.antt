@@ -1,5 +1,6 @@
 -- Tables of words with codes.
-use Rattle.std.specs.Prelude.{ℕ, Bool, true, List, [], ◌∷◌, ◌++◌, Option, Some, None, length, nat_eq, not, ◌&&◌, if◌then◌else◌}
+use Rattle.std.specs.Prelude.{ℕ, Bool, true, List, [], ◌∷◌, ◌++◌, Option, Some, None, length, nat_eq, not, ◌&&◌}
+use Rattle.std.specs.Prelude.{if◌then◌else◌}
 use Rattle.std.specs.List.{list_any}
 use Rattle.smps_words.specs.Line.{fields_of}
 use Rattle.smps_words.specs.Names.{same_name}

@@ -1,5 +1,6 @@
 -- The data lines of a stoch file in groups: a line that begins a case or a scenario, with the lines behind it that set entries.
-use Rattle.std.specs.Prelude.{ℕ, Bool, true, false, List, [], ◌∷◌, ◌++◌, Option, Some, None, unwrap_or, filter, nat_eq, length, flat_map}
+use Rattle.std.specs.Prelude.{ℕ, Bool, true, false, List, [], ◌∷◌, ◌++◌, Option, Some, None, unwrap_or, filter, nat_eq, length}
+use Rattle.std.specs.Prelude.{flat_map}
 use Rattle.std.specs.Prelude.{codes, ◌&&◌, if◌then◌else◌}
 use Rattle.smps_words.specs.Line.{TextLine}
 use Rattle.smps_words.specs.Names.{same_name}

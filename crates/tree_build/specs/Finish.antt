@@ -1,5 +1,6 @@
 -- The nodes of a program, from their values.
-use Rattle.std.specs.Prelude.{ℕ, ◌-◌, List, [], ◌∷◌, ◌++◌, Option, Some, None, Result, Ok, Err, get_or, length, ◌+◌, ◌<◌, ◌^◌, ◌≡◌, IsOk, ⊤}
+use Rattle.std.specs.Prelude.{ℕ, ◌-◌, List, [], ◌∷◌, ◌++◌, Option, Some, None, Result, Ok, Err, get_or, length, ◌+◌}
+use Rattle.std.specs.Prelude.{◌<◌, ◌^◌, ◌≡◌, IsOk, ⊤}
 use Rattle.std.specs.Prelude.{nat_eq, if◌then◌else◌}
 use Rattle.rationals.specs.Passes.{Operation, then_walk}
 use Rattle.core_defs.specs.declared.parts.RowDef.{RowDef}
@@ -62,7 +63,8 @@ abbrev pub value_node : Debut → Position → Values → List NodeRow → Node
 value_node debut position d rows = record { stage = debut.stage; parent = parent_in position; cost = d.cost; rows = rows }
 
 -- the nodes behind those that are built
-abbrev pub value_nodes : List RowDef → List Debut → List Position → List (Option Node) → List Values → Result (List (Option Node)) Operation
+abbrev pub value_nodes : List RowDef → List Debut → List Position → List (Option Node)
+    → List Values → Result (List (Option Node)) Operation
 value_nodes defs debuts positions built [] = Ok built
 value_nodes defs debuts positions built (d ∷ all) =
     then_walk (value_rows defs [] d.rows) (λ rows. value_nodes defs debuts positions (built

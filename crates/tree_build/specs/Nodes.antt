@@ -1,5 +1,6 @@
 -- The values of all nodes, one by one.
-use Rattle.std.specs.Prelude.{◌≡◌, ℕ, true, List, [], ◌∷◌, ◌++◌, Option, Some, None, get_or, nat_lt, if◌then◌else◌, ⊤}
+use Rattle.std.specs.Prelude.{◌≡◌, ℕ, true, List, [], ◌∷◌, ◌++◌, Option, Some, None, get_or, nat_lt, if◌then◌else◌}
+use Rattle.std.specs.Prelude.{⊤}
 use Rattle.core_defs.specs.declared.program.Core.{Core}
 use Rattle.time_defs.specs.Means.{Stages}
 use Rattle.stoch_defs.specs.Random.{Block, Branch}

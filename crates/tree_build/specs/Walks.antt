@@ -1,5 +1,6 @@
 -- The program as it is computed: numbers of nodes, values of nodes, products, totals and shares, intervals.
-use Rattle.std.specs.Prelude.{◌≡◌, ℕ, ◌≤◌, Bool, true, false, ◌||◌, List, [], map, length, nat_lt, Result, Ok, Err, MatchResult, ⊤}
+use Rattle.std.specs.Prelude.{◌≡◌, ℕ, ◌≤◌, Bool, true, false, ◌||◌, List, [], map, length, nat_lt, Result, Ok, Err}
+use Rattle.std.specs.Prelude.{MatchResult, ⊤}
 use Rattle.rationals.specs.Passes.{Operation, then_walk}
 use Rattle.core_defs.specs.declared.program.Core.{Core}
 use Rattle.time_defs.specs.Means.{Stages}

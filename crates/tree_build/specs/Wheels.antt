@@ -1,5 +1,6 @@
 -- The cases of blocks that a scenario chooses, like the digits of a number.
-use Rattle.std.specs.Prelude.{ℕ, suc, ◌<◌, ◌+◌, ◌*◌, ◌/◌, ◌%◌, List, [], ◌∷◌, map, flat_map, length, nat_eq, nat_le, if◌then◌else◌}
+use Rattle.std.specs.Prelude.{ℕ, suc, ◌<◌, ◌+◌, ◌*◌, ◌/◌, ◌%◌, List, [], ◌∷◌, map, flat_map, length, nat_eq}
+use Rattle.std.specs.Prelude.{nat_le, if◌then◌else◌}
 use Rattle.scen_defs.specs.Lists.{pick}
 use Rattle.stoch_defs.specs.Random.{Block}
 use Rattle.build_defs.specs.Scenarios.{stages_from}
@@ -38,7 +39,8 @@ IsWithin (size ∷ sizes) (digit ∷ digits) = (digit < size) × IsWithin sizes 
 abbrev pub key_to : ℕ → List Wheel → List ℕ → ℕ → ℕ
 key_to stage [] digits key = key
 key_to stage (wheel ∷ wheels) [] key = key
-key_to stage (wheel ∷ wheels) (digit ∷ digits) key = key_to stage wheels digits (if nat_le wheel.stage stage then key * wheel.size + digit
+key_to stage (wheel ∷ wheels) (digit ∷ digits) key =
+    key_to stage wheels digits (if nat_le wheel.stage stage then key * wheel.size + digit
     else key)
 
 abbrev pub key_row : List Wheel → ℕ → List ℕ → List ℕ

@@ -1,5 +1,6 @@
 //! The values of a node: its costs, and the entries and right-hand sides of its rows.
-ghost use Rattle.std.specs.Prelude.{◌≡◌, ◌≤◌, ◌↔◌, ◌&&◌, IsTrue, nat_lt, nat_eq, get_or, length, take, drop, IfOk, OnOk};
+ghost use Rattle.std.specs.Prelude.{◌≡◌, ◌≤◌, ◌↔◌, ◌&&◌, IsTrue, nat_lt, nat_eq, get_or, length, take, drop, IfOk};
+ghost use Rattle.std.specs.Prelude.{OnOk};
 ghost use Rattle.tree_build.specs.Rows.{RowsFrom, RowsBelow, IsRowAt};
 ghost use Rattle.tree_build.specs.Values.{stages, put_at, with_entry, with_rhs, at_row, values_content, with_set, with_sets};
 
@@ -141,7 +142,8 @@ pub(crate) fn set_all(
     values: &mut Values,
     sets: &[(Entry, Frac)],
 ) -> Result<(), Memory>
-    ensures { OnOk result (values_content values.new ≡ with_sets core.now (stages periods.now) stage (values_content values.old) sets.now) }
+    ensures { OnOk result (values_content values.new
+        ≡ with_sets core.now (stages periods.now) stage (values_content values.old) sets.now) }
 {
     for pair in sets {
         let (entry, value) = *pair;

@@ -1,5 +1,6 @@
 //! The cases of blocks that a scenario chooses, like the digits of a number.
-ghost use Rattle.std.specs.Prelude.{◌≡◌, ◌<◌, ◌≤◌, ◌++◌, ◌+◌, ◌*◌, ◌^◌, ◌-◌, min, [], map, get_or, length, IfOk, OnOk};
+ghost use Rattle.std.specs.Prelude.{◌≡◌, ◌<◌, ◌≤◌, ◌++◌, ◌+◌, ◌*◌, ◌^◌, ◌-◌, min, [], map, get_or};
+ghost use Rattle.std.specs.Prelude.{length, IfOk, OnOk};
 ghost use Rattle.stoch_defs.specs.Random.{block_content};
 ghost use Rattle.build_defs.specs.Scenarios.{stages_from};
 ghost use Rattle.tree_build.specs.Wheels.{wheels_at, wheels_of, product, sizes_of, digits_of, IsWithin, key_to, key_row};

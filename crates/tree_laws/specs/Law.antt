@@ -63,7 +63,8 @@ BuiltAreTrees = (core : Core) (p : Stages) (random : Random) (program : Program)
 
 -- What is read of a stoch file keeps this.
 abbrev pub ReadCasesHold : Type 0
-ReadCasesHold = (core : Core) (p : Stages) (text : List ℕ) (random : Random) → read_random core p text ≡ Ok random → AreCases p random
+ReadCasesHold = (core : Core) (p : Stages) (text : List ℕ) (random : Random)
+    → read_random core p text ≡ Ok random → AreCases p random
 
 -- The program that is built keeps all that programs keep.
 abbrev pub BuiltArePrograms : Type 0

@@ -63,7 +63,8 @@ fn put_block(alloc: Global, page: &mut Page, shape: Shape, stage: u64) -> Result
 
 /// Appends the cases of a period.
 fn put_cases(alloc: Global, page: &mut Page, shape: Shape, stage: u64) -> Result<(), Memory>
-    ensures { OnOk result (page_view page.new ≡ upto (λ (case : ℕ). case_of (shape_view shape) stage) shape.branches (page_view page.old)) }
+    ensures { OnOk result (page_view page.new
+        ≡ upto (λ (case : ℕ). case_of (shape_view shape) stage) shape.branches (page_view page.old)) }
 {
     for before in 0..shape.branches {
         put_case(alloc, page, shape, stage)?;
