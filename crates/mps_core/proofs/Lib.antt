@@ -4,3 +4,4 @@ pub mod KeywordLemmas
 pub mod PlaceLemmas
 pub mod WholeLemmas
 pub mod ReadLemmas
+pub mod FallingLemmas

@@ -1,15 +1,13 @@
 -- What a tree map finds and keeps, in the words of terms.
 use Rattle.std.proofs.Common.{◌≡◌, ◌≤◌, ◌==◌, ap, ℕ, pos, Bool, true, false, cond, List, [], ◌∷◌, Option, Some, None, refl, arith, nat_lt, if◌then◌else◌, suc}
 use Rattle.std.proofs.lemmas.Bool.Decides.{nat_tests}
-use Rattle.std.specs.Map.{lookup, keys_of}
+use Rattle.std.specs.Map.{lookup}
 use Rattle.std.specs.Ordering.{nat_cmp, match_ordering, int_eq}
 use Rattle.std.specs.declared.cmp.Ordering.TheVariants.{Less, Equal, Greater}
 use Rattle.std.specs.BTreeMap.{insert_entry, is_at}
-use Rattle.std.specs.List.Sorted.{IsStrictlySortedBy}
-use Rattle.std.specs.List.{AllByRecursion}
 use Rattle.rationals.specs.Rational.{ℚ}
 use Rattle.rationals.specs.Sparse.{Entry, Ascending, Ascending-weaker}
-use Rattle.rationals.specs.Forms.{find, pick, put_unless, is_zero, IsForm, AllNonzero}
+use Rattle.rationals.specs.Forms.{find, pick, put_unless, is_zero, AllNonzero}
 use Rattle.rationals.proofs.Lowest.{num_zero}
 use Rattle.core_defs.specs.Terms.{terms_of, with_term, nonzero_terms}
 
@@ -42,20 +40,9 @@ insert_is (e ∷ es) row value none =
     let other : (row == e.0) ≡ false = grind (arith, nat_tests, both.0) in
     rw other (in_order (nat_lt row e.0) _ _ _ _ (ap (λ terms. record { column = e.0; value = e.1 } ∷ terms) (insert_is es row value both.1)))
 
-above : (key : ℕ) (keys : List ℕ) → AllByRecursion (λ other. nat_cmp key other ≡ Less) keys → AllByRecursion (λ other. suc key ≤ other) keys
-above key [] less = tt
-above key (other ∷ keys) less =
-    let below : nat_cmp key other ≡ Less = less.0 in
-    (grind (arith, nat_tests), above key keys less.1)
-
 pub put_rises : (zero_ : Bool) (start row : ℕ) (value : ℚ) (terms : List Entry) → start ≤ row → Ascending (suc row) terms → Ascending start (put_unless zero_ row value terms)
 put_rises true start row value terms low rises = Ascending-weaker (suc row) start terms (omega arith) rises
 put_rises false start row value terms low rises = (low, rises)
-
-map_rises : (start : ℕ) (es : List (ℕ × ℚ)) → IsStrictlySortedBy nat_cmp (keys_of es) → AllByRecursion (λ key. start ≤ key) (keys_of es) → Ascending start (nonzero_terms (terms_of es))
-unfolding IsStrictlySortedBy
-map_rises start [] sorted low = tt
-map_rises start (e ∷ es) sorted low = put_rises (is_zero e.1) start e.0 e.1 _ low.0 (map_rises (suc e.0) es sorted.1 (above e.0 (keys_of es) sorted.0))
 
 put_nonzero : (zero_ : Bool) (row : ℕ) (value : ℚ) (terms : List Entry) → is_zero value ≡ zero_ → AllNonzero terms → AllNonzero (put_unless zero_ row value terms)
 put_nonzero true row value terms is rest = rest
@@ -65,11 +52,3 @@ put_nonzero false row value terms is rest =
 pub terms_nonzero : (terms : List Entry) → AllNonzero (nonzero_terms terms)
 terms_nonzero [] = tt
 terms_nonzero (term ∷ terms) = put_nonzero (is_zero term.value) term.column term.value (nonzero_terms terms) refl (terms_nonzero terms)
-
-all_low : (keys : List ℕ) → AllByRecursion (λ key. 0 ≤ key) keys
-all_low [] = tt
-all_low (key ∷ keys) = (omega arith, all_low keys)
-
--- the terms of a map are a form, but for those that are 0
-pub map_is_form : (es : List (ℕ × ℚ)) → IsStrictlySortedBy nat_cmp (keys_of es) → IsForm (nonzero_terms (terms_of es))
-map_is_form es sorted = record { rises = map_rises 0 es sorted (all_low (keys_of es)); nonzero = terms_nonzero (terms_of es) }

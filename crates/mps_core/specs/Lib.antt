@@ -1,3 +1,4 @@
 pub mod View
 pub mod Keywords
 pub mod Whole
+pub mod Falling

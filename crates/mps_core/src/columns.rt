@@ -78,14 +78,14 @@ impl Draft {
                 if self.costs.value(row as u64).is_some() {
                     return Err(Stop::Fault(Cause::EntryTwice));
                 }
-                self.costs.add(row as u64, value)?;
+                self.costs.add(self.alloc, row as u64, value)?;
                 Ok(())
             }
             RowPlace::Constraint(row) => {
                 if self.terms.value(row as u64).is_some() {
                     return Err(Stop::Fault(Cause::EntryTwice));
                 }
-                self.terms.add(row as u64, value)?;
+                self.terms.add(self.alloc, row as u64, value)?;
                 if !is_zero(value) {
                     self.entries += 1;
                 }

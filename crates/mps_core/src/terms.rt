@@ -1,29 +1,90 @@
 //! Values by the numbers of rows.
-ghost use Rattle.std.specs.Prelude.{◌≡◌, [], None, IfOk, OnOk};
-ghost use Rattle.rationals.specs.Forms.{find};
-ghost use Rattle.core_defs.specs.Terms.{with_term, nonzero_terms};
+ghost use Rattle.std.specs.Prelude.{◌≡◌, ◌++◌, suc, true, [], None, IfOk, OnOk};
+ghost use Rattle.rationals.specs.Forms.{find, put};
+ghost use Rattle.rationals.specs.Sparse.{Ascending};
+ghost use Rattle.core_defs.specs.Terms.{terms_of, with_term, nonzero_terms};
+ghost use Rattle.mps_core.specs.Falling.{terms_in};
 
 use crate::number::is_zero;
 use frac128::{Form, Frac, Term};
 use std::alloc::{AllocError, Global};
 use std::collections::BTreeMap;
 use std::marker::Model;
+use std::mem;
 
 /// Values of different rows, in the order of the rows' numbers; a value may be 0.
 #[derive(Drop)]
 pub(crate) struct Terms {
+    /// Those of rows that came in falling order, where each that came was below all before.
+    falling: Vec<Term>,
+    /// All others; their rows are above those in falling order.
     values: BTreeMap<u64, Frac>,
 }
 
 impl Model for Terms {
     ghost use Rattle.std.specs.Prelude.{List};
-    ghost use Rattle.rationals.specs.Sparse.{Entry};
+    ghost use Rattle.rationals.specs.Sparse.{Entry, Ascending};
+    ghost use Rattle.mps_core.specs.Falling.{terms_in};
 
     ghost Value = { List Entry };
 
-    ghost use Rattle.core_defs.specs.Terms.{terms_of};
+    ghost view = { λ terms. terms_in terms.falling.items terms.values.entries };
 
-    ghost view = { λ terms. terms_of terms.values.entries };
+    ghost invariant = { λ terms. Ascending 0 (terms_in terms.falling.items terms.values.entries) };
+}
+
+/// The value of a row among terms.
+fn value_among(terms: &[Term], row: u64) -> Option<Frac>
+    ensures { result ≡ find terms.now row }
+{
+    for term in terms {
+        if term.column == row {
+            return Some(term.value);
+        }
+    }
+    None
+}
+
+/// Puts terms in falling order, all below those of a map, into the map.
+fn keep_all(values: &mut BTreeMap<u64, Frac>, falling: Vec<Term>) -> Result<(), AllocError>
+    requires { Ascending 0 (terms_in falling.items values.old.entries) }
+    ensures all { OnOk result (terms_of values.new.entries ≡ terms_in falling.items values.old.entries) }
+    ensures rises { Ascending 0 (terms_of values.new.entries) }
+{
+    for term in falling {
+        values.insert(term.column, term.value)?;
+    }
+    Ok(())
+}
+
+/// Appends a term, unless its value is 0.
+fn put(terms: &mut Vec<Term>, term: Term) -> Result<(), AllocError>
+    ensures { OnOk result (terms.new.items ≡ terms.old.items ++ put term.column term.value []) }
+{
+    if !is_zero(term.value) {
+        terms.push(term)?;
+    }
+    Ok(())
+}
+
+/// The terms that aren't 0, in rising order.
+fn form_of(
+    alloc: Global,
+    falling: Vec<Term>,
+    values: BTreeMap<u64, Frac>,
+) -> Result<Form, AllocError>
+    requires { Ascending 0 (terms_in falling.items values.entries) }
+    ensures { IfOk result (λ form. form ≡ nonzero_terms (terms_in falling.items values.entries)) }
+{
+    let (mut falling, mut values) = (falling, values);
+    let mut terms = Vec::new(alloc);
+    while let Some(term) = falling.pop() {
+        put(&mut terms, term)?;
+    }
+    while let Some((column, value)) = values.pop_first() {
+        put(&mut terms, Term { column, value })?;
+    }
+    Ok(Form::from_terms(alloc, terms))
 }
 
 impl Terms {
@@ -31,6 +92,7 @@ impl Terms {
         ensures { result ≡ [] }
     {
         Terms {
+            falling: Vec::new(alloc),
             values: BTreeMap::new(alloc),
         }
     }
@@ -39,14 +101,36 @@ impl Terms {
     pub(crate) fn value(&self, row: u64) -> Option<Frac>
         ensures { result ≡ find self.now row }
     {
-        self.values.get(&row).copied()
+        if self.is_below(row) {
+            return None;
+        }
+        match value_among(&self.falling, row) {
+            Some(value) => Some(value),
+            None => self.values.get(&row).copied(),
+        }
+    }
+
+    /// Whether the row is below all that have a value, and these came in falling order.
+    fn is_below(&self, row: u64) -> bool
+        ensures { result ≡ true → Ascending (suc row) self.now }
+    {
+        match self.falling.last() {
+            Some(last) => row < last.column,
+            None => self.values.is_empty(),
+        }
     }
 
     /// Gives a row its value.
-    pub(crate) fn add(&mut self, row: u64, value: Frac) -> Result<(), AllocError>
+    pub(crate) fn add(&mut self, alloc: Global, row: u64, value: Frac) -> Result<(), AllocError>
         requires { find self.old row ≡ None }
         ensures { OnOk result (self.new ≡ with_term row value self.old) }
     {
+        if self.is_below(row) {
+            self.falling.push(Term { column: row, value })?;
+            return Ok(());
+        }
+        let falling = mem::replace(&mut self.falling, Vec::new(alloc));
+        keep_all(&mut self.values, falling)?;
         self.values.insert(row, value)?;
         Ok(())
     }
@@ -55,6 +139,7 @@ impl Terms {
     pub(crate) fn clear(&mut self)
         ensures { self.new ≡ [] }
     {
+        self.falling.clear();
         self.values.clear();
     }
 
@@ -63,13 +148,8 @@ impl Terms {
         ensures form { IfOk result (λ form. form ≡ nonzero_terms self.old) }
         ensures none { OnOk result (self.new ≡ []) }
     {
-        let _count = self.values.len();
-        let mut terms = Vec::new(alloc);
-        while let Some((column, value)) = self.values.pop_first() {
-            if !is_zero(value) {
-                terms.push(Term { column, value })?;
-            }
-        }
-        Ok(Form::from_terms(alloc, terms))
+        let falling = mem::replace(&mut self.falling, Vec::new(alloc));
+        let values = mem::replace(&mut self.values, BTreeMap::new(alloc));
+        form_of(alloc, falling, values)
     }
 }
