@@ -1,6 +1,10 @@
 //! The program `tidzgheba`: runs its words over the files of the system and standard output.
 #![tactic(auto)]
 
+ghost use Rattle.std.specs.Prelude.{◌≡◌, map, drop, string_bytes};
+ghost use Rattle.std.specs.Process.{exit_status};
+ghost use Rattle.tidzgheba.specs.Ending.{EndsOn, IsStatusOf};
+
 mod causes;
 mod explain;
 mod files;
@@ -23,33 +27,58 @@ use std::process::ExitCode;
 use std::{env, io};
 use watched::Watched;
 
-/// Ends with the number of the status.
+/// Runs the words and ends with the number of the status to which they come.
 fn main(rt: HostRuntime) -> ExitCode {
-    ExitCode::from(outcome(&rt).number())
+    ended(&rt, arguments(&rt))
 }
 
-/// Runs the program's words; standard error says what their status means where the output doesn't say all.
-fn outcome(rt: &HostRuntime) -> Status {
-    match words(rt) {
+/// The arguments, the program's own name first; none where one of them isn't UTF-8.
+fn arguments(rt: &HostRuntime) -> Result<Option<Vec<String>>, AllocError> {
+    match env::args(rt) {
+        Ok(words) => Ok(Some(words.collect(rt.alloc())?)),
+        Err(error) if error.kind() == io::ErrorKind::OutOfMemory => Err(AllocError),
+        Err(_) => Ok(None),
+    }
+}
+
+/// Runs the words behind the program's own name over the files of the system and standard output; no words where one of them
+/// isn't UTF-8. Standard error says what the status means where the output doesn't say all.
+fn ended(rt: &HostRuntime, arguments: Result<Option<Vec<String>>, AllocError>) -> ExitCode
+    ensures { EndsOn arguments (exit_status result) }
+{
+    match arguments {
         Ok(Some(words)) => {
-            let (status, opens) = status_of(rt, &words);
-            tell(rt, &words, &status, opens);
-            status
+            let words = behind_first(&words);
+            let (status, opens) = status_of(rt, words);
+            tell(rt, words, &status, opens);
+            ExitCode::from(status.number())
         }
         Ok(None) => {
             let _ = rt.eprint(NOT_TEXT);
             let (status, _) = status_of(rt, &[]);
-            status
+            ExitCode::from(status.number())
         }
         Err(AllocError) => {
             let _ = rt.eprint(MEMORY);
-            Status::Memory
+            ExitCode::from(Status::Memory.number())
         }
     }
 }
 
+/// The words behind the first.
+fn behind_first(words: &[String]) -> &[String]
+    ensures { result.now ≡ drop 1 words.now }
+{
+    match words.split_first() {
+        Some((_, rest)) => rest,
+        None => &[],
+    }
+}
+
 /// How the words end, and the kinds of OPEN that their reports have.
-fn status_of(rt: &HostRuntime, words: &[String]) -> (Status, Opens) {
+fn status_of(rt: &HostRuntime, words: &[String]) -> (Status, Opens)
+    ensures { IsStatusOf (map string_bytes words.now) result.0 }
+{
     let mut sink = Watched::over(RealSink::new());
     let status = run(rt, rt.alloc(), words, &mut RealShelf::new(), &mut sink);
     (status, sink.opens())
@@ -62,13 +91,4 @@ fn tell(rt: &HostRuntime, words: &[String], status: &Status, opens: Opens) {
         Err(AllocError) if *status == Status::Memory => rt.eprint(MEMORY),
         Err(AllocError) => rt.eprint(UNEXPLAINED),
     };
-}
-
-/// The words behind the program's own name; none where one of them isn't UTF-8.
-fn words(rt: &HostRuntime) -> Result<Option<Vec<String>>, AllocError> {
-    match env::args(rt) {
-        Ok(words) => Ok(Some(words.skip(1).collect(rt.alloc())?)),
-        Err(error) if error.kind() == io::ErrorKind::OutOfMemory => Err(AllocError),
-        Err(_) => Ok(None),
-    }
 }
