@@ -4,7 +4,6 @@ pub mod WalkEnds
 pub mod CostEnds
 pub mod DualEnds
 pub mod FeasibleEnds
-pub mod ContentLemmas
 pub mod Gathers
 pub mod BelowLemmas
 pub mod Reduces

@@ -2,4 +2,4 @@ pub mod Walks
 pub mod Gathered
 pub mod Answers
 pub mod Laws
-pub mod Derived
+pub use Rattle.scen_nodes.specs.Derived

@@ -8,8 +8,8 @@ use Rattle.scen_defs.specs.Lists.{is_in, pick}
 use Rattle.scen_defs.specs.Ends.{used_end}
 use Rattle.scen_defs.specs.Program.{View, Scenario}
 use Rattle.scen_defs.specs.Flat.{along, is_above, zero_end}
-use Rattle.scen_model.specs.declared.tree.Costs.{Costs}
-use Rattle.scen_model.specs.declared.tree.Costs.TheVariants.{Own, Zero}
+use Rattle.scen_model.specs.declared.charges.Costs.{Costs}
+use Rattle.scen_model.specs.declared.charges.Costs.TheVariants.{Own, Zero}
 use Rattle.scen_model.specs.declared.feasibility.Ends.{Ends}
 use Rattle.scen_model.specs.declared.feasibility.Ends.TheVariants.{Own as OwnEnds, Zero as ZeroEnds}
 use Rattle.scen_model.specs.declared.stop.Stop.{Stop}

@@ -6,9 +6,9 @@ ghost use Rattle.scen_defs.specs.Program.{content, view_of};
 ghost use Rattle.scen_defs.specs.Flat.{is_above};
 ghost use Rattle.scen_model.specs.Gathered.{lists_in, AreSubtrees};
 
-use crate::tree::{parent, stage};
 use crate::unfinished::Unfinished;
 use scen_defs::Program;
+use scen_nodes::{parent, stage};
 use std::alloc::Global;
 
 /// So many empty lists.

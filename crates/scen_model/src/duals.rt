@@ -1,48 +1,24 @@
 // What multipliers are worth.
 ghost use Rattle.std.specs.Prelude.{◌≡◌};
-ghost use Rattle.rationals.specs.Rational.{zero_ℚ};
 ghost use Rattle.scen_defs.specs.Values.{at};
 ghost use Rattle.scen_defs.specs.Program.{content, view_of};
 ghost use Rattle.scen_defs.specs.Flat.{without_costs, is_above};
 ghost use Rattle.scen_defs.specs.Lists.{pick};
 ghost use Rattle.scen_model.specs.Answers.{AnswersOption};
-ghost use Rattle.scen_model.specs.Walks.{costs_of, rows_from, all_rows, less_from, less_all, reduced_walk};
+ghost use Rattle.scen_model.specs.Walks.{costs_of, less_from, less_all, reduced_walk};
 ghost use Rattle.scen_model.specs.Walks.{bound_step, columns_step, all_columns, dual_by, dual_walk};
 
+use crate::charges::{Costs, cost_at};
 use crate::ends::add_worth;
 use crate::quick::quick_value;
+use crate::rows::add_all_rows;
 use crate::stop::Stop;
 use crate::totals::{total, totals};
-use crate::tree::{Costs, cost_at, is_above, stage};
 use crate::unfinished::Ended;
 use frac128::{Frac, Passed};
 use scen_defs::{Halt, NodeRow, Place, Program, Values};
+use scen_nodes::{is_above, stage};
 use std::alloc::Global;
-
-/// The sum, and row by row the multiplier times the end that it uses.
-fn add_rows(rows: &[NodeRow], values: &Values, node: u64, start: Frac) -> Result<Frac, Stop>
-    ensures { result ≡ rows_from (at values.now node) start rows.now }
-{
-    let mut sum = start;
-    for row in rows {
-        let multiplier = values.get(node, row.row as u64);
-        sum = add_worth(row.low, row.high, multiplier, sum)?;
-    }
-    Ok(sum)
-}
-
-/// The rows of all nodes.
-pub(crate) fn add_all_rows(program: &Program, values: &Values) -> Result<Frac, Stop>
-    ensures { result ≡ all_rows (view_of (content program.now)) (at values.now) }
-{
-    let mut sum = Frac::zero();
-    for (place, slot) in program.nodes.iter().enumerate() {
-        if let Some(node) = slot {
-            sum = add_rows(&node.rows, values, place as u64, sum)?;
-        }
-    }
-    Ok(sum)
-}
 
 /// What is left of a number, row by row, less the entry of a column times the multiplier.
 fn less_rows(

@@ -12,9 +12,9 @@ ghost use Rattle.scen_model.specs.Gathered.{falls_walk};
 use crate::costs::cost_of;
 use crate::ends::is_at_most;
 use crate::stop::Stop;
-use crate::tree::{home, stage};
 use frac128::{Frac, Memory, Passed, Term};
 use scen_defs::{Halt, NodeRow, Place, Program, Values};
+use scen_nodes::{home, stage};
 use std::alloc::Global;
 
 /// Which ends of intervals count.

@@ -2,25 +2,22 @@
 #![tactic(auto)]
 
 mod below;
+mod charges;
 mod costs;
-mod derived;
 mod duals;
 mod ends;
 mod feasibility;
-mod fitting;
 mod laws;
 mod quick;
 mod reduced;
+mod rows;
 mod stop;
 mod totals;
-mod tree;
 mod unfinished;
 
 pub use costs::cost;
-pub use derived::derive;
 pub use duals::{dual_value, zero_value};
 pub use feasibility::{feasible, is_direction};
-pub use fitting::fits;
 pub use laws::{
     costs_are_exact, directions_are_exact, duals_are_exact, infeasibility_is_shown,
     programs_are_trees, recession_makes_good, recessions_are_trees, tests_are_exact,
@@ -30,3 +27,4 @@ pub use scen_defs::{
     Column, Finding, Halt, Kind, Node, NodeRow, Place, Program, Report, Row, Scenario, Value,
     Values,
 };
+pub use scen_nodes::{derive, fits};

@@ -7,15 +7,16 @@ ghost use Rattle.scen_model.specs.Walks.{total_walk, costs_of, columns_step, all
 ghost use Rattle.scen_model.specs.Gathered.{AreTotals, AreSubtrees, lists_in, columns_with, Finishes};
 
 use crate::below::subtrees;
-use crate::duals::add_all_rows;
+use crate::charges::Costs;
 use crate::ends::{add_worth, number_at};
 use crate::reduced::reduced_costs;
+use crate::rows::add_all_rows;
 use crate::stop::Stop;
 use crate::totals::all_totals;
-use crate::tree::{Costs, stage};
 use crate::unfinished::Ended;
 use frac128::Frac;
 use scen_defs::{Program, Values};
+use scen_nodes::stage;
 use std::alloc::Global;
 
 /// The sum, and for each column of a node's stage the number at its place times the bound that it uses.

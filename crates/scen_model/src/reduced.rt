@@ -9,11 +9,11 @@ ghost use Rattle.scen_defs.specs.Program.{content, view_of};
 ghost use Rattle.scen_model.specs.Walks.{total_walk, fold_walk, less_from, costs_of, reduced_walk};
 ghost use Rattle.scen_model.specs.Gathered.{Moves, everywhere, is_of, AreAt, entry_from, entries_from};
 
-use crate::fitting::is_column_of;
-use crate::tree::{Costs, cost_at, find, stage};
+use crate::charges::{Costs, cost_at};
 use crate::unfinished::Unfinished;
 use frac128::{Frac, Passed, Term};
 use scen_defs::{Column, NodeRow, Program, Values};
+use scen_nodes::{find, is_column_of, stage};
 use std::alloc::Global;
 
 /// Takes a product away from the number at a place.
