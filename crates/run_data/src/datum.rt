@@ -3,49 +3,11 @@
 use crate::frame::Frame;
 use crate::versions::Version;
 use cut_proof::{ColumnBounds, NodeDatum, Share};
-use frac128::{Form, Frac, Memory};
-use scen_defs::{Kind, NodeRow, Program};
+use frac128::{Frac, Memory};
+use scen_defs::{Kind, Program};
+use scen_nodes::{derived_bound, derived_cost, derived_rows};
 use scen_tree::Tree;
 use std::alloc::Global;
-
-/// A bound in a run: in a Recession run 0, and this number where there is none.
-fn bound(kind: Kind, absent: Frac, bound: Option<Frac>) -> Option<Frac> {
-    match (kind, bound) {
-        (Kind::Recession, None) => Some(absent),
-        (Kind::Recession, Some(_)) => Some(Frac::zero()),
-        (Kind::Feasible | Kind::Cost, _) => bound,
-    }
-}
-
-/// A row's end in a run: in a Recession run 0 where it is finite.
-fn end(kind: Kind, end: Option<Frac>) -> Option<Frac> {
-    match (kind, end) {
-        (Kind::Recession, Some(_)) => Some(Frac::zero()),
-        _ => end,
-    }
-}
-
-/// The costs in a run: none in a Feasible run.
-fn cost(alloc: Global, kind: Kind, cost: &Form) -> Result<Form, Memory> {
-    match kind {
-        Kind::Feasible => Ok(Form::empty(alloc)),
-        Kind::Recession | Kind::Cost => cost.copy(alloc),
-    }
-}
-
-/// The rows in a run.
-fn rows(alloc: Global, kind: Kind, rows: &[NodeRow]) -> Result<Vec<NodeRow>, Memory> {
-    let mut all = Vec::new(alloc);
-    for row in rows {
-        all.push(NodeRow {
-            row: row.row,
-            entries: row.entries.copy(alloc)?,
-            low: end(kind, row.low),
-            high: end(kind, row.high),
-        })?;
-    }
-    Ok(all)
-}
 
 /// The own columns in a run.
 fn bounds(
@@ -57,8 +19,8 @@ fn bounds(
     for column in columns {
         all.push(ColumnBounds {
             column: column.column,
-            lower: bound(kind, Frac::one().neg(), column.lower),
-            upper: bound(kind, Frac::one(), column.upper),
+            lower: derived_bound(kind, Frac::one().neg(), column.lower),
+            upper: derived_bound(kind, Frac::one(), column.upper),
         })?;
     }
     Ok(all)
@@ -92,8 +54,8 @@ pub fn datum_of(
             node,
             version.rows,
             version.costs,
-            cost(alloc, kind, &stated.cost)?,
-            rows(alloc, kind, &stated.rows)?,
+            derived_cost(alloc, kind, &stated.cost)?,
+            derived_rows(alloc, kind, &stated.rows)?,
             bounds(alloc, kind, frame.columns(node))?,
             shares(alloc, tree, frame.children(node))?,
         )),
