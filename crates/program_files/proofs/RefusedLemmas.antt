@@ -1,5 +1,5 @@
 -- What the faults of the three texts refuse.
-use Rattle.std.proofs.Common.{◌≡◌, ℕ, List, Option, Some, None, Err, inl, inr, refl}
+use Rattle.std.proofs.Common.{◌≡◌, ◌∙◌, sym, ℕ, List, Option, Some, None, Err, inl, inr, refl}
 use Rattle.core_defs.specs.declared.cause.Cause.TheVariants.{ScenarioLimit, Passes}
 use Rattle.core_defs.specs.declared.cause.Refusal.{Refusal}
 use Rattle.core_defs.specs.declared.cause.ReadFail.{ReadFail}
@@ -14,6 +14,8 @@ use Rattle.tree_build.specs.Walks.{build_over, build_walk, IsBuildFault}
 use Rattle.input_files.specs.declared.kind.FileKind.TheVariants as kind
 use Rattle.input_files.specs.declared.fetch.Texts.{Texts as TextsOf}
 use Rattle.input_files.specs.Unfetched.{texts_view, given_bytes}
+use Rattle.build_laws.specs.Law.{IsMeant}
+use Rattle.program_files.proofs.TreeLemmas.{meant_of}
 use Rattle.program_files.specs.Meant.{MeansCore, MeansPeriods, MeansRandom}
 use Rattle.program_files.specs.Refused.{RefusesProgram, IsUnbuilt, build_file}
 use Rattle.program_files.specs.Views.{GivesPeriods, GivesRandom, MeansOrRefused, unread_of, unbuilt_of}
@@ -41,9 +43,12 @@ module _ (texts : TextsOf) (core : Core) (means : MeansCore texts.core.items cor
       refuses : (refusal : Refusal) → IsUnbuilt core p random refusal → RefusesProgram (texts_view texts) (build_file (given_bytes texts.stoch)) refusal (Some core)
       refuses refusal h = inr (inr (inr (record { file_is = refl; core = core; known_is = refl; core_means = means; periods = p; periods_mean = mean; random = random; random_means = cases; fault = h })))
 
+      meant : IsMeant core p random
+      meant = meant_of core p (given_bytes texts.stoch) random cases
+
       pub stops_build : (fault : BuildFault) → IsBuildFault (build_over core p random) (build_walk core p random) fault → MeansOrRefused (texts_view texts) (Err (unbuilt_of (build_file (given_bytes texts.stoch)) fault core))
-      stops_build build_fault.Limit h = refuses (record { line = 0; cause = ScenarioLimit }) (inl (h, refl))
-      stops_build (build_fault.Passed o) h = refuses (record { line = 0; cause = Passes o }) (inr (h.0, (o, h.1, refl)))
+      stops_build build_fault.Limit h = refuses (record { line = 0; cause = ScenarioLimit }) (inl (sym meant.over ∙ h, refl))
+      stops_build (build_fault.Passed o) h = refuses (record { line = 0; cause = Passes o }) (inr (sym meant.over ∙ h.0, (o, sym meant.walk ∙ h.1, refl)))
       stops_build build_fault.Memory h = tt
 
 pub stops_core : (texts : TextsOf) (f : ReadFail) → IsReadOrRefused {X = Core} texts.core.items (Err f) → MeansOrRefused (texts_view texts) (Err (unread_of kind.Core f None))

@@ -18,6 +18,8 @@ use Rattle.tree_laws.specs.Law.{IsStaged, AreCases}
 use Rattle.tree_laws.proofs.Cases.{read_cases_hold}
 use Rattle.tree_laws.proofs.Fields.{read_periods_are_named}
 use Rattle.tree_laws.proofs.Programs.{built_are_programs}
+use Rattle.build_laws.specs.Law.{IsMeant}
+use Rattle.build_laws.proofs.Laws.{built_is_meant}
 use Rattle.program_files.specs.Meant.{single_stages, MeansPeriods, MeansRandom}
 
 -- all columns are of the first stage
@@ -43,6 +45,10 @@ staged core (Some text) p fits mean = record { rows = fits.rows; columns = fits.
 cases : (core : Core) (p : Stages) (stoch : Option (List ℕ)) (random : Random) → MeansRandom core p stoch random → AreCases p random
 cases core p None random is = subst (AreCases p) (sym is) tt
 cases core p (Some text) random mean = read_cases_hold core p text random (sym (laws.one core p text (Ok random) mean.0))
+
+-- the builder's loop makes the program that is meant
+pub meant_of : (core : Core) (p : Stages) (stoch : Option (List ℕ)) (random : Random) → MeansRandom core p stoch random → IsMeant core p random
+meant_of core p stoch random mean = built_is_meant core p random (cases core p stoch random mean)
 
 -- a single period
 single_named : Each IsField ((80 ∷ 49 ∷ []) ∷ [])

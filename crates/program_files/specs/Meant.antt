@@ -10,7 +10,7 @@ use Rattle.stoch_defs.specs.Random.{Random}
 use Rattle.stoch_defs.specs.Random.Random.{Blocks}
 use Rattle.stoch_defs.specs.File.{IsStochReading}
 use Rattle.stoch_defs.specs.Means.{meant}
-use Rattle.tree_build.specs.Walks.{build_over, build_walk}
+use Rattle.build_defs.specs.Built.{built, exceeds}
 use Rattle.scen_defs.specs.Program.{Program}
 use Rattle.input_files.specs.Fetched.{Texts, file_limit}
 
@@ -54,6 +54,6 @@ pub record MeansProgram (texts : Texts) (program : Program) : Type 0 where
   pub periods_mean : MeansPeriods core texts.time periods
   pub random : Random
   pub random_means : MeansRandom core periods texts.stoch random
-  -- it is within the limits, and built of these parts
-  pub within : build_over core periods random ≡ false
-  pub built_is : build_walk core periods random ≡ Ok program
+  -- it is within the limits, and the one that these parts mean
+  pub within : exceeds core periods random ≡ false
+  pub built_is : built core periods random ≡ Ok program

@@ -10,7 +10,7 @@ use Rattle.time_defs.specs.Means.{Stages}
 use Rattle.time_defs.specs.Laws.{IsTimeReading}
 use Rattle.stoch_defs.specs.Random.{Random}
 use Rattle.stoch_defs.specs.File.{IsStochReading}
-use Rattle.tree_build.specs.Walks.{build_over, build_walk}
+use Rattle.build_defs.specs.Built.{built, exceeds}
 use Rattle.input_files.specs.declared.kind.FileKind.{FileKind}
 use Rattle.input_files.specs.declared.kind.FileKind.TheVariants as kind
 use Rattle.input_files.specs.Fetched.{Texts}
@@ -52,8 +52,8 @@ build_file (Some text) = kind.Stoch
 
 -- A limit is exceeded, or an operation passes 128 bits: the first one.
 abbrev pub IsUnbuilt : Core → Stages → Random → Refusal → Type 0
-IsUnbuilt core p random refusal = ((build_over core p random ≡ true) × (refusal ≡ record { line = 0; cause = ScenarioLimit }))
-    ⊎ ((build_over core p random ≡ false) × ((operation : Operation) × (build_walk core p random ≡ Err operation)
+IsUnbuilt core p random refusal = ((exceeds core p random ≡ true) × (refusal ≡ record { line = 0; cause = ScenarioLimit }))
+    ⊎ ((exceeds core p random ≡ false) × ((operation : Operation) × (built core p random ≡ Err operation)
     × (refusal ≡ record { line = 0; cause = Passes operation })))
 
 -- All three are read, and the program isn't built.

@@ -1,4 +1,4 @@
-use Rattle.std.proofs.Common.{Err, sym, subst}
+use Rattle.std.proofs.Common.{Err, ◌∙◌, sym, subst}
 use Rattle.input_files.specs.declared.kind.FileKind.{FileKind}
 use Rattle.input_files.specs.Unfetched.{texts_view, given_bytes}
 use Rattle.program_files.specs.declared.reading.Unread.{Unread}
@@ -6,7 +6,8 @@ use Rattle.program_files.specs.Views.{MeansOrRefused, unbuilt_of}
 use Rattle.smps_time.specs.View.{stages_view}
 use Rattle.stoch_defs.specs.Random.{content as content_of}
 use Rattle.program_files.proofs.RefusedLemmas.{stops_build}
-use Rattle.program_files.proofs.TreeLemmas.{program_of, tree_of}
+use Rattle.program_files.proofs.TreeLemmas.{meant_of, program_of, tree_of}
+use Rattle.build_laws.specs.Law.{IsMeant}
 use Rattle.scen_defs.specs.Program.{content}
 use Rattle.program_files.proofs.reading.with_cases.Goals as goal
 
@@ -14,6 +15,21 @@ pub returns-in-Err-clause-means : goal.returns-in-Err-clause-means
 returns-in-Err-clause-means c = subst (λ (u : Unread). MeansOrRefused (texts_view c.args.texts.now) (Err u)) (sym c.unbuilt.ensures)
     (subst (λ (file : FileKind). MeansOrRefused (texts_view c.args.texts.now) (Err (unbuilt_of file c.in-Err.fault c.args.core))) (sym c.build_file.ensures)
     (stops_build c.args.texts.now c.args.core c.requires.core (stages_view c.args.periods.now) c.requires.periods (content_of c.args.stoch.now) c.requires.cases c.in-Err.fault c.in-Err.ensures))
+
+pub returns-in-Ok-clause-means : goal.returns-in-Ok-clause-means
+returns-in-Ok-clause-means c =
+    let meant : IsMeant c.args.core (stages_view c.args.periods.now) (content_of c.args.stoch.now) =
+        meant_of c.args.core (stages_view c.args.periods.now) (given_bytes c.args.texts.now.stoch) (content_of c.args.stoch.now) c.requires.cases in
+    record {
+      core = c.args.core;
+      core_means = c.requires.core;
+      periods = stages_view c.args.periods.now;
+      periods_mean = c.requires.periods;
+      random = content_of c.args.stoch.now;
+      random_means = c.requires.cases;
+      within = sym meant.over ∙ c.in-Ok.ensures.0;
+      built_is = sym meant.walk ∙ c.in-Ok.ensures.1;
+    }
 
 pub returns-in-Ok-clause-keeps : goal.returns-in-Ok-clause-keeps
 returns-in-Ok-clause-keeps c =
