@@ -104,7 +104,7 @@ with_rises n row value [] low none rises = (low, tt)
 with_rises n row value (x ∷ xs) low none rises =
     let both : ((x.column == row) ≡ false) × (find xs row ≡ None) = none_here (x.column == row) x.value (find xs row) none in
     with_step n row value x xs (nat_lt row x.column) refl low rises
-        (λ less. with_rises (suc x.column) row value xs (beyond row x.column both.0 less) both.1 rises.1)
+    (λ less. with_rises (suc x.column) row value xs (beyond row x.column both.0 less) both.1 rises.1)
 
 -- ---- as a form
 
@@ -148,7 +148,7 @@ pub kept : (term : Entry) (rest : List Entry) (pairs : List (ℕ × ℚ)) → As
 kept term rest pairs rises =
     let above : Ascending (suc term.column) (terms_of pairs) = above_it 0 (reverse rest) term (terms_of pairs) (subst (Ascending 0) (moved term rest pairs) rises) in
     ap (λ terms. reverse rest ++ terms) (insert_is pairs term.column term.value (find_below (suc term.column) term.column (terms_of pairs) above (omega arith))
-        ∙ with_below term.column term.value (terms_of pairs) above)
+    ∙ with_below term.column term.value (terms_of pairs) above)
     ∙ sym (moved term rest pairs)
 
 -- one more in the map

@@ -15,5 +15,5 @@ pub from_terms-requires : goal.from_terms-requires
 from_terms-requires c =
     let none : c.loop-column.values.entries ≡ [] = no_items c.loop-column.values.entries c.in_default-pop_first.ensures.variant.1 in
     let whole : c.loop-column.terms.items ≡ nonzero_terms (terms_in c.args.falling.items c.args.values.entries) =
-        sym (append-nil c.loop-column.terms.items) ∙ ap (λ rest. c.loop-column.terms.items ++ nonzero_terms (terms_of rest)) (sym none) ∙ c.loop-column.invariant in
+    sym (append-nil c.loop-column.terms.items) ∙ ap (λ rest. c.loop-column.terms.items ++ nonzero_terms (terms_of rest)) (sym none) ∙ c.loop-column.invariant in
     subst (λ (terms : List Entry). IsForm terms) (sym whole) (rising_is_form (terms_in c.args.falling.items c.args.values.entries) c.requires)

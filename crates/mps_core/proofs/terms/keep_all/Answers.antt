@@ -12,15 +12,18 @@ use Rattle.mps_core.proofs.terms.keep_all.Goals as goal
 pub loop-term-preserved : goal.loop-term-preserved
 loop-term-preserved c =
     let before : terms_in (c.in-Some.term ∷ into_iter_items c.next.new.self) c.loop-term.values.entries ≡ terms_in c.args.falling.items c.args.values.now.entries
-        = ap (λ items. terms_in items c.loop-term.values.entries) (sym c.in-Some.ensures.steps.0) ∙ c.loop-term.invariant.2 in
-    (tt, tt, ap (terms_in (into_iter_items c.next.new.self)) c.in_ok-insert.ensures.entries
-        ∙ ap (λ (term : Entry). terms_in (into_iter_items c.next.new.self) (insert_entry nat_cmp c.loop-term.values.entries term.column term.value)) c.term.view_is
-        ∙ kept c.in-Some.term (into_iter_items c.next.new.self) c.loop-term.values.entries (subst (Ascending 0) (sym before) c.requires)
-        ∙ before)
+    = ap (λ items. terms_in items c.loop-term.values.entries) (sym c.in-Some.ensures.steps.0) ∙ c.loop-term.invariant.2 in (
+      tt,
+      tt,
+      ap (terms_in (into_iter_items c.next.new.self)) c.in_ok-insert.ensures.entries
+          ∙ ap (λ (term : Entry). terms_in (into_iter_items c.next.new.self) (insert_entry nat_cmp c.loop-term.values.entries term.column term.value)) c.term.view_is
+          ∙ kept c.in-Some.term (into_iter_items c.next.new.self) c.loop-term.values.entries (subst (Ascending 0) (sym before) c.requires)
+          ∙ before,
+    )
 
 pub returns-in_err-insert-clause-rises : goal.returns-in_err-insert-clause-rises
 returns-in_err-insert-clause-rises c =
     let before : terms_in (c.in-Some.term ∷ into_iter_items c.next.new.self) c.loop-term.values.entries ≡ terms_in c.args.falling.items c.args.values.now.entries
-        = ap (λ items. terms_in items c.loop-term.values.entries) (sym c.in-Some.ensures.steps.0) ∙ c.loop-term.invariant.2 in
+    = ap (λ items. terms_in items c.loop-term.values.entries) (sym c.in-Some.ensures.steps.0) ∙ c.loop-term.invariant.2 in
     subst (λ pairs. Ascending 0 (terms_of pairs)) (sym c.in_err-insert.ensures.err)
     (rest_rises c.in-Some.term (into_iter_items c.next.new.self) c.loop-term.values.entries (subst (Ascending 0) (sym before) c.requires))

@@ -19,7 +19,7 @@ returns-in-Err-clause-means c = subst (λ (u : Unread). MeansOrRefused (texts_vi
 pub returns-in-Ok-clause-means : goal.returns-in-Ok-clause-means
 returns-in-Ok-clause-means c =
     let meant : IsMeant c.args.core (stages_view c.args.periods.now) (content_of c.args.stoch.now) =
-        meant_of c.args.core (stages_view c.args.periods.now) (given_bytes c.args.texts.now.stoch) (content_of c.args.stoch.now) c.requires.cases in
+    meant_of c.args.core (stages_view c.args.periods.now) (given_bytes c.args.texts.now.stoch) (content_of c.args.stoch.now) c.requires.cases in
     record {
       core = c.args.core;
       core_means = c.requires.core;

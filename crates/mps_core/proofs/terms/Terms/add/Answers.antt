@@ -11,7 +11,7 @@ use Rattle.mps_core.proofs.terms.Terms.add.Goals as goal
 pub returns-then-is_below : goal.returns-then-is_below
 returns-then-is_below c =
     let above : Ascending (suc c.args.row) (terms_in c.self.inside.falling.items c.self.inside.values.entries)
-        = subst (Ascending (suc c.args.row)) (sym c.self.view_is) (c.is_below.ensures c.if-is_below.true) in
+    = subst (Ascending (suc c.args.row)) (sym c.self.view_is) (c.is_below.ensures c.if-is_below.true) in
     ap (λ items. terms_in items c.self.inside.values.entries) c.in_ok-push.ensures.items
     ∙ pushed c.self.inside.falling.items c.self.inside.values.entries c.args.row c.args.value above
     ∙ ap (with_term c.args.row c.args.value) c.self.view_is

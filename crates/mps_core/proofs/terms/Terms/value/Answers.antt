@@ -12,12 +12,12 @@ returns-then-is_below c = sym (find_below (suc c.args.row) c.args.row c.args.sel
 pub returns-in-Some : goal.returns-in-Some
 returns-in-Some c =
     found_falling c.self.inside.falling.items c.self.inside.values.entries c.args.row c.in-Some.value c.self.invariant
-        (ap (λ items. find items c.args.row) (sym c.deref.ensures.value) ∙ sym c.value_among.ensures ∙ c.in-Some.is)
+    (ap (λ items. find items c.args.row) (sym c.deref.ensures.value) ∙ sym c.value_among.ensures ∙ c.in-Some.is)
     ∙ ap (λ terms. find terms c.args.row) c.self.view_is
 
 pub returns-in-None : goal.returns-in-None
 returns-in-None c =
     c.copied.ensures ∙ c.get.ensures.value ∙ lookup_is c.self.inside.values.entries c.args.row
     ∙ found_above c.self.inside.falling.items c.self.inside.values.entries c.args.row c.self.invariant
-        (ap (λ items. find items c.args.row) (sym c.deref.ensures.value) ∙ sym c.value_among.ensures ∙ c.in-None.is)
+    (ap (λ items. find items c.args.row) (sym c.deref.ensures.value) ∙ sym c.value_among.ensures ∙ c.in-None.is)
     ∙ ap (λ terms. find terms c.args.row) c.self.view_is
