@@ -1,4 +1,9 @@
 //! What a solve leaves.
+ghost use Rattle.std.specs.Prelude.{◌≡◌, true, false, Ok, Err, IfOk, OnOk, OnErr};
+ghost use Rattle.rationals.specs.Passes.{Operation};
+ghost use Rattle.pass_core.specs.Lasts.{kept, joined};
+ghost use Rattle.pass_core.specs.Ends.{with_lower, cheaper, after_root, after_policy};
+ghost use Rattle.pass_core.specs.Counting.{first_of, is_added, after_offer};
 
 use crate::cost::cost;
 use crate::ends::{Bounded, Priced};
@@ -53,13 +58,20 @@ impl State {
     }
 
     /// A solve that leaves no last solve.
-    fn left_open(&mut self, stop: Open) {
+    fn left_open(&mut self, stop: Open)
+        ensures { self.new ≡ record self.old { stop = first_of self.old.stop stop; table = self.new.table } }
+    {
         self.stop_at(stop);
         flight::forget(&mut self.table);
     }
 
     /// A solve that ended as none does.
-    fn left_stuck(&mut self) {
+    fn left_stuck(&mut self)
+        ensures { self.new ≡ record self.old {
+          stop = first_of self.old.stop (Open.Solves self.old.budget.solves);
+          table = self.new.table;
+        } }
+    {
         self.stuck();
         flight::forget(&mut self.table);
     }
@@ -102,7 +114,16 @@ impl State {
     }
 
     /// Keeps the point of a node. False where its values can't be joined with those above, which never comes.
-    fn keep(&mut self, node: u32, trial: &Form, point: Form) -> Result<bool, Memory> {
+    fn keep(&mut self, node: u32, trial: &Form, point: Form) -> Result<bool, Memory>
+        ensures kept { result ≡ Ok true → kept self.old.lasts.nodes.items node trial.now point ≡ Ok self.new.lasts.nodes.items }
+        ensures others { result ≡ Ok true → self.new ≡ record self.old { lasts = self.new.lasts } }
+        ensures passed { result ≡ Ok false → (p : Operation) × (kept self.old.lasts.nodes.items node trial.now point ≡ Err p) }
+        ensures stuck { result ≡ Ok false → self.new ≡ record self.old {
+          stop = first_of self.old.stop (Open.Solves self.old.budget.solves);
+          table = self.new.table;
+        } }
+        ensures err { OnErr result (self.new ≡ self.old) }
+    {
         match self.lasts.keep(node, trial, point) {
             Ok(()) => Ok(true),
             Err(FormFault::Memory) => Err(Memory),
@@ -114,13 +135,28 @@ impl State {
     }
 
     /// The cut of the root's last solve; in a Cost run its value may be the lower end.
-    fn take_root(&mut self, value: Frac, cut: SharedCut) -> Result<(), Memory> {
-        if self.kind == Kind::Cost {
-            self.ends.take_lower(Bounded {
-                value,
-                cut: cut.share()?,
-            });
+    fn take_root(&mut self, value: Frac, cut: SharedCut) -> Result<(), Memory>
+        ensures ok { OnOk result (self.new ≡ record self.old { ends = after_root self.old.kind self.old.ends value cut }) }
+        ensures err { OnErr result (self.new ≡ self.old) }
+    {
+        match self.kind {
+            Kind::Cost => self.take_value(value, cut),
+            Kind::Feasible | Kind::Recession => {
+                self.ends.root = Some(cut);
+                Ok(())
+            }
         }
+    }
+
+    /// The cut of the root's last solve, whose value may be the lower end.
+    fn take_value(&mut self, value: Frac, cut: SharedCut) -> Result<(), Memory>
+        ensures ok { OnOk result (self.new ≡ record self.old {
+          ends = record (with_lower self.old.ends (record { value = value; cut = cut })) { root = Some cut };
+        }) }
+        ensures err { OnErr result (self.new ≡ self.old) }
+    {
+        let own = cut.share()?;
+        self.ends.take_lower(Bounded { value, cut: own });
         self.ends.root = Some(cut);
         Ok(())
     }
@@ -137,7 +173,10 @@ impl State {
     }
 
     /// Whether a pool's answer says that the cut was added.
-    fn judged(&mut self, offer: Offer) -> bool {
+    fn judged(&mut self, offer: Offer) -> bool
+        ensures added { result ≡ is_added offer }
+        ensures state { self.new ≡ after_offer offer self.old }
+    {
         match offer {
             Offer::Added => true,
             Offer::NotNeeded(_) => false,
@@ -179,24 +218,53 @@ impl State {
     }
 
     /// A complete state's policy, of this cost.
-    fn take_policy(&mut self, alloc: Global, cost: Frac) -> Result<(), Memory> {
+    fn take_policy(&mut self, alloc: Global, cost: Frac) -> Result<(), Memory>
+        ensures ok { OnOk result (self.new ≡ record self.old {
+          ends = after_policy self.old.kind self.old.ends
+              (record { cost = cost; policy = joined self.old.lasts.nodes.items });
+        }) }
+        ensures err { OnErr result (self.new ≡ self.old) }
+    {
         match self.kind {
-            Kind::Recession => {
-                let policy = self.joined(alloc)?;
-                self.ends.direction = Some(Priced { cost, policy });
-            }
-            Kind::Feasible | Kind::Cost => {
-                if self.ends.wants(cost) {
-                    let policy = self.joined(alloc)?;
-                    self.ends.upper = Some(Priced { cost, policy });
-                }
-            }
+            Kind::Recession => self.take_direction(alloc, cost),
+            Kind::Feasible | Kind::Cost => self.take_upper(alloc, cost),
+        }
+    }
+
+    /// The policy is the direction.
+    fn take_direction(&mut self, alloc: Global, cost: Frac) -> Result<(), Memory>
+        ensures ok { OnOk result (self.new ≡ record self.old {
+          ends = record self.old.ends {
+            direction = Some (record { cost = cost; policy = joined self.old.lasts.nodes.items });
+          };
+        }) }
+        ensures err { OnErr result (self.new ≡ self.old) }
+    {
+        let policy = self.joined(alloc)?;
+        self.ends.direction = Some(Priced { cost, policy });
+        Ok(())
+    }
+
+    /// The policy is the upper end, where it is the first or costs less.
+    fn take_upper(&mut self, alloc: Global, cost: Frac) -> Result<(), Memory>
+        ensures ok { OnOk result (self.new ≡ record self.old {
+          ends = record self.old.ends {
+            upper = cheaper self.old.ends.upper (record { cost = cost; policy = joined self.old.lasts.nodes.items });
+          };
+        }) }
+        ensures err { OnErr result (self.new ≡ self.old) }
+    {
+        if self.ends.wants(cost) {
+            let policy = self.joined(alloc)?;
+            self.ends.upper = Some(Priced { cost, policy });
         }
         Ok(())
     }
 
     /// The points of all nodes.
-    fn joined(&self, alloc: Global) -> Result<Values, Memory> {
+    fn joined(&self, alloc: Global) -> Result<Values, Memory>
+        ensures { IfOk result (λ policy. policy ≡ joined self.now.lasts.nodes.items) }
+    {
         let points = self.lasts.points(alloc)?;
         join_policy(alloc, &points)
     }

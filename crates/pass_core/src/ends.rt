@@ -1,4 +1,7 @@
 //! The ends of the least cost that are known, and what shows that there is none.
+ghost use Rattle.std.specs.Prelude.{◌≡◌};
+ghost use Rattle.rationals.specs.Rational.{zero_ℚ};
+ghost use Rattle.pass_core.specs.Ends.{no_ends, below, wants, raises, with_lower, meet, falls};
 
 use cut_proof::SharedCut;
 use frac128::Frac;
@@ -33,9 +36,28 @@ pub(crate) struct Ends {
     pub(crate) nowhere: Option<SharedCut>,
 }
 
+/// Whether one number is less than another.
+fn is_below(one: Frac, other: Frac) -> bool
+    ensures { result ≡ below one other }
+{
+    one < other
+}
+
+/// Whether a root value would be the lower end: it is the first, or greater.
+fn is_raising(lower: &Option<Bounded>, value: Frac) -> bool
+    ensures { result ≡ raises lower.now value }
+{
+    match lower {
+        Some(best) => is_below(best.value, value),
+        None => true,
+    }
+}
+
 impl Ends {
     /// Nothing is known.
-    pub(crate) fn none() -> Ends {
+    pub(crate) fn none() -> Ends
+        ensures { result ≡ no_ends }
+    {
         Ends {
             upper: None,
             lower: None,
@@ -46,36 +68,40 @@ impl Ends {
     }
 
     /// Whether a policy of this cost would be the upper end: it is the first, or costs less.
-    pub(crate) fn wants(&self, cost: Frac) -> bool {
+    pub(crate) fn wants(&self, cost: Frac) -> bool
+        ensures { result ≡ wants self.now.upper cost }
+    {
         match &self.upper {
-            Some(best) => cost < best.cost,
+            Some(best) => is_below(cost, best.cost),
             None => true,
         }
     }
 
     /// Takes a root value as the lower end, where it is the first or greater.
-    pub(crate) fn take_lower(&mut self, found: Bounded) {
-        let is_better = match &self.lower {
-            Some(best) => best.value < found.value,
-            None => true,
-        };
-        if is_better {
+    pub(crate) fn take_lower(&mut self, found: Bounded)
+        ensures { self.new ≡ with_lower self.old found }
+    {
+        if is_raising(&self.lower, found.value) {
             self.lower = Some(found);
         }
     }
 
     /// Whether both ends are there and equal.
-    pub(crate) fn meet(&self) -> bool {
+    pub(crate) fn meet(&self) -> bool
+        ensures { result ≡ meet self.now.lower self.now.upper }
+    {
         match (&self.lower, &self.upper) {
             (Some(lower), Some(upper)) => lower.value == upper.cost,
-            _ => false,
+            (None, _) | (Some(_), None) => false,
         }
     }
 
     /// Whether the direction's cost is below 0.
-    pub(crate) fn falls(&self) -> bool {
+    pub(crate) fn falls(&self) -> bool
+        ensures { result ≡ falls self.now.direction }
+    {
         match &self.direction {
-            Some(direction) => direction.cost < Frac::zero(),
+            Some(direction) => is_below(direction.cost, Frac::zero()),
             None => false,
         }
     }

@@ -1,4 +1,6 @@
 //! What is known of a program, and the next step.
+ghost use Rattle.std.specs.Prelude.{◌≡◌};
+ghost use Rattle.pass_core.specs.Counting.{no_counts, raised, first_of, first_or};
 
 use crate::banks::Banks;
 use crate::budget::Budget;
@@ -55,7 +57,9 @@ pub(crate) struct Counts {
 }
 
 impl Counts {
-    fn none() -> Counts {
+    fn none() -> Counts
+        ensures { result ≡ no_counts }
+    {
         Counts {
             all: 0,
             since_report: 0,
@@ -64,7 +68,9 @@ impl Counts {
     }
 
     /// One more solve.
-    pub(crate) fn raise(&mut self) {
+    pub(crate) fn raise(&mut self)
+        ensures { self.new ≡ raised self.old }
+    {
         self.all = self.all.saturating_add(1);
         self.since_report = self.since_report.saturating_add(1);
         self.since_item = self.since_item.saturating_add(1);
@@ -165,7 +171,7 @@ impl State {
             task: Task {
                 kind: self.kind,
                 datum,
-                trial: self.lasts.trial(alloc, &self.frame, node)?,
+                trial: self.lasts.trial(alloc, self.frame.parent(node))?,
                 children: read.children,
                 pivots: self.budget.pivots,
             },
@@ -174,14 +180,19 @@ impl State {
     }
 
     /// Keeps the first reason why the method can't go on.
-    pub(crate) fn stop_at(&mut self, stop: Open) {
+    pub(crate) fn stop_at(&mut self, stop: Open)
+        ensures { self.new ≡ record self.old { stop = first_of self.old.stop stop } }
+    {
         if self.stop.is_none() {
             self.stop = Some(stop);
         }
     }
 
     /// Keeps a reason that lasts for the present run.
-    pub(crate) fn stop_for_run(&mut self, stop: Open) {
+    pub(crate) fn stop_for_run(&mut self, stop: Open)
+        ensures { let lasting = first_of self.old.lasting stop in
+            self.new ≡ record self.old { stop = first_or self.old.stop lasting; lasting = lasting } }
+    {
         if self.lasting.is_none() {
             self.lasting = Some(stop);
         }
@@ -191,7 +202,9 @@ impl State {
     }
 
     /// Stops in a case that never comes of a correct solve. Nothing is claimed of it.
-    pub(crate) fn stuck(&mut self) {
+    pub(crate) fn stuck(&mut self)
+        ensures { self.new ≡ record self.old { stop = first_of self.old.stop (Open.Solves self.old.budget.solves) } }
+    {
         self.stop_at(Open::Solves(self.budget.solves));
     }
 }

@@ -108,7 +108,8 @@ impl Table {
 
     /// Whether every node is fresh with a point.
     pub fn is_closed(&self) -> bool
-        ensures { (m : Machine) → Fits self.now m → IsTrue result ↔ IsClosed m }
+        ensures flag { result ≡ self.now.closed }
+        ensures meaning { (m : Machine) → Fits self.now m → IsTrue result ↔ IsClosed m }
     {
         self.closed
     }
