@@ -1,1 +1,6 @@
 mod Copies
+pub mod Places
+pub mod ReadPools
+pub mod Fresh
+pub mod Fitting
+pub mod Sweeps

@@ -3,3 +3,5 @@ pub mod Ends
 pub mod Costs
 pub mod Settled
 pub mod Counting
+pub mod Pools
+pub mod Banks

@@ -1,4 +1,9 @@
 //! What an edit of the program leaves.
+ghost use Rattle.std.specs.Prelude.{◌≡◌, ◌∷◌, [], map, IfOk, OnOk};
+ghost use Rattle.scen_defs.specs.Lists.{pick};
+ghost use Rattle.scen_defs.specs.Program.{content};
+ghost use Rattle.scen_defs.specs.Valid.{IsProgram};
+ghost use Rattle.pass_core.specs.Banks.{touched_of, fit_banks, swept_banks, edited_banks};
 
 use crate::ends::Ends;
 use crate::flight;
@@ -14,49 +19,97 @@ use std::alloc::Global;
 impl State {
     /// The versions of what an edit touches rise: the touches with the versions that stand from then on. What is gone has
     /// version 1.
-    pub fn touch(&mut self, alloc: Global, touched: &[Touched]) -> Result<Vec<Touch>, Memory> {
+    pub fn touch(&mut self, alloc: Global, touched: &[Touched]) -> Result<Vec<Touch>, Memory>
+        ensures touches { IfOk result (λ touches. map touched_of touches.items ≡ touched.now) }
+        ensures banks { self.new.banks ≡ self.old.banks }
+    {
         let mut touches = Vec::new(alloc);
         for place in touched {
-            let Touched { node, part } = *place;
-            let version = match part {
-                Part::Rows => self.versions.touch_rows(node),
-                Part::Costs => self.versions.touch_costs(node),
-                Part::Gone => 1,
-            };
-            touches.push(Touch {
-                node,
-                part,
-                version,
-            })?;
+            touches.push(self.raise(*place))?;
         }
         Ok(touches)
     }
 
+    /// The version of a part that is touched rises: the touch with the version that stands from then on.
+    fn raise(&mut self, touched: Touched) -> Touch
+        ensures touched { touched_of result ≡ touched }
+        ensures banks { self.new.banks ≡ self.old.banks }
+    {
+        let Touched { node, part } = touched;
+        let version = self.raised(node, part);
+        Touch {
+            node,
+            part,
+            version,
+        }
+    }
+
+    /// The version of a part rises, and is answered.
+    fn raised(&mut self, node: u32, part: Part) -> u32
+        ensures { self.new.banks ≡ self.old.banks }
+    {
+        match part {
+            Part::Rows => self.versions.touch_rows(node),
+            Part::Costs => self.versions.touch_costs(node),
+            Part::Gone => 1,
+        }
+    }
+
     /// Takes the program as an edit left it. `dues` are the sweeps for what it touched; `is_grown` says whether nodes came or
-    /// went. All that was found is forgotten but the cuts that stay, and a Feasible run opens.
+    /// went. Each pool is swept for the dues that name it, in their order, and no pool is changed otherwise, but for the pools
+    /// of nodes that came or went, which are empty. All else that was found is forgotten, and a Feasible run opens.
     pub fn edited(
         &mut self,
         alloc: Global,
         program: &Program,
         dues: &[Due],
         is_grown: bool,
-    ) -> Result<(), Memory> {
-        if is_grown {
-            self.frame = Frame::of(alloc, program)?;
-            let nodes = self.frame.nodes();
-            self.versions.grow(nodes)?;
-            self.banks.fit(alloc, program, nodes)?;
-        }
-        for due in dues {
-            if !self.banks.sweep(alloc, due)? {
-                self.stuck();
-            }
-        }
+    ) -> Result<(), Memory>
+        requires { IsProgram (content program.now) }
+        ensures { OnOk result (self.new.banks ≡ edited_banks is_grown (content program.now).nodes dues.now self.old.banks) }
+    {
+        self.grow(alloc, program, is_grown)?;
+        self.sweep(alloc, dues)?;
         self.begin_anew(alloc, is_grown)
     }
 
+    /// Where nodes came or went, there are places for them from now on.
+    fn grow(&mut self, alloc: Global, program: &Program, is_grown: bool) -> Result<(), Memory>
+        requires { IsProgram (content program.now) }
+        ensures { OnOk result (self.new.banks ≡ pick is_grown (fit_banks (content program.now).nodes self.old.banks) self.old.banks) }
+    {
+        if !is_grown {
+            return Ok(());
+        }
+        self.frame = Frame::of(alloc, program)?;
+        self.versions.grow(self.frame.nodes())?;
+        self.banks.fit(alloc, program)
+    }
+
+    /// Sweeps the pools of all dues, in their order.
+    fn sweep(&mut self, alloc: Global, dues: &[Due]) -> Result<(), Memory>
+        ensures { OnOk result (self.new.banks ≡ swept_banks dues.now self.old.banks) }
+    {
+        for due in dues {
+            self.sweep_for(alloc, due)?;
+        }
+        Ok(())
+    }
+
+    /// Sweeps the pool of a due.
+    fn sweep_for(&mut self, alloc: Global, due: &Due) -> Result<(), Memory>
+        ensures { OnOk result (self.new.banks ≡ swept_banks (due.now ∷ []) self.old.banks) }
+    {
+        if !self.banks.sweep(alloc, due)? {
+            self.stuck();
+        }
+        Ok(())
+    }
+
     /// Nothing is known but the cuts.
-    fn begin_anew(&mut self, alloc: Global, is_grown: bool) -> Result<(), Memory> {
+    fn begin_anew(&mut self, alloc: Global, is_grown: bool) -> Result<(), Memory>
+        ensures { self.new.banks ≡ self.old.banks }
+    {
         self.ends = Ends::none();
         self.stop = None;
         self.lasting = None;

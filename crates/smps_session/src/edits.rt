@@ -87,7 +87,9 @@ impl Method {
         tree: Tree,
         dues: &[Due],
         is_grown: bool,
-    ) -> Result<(), Memory> {
+    ) -> Result<(), Memory>
+        requires { IsProgram (content program.now) }
+    {
         match self {
             Method::Working(working) => {
                 working.tree = tree;

@@ -1,0 +1,12 @@
+use Rattle.std.proofs.Common.{◌∙◌}
+use Rattle.pass_core.specs.Banks.{swept_banks}
+use Rattle.pass_core.proofs.Sweeps.{swept_step, swept_done}
+use Rattle.pass_core.proofs.state.State.sweep.Goals as goal
+
+pub loop-due-preserved : goal.loop-due-preserved
+loop-due-preserved c =
+    swept_step c.args.dues.now c.loop-due.due-index _ c.loop-due.self.banks c.sweep_for.new.self.banks c.loop-due-test.true c.in_ok-sweep_for.ensures
+    ∙ c.loop-due.invariant
+
+pub returns : goal.returns
+returns c = swept_done c.args.dues.now c.loop-due.due-index (swept_banks c.args.dues.now c.args.self.now.banks) c.loop-due.self.banks c.loop-due-test.false c.loop-due.invariant
