@@ -143,12 +143,10 @@ fn offer_at(
     cut: SharedCut,
     trial: &Form,
 ) -> Result<Option<Offer>, Memory>
-    ensures answer {
-        IfOk result (λ answer. answer ≡ option_map (λ p. offer_of p cut trial.now) (pool_if (may_take cut) node pools.old))
-    }
-    ensures ok {
-        OnOk result (pools.new ≡ with_pool (may_take cut) (λ p. after_offer p cut (offer_of p cut trial.now)) node pools.old)
-    }
+    ensures answer { IfOk result (λ answer. answer
+        ≡ option_map (λ p. offer_of p cut trial.now) (pool_if (may_take cut) node pools.old)) }
+    ensures ok { OnOk result (pools.new
+        ≡ with_pool (may_take cut) (λ p. after_offer p cut (offer_of p cut trial.now)) node pools.old) }
     ensures err { OnErr result (pools.new ≡ pools.old) }
 {
     let place = node as usize;
@@ -183,9 +181,7 @@ fn put_at(pools: &mut [Pool], node: u32, cut: SharedCut) -> Result<bool, Memory>
 
 /// Adds the pool of a child, where there is one.
 fn read_at(alloc: Global, pools: &[Pool], child: u32, read: &mut Read) -> Result<(), Memory>
-    ensures cuts {
-        OnOk result (map cuts_of read.new.children.items ≡ map cuts_of read.old.children.items ++ cuts_at pools.now child)
-    }
+    ensures cuts { OnOk result (map cuts_of read.new.children.items ≡ map cuts_of read.old.children.items ++ cuts_at pools.now child) }
     ensures numbers { OnOk result (read.new.readings.items ≡ read.old.readings.items ++ number_at pools.now child) }
 {
     let place = child as usize;
@@ -315,14 +311,10 @@ impl Bank {
 
     /// Offers a cut to the pool of its node. None where there is none that takes it.
     fn offer(&mut self, cut: SharedCut, trial: &Form) -> Result<Option<Offer>, Memory>
-        ensures answer {
-            IfOk result (λ answer. answer
-                ≡ option_map (λ p. offer_of p cut trial.now) (pool_if (may_take cut) (source_of cut).node self.old))
-        }
-        ensures ok {
-            OnOk result (self.new
-                ≡ with_pool (may_take cut) (λ p. after_offer p cut (offer_of p cut trial.now)) (source_of cut).node self.old)
-        }
+        ensures answer { IfOk result (λ answer. answer
+            ≡ option_map (λ p. offer_of p cut trial.now) (pool_if (may_take cut) (source_of cut).node self.old)) }
+        ensures ok { OnOk result (self.new
+            ≡ with_pool (may_take cut) (λ p. after_offer p cut (offer_of p cut trial.now)) (source_of cut).node self.old) }
         ensures err { OnErr result (self.new ≡ self.old) }
     {
         let node = cut.cut().node();
@@ -404,9 +396,7 @@ impl Banks {
 
     /// The pools of some nodes in a run of this kind, as they are.
     pub(crate) fn read(&self, alloc: Global, kind: Kind, nodes: &[u32]) -> Result<Read, Memory>
-        ensures cuts {
-            IfOk result (λ read. map cuts_of read.children.items ≡ cuts_read (pools_of kind self.now) nodes.now)
-        }
+        ensures cuts { IfOk result (λ read. map cuts_of read.children.items ≡ cuts_read (pools_of kind self.now) nodes.now) }
         ensures numbers { IfOk result (λ read. read.readings.items ≡ numbers_read (pools_of kind self.now) nodes.now) }
     {
         self.bank(kind).read(alloc, nodes)
@@ -419,15 +409,11 @@ impl Banks {
         cut: SharedCut,
         trial: &Form,
     ) -> Result<Option<Offer>, Memory>
-        ensures answer {
-            IfOk result (λ answer. answer ≡ option_map (λ p. offer_of p cut trial.now)
-                (pool_if (may_take cut) (source_of cut).node (pools_of kind self.old)))
-        }
-        ensures ok {
-            OnOk result (self.new ≡ with_pools kind
-                (with_pool (may_take cut) (λ p. after_offer p cut (offer_of p cut trial.now)) (source_of cut).node
-                (pools_of kind self.old)) self.old)
-        }
+        ensures answer { IfOk result (λ answer. answer ≡ option_map (λ p. offer_of p cut trial.now)
+            (pool_if (may_take cut) (source_of cut).node (pools_of kind self.old))) }
+        ensures ok { OnOk result (self.new ≡ with_pools kind
+            (with_pool (may_take cut) (λ p. after_offer p cut (offer_of p cut trial.now)) (source_of cut).node
+            (pools_of kind self.old)) self.old) }
         ensures err { OnErr result (self.new ≡ self.old) }
     {
         match kind {
@@ -439,10 +425,8 @@ impl Banks {
     /// Puts a cut into the pool of its node in a run of this kind. False where there is none that takes it.
     pub(crate) fn ground(&mut self, kind: Kind, cut: SharedCut) -> Result<bool, Memory>
         ensures done { IfOk result (λ done. done ≡ passes_at (may_put cut) (source_of cut).node (pools_of kind self.old)) }
-        ensures ok {
-            OnOk result (self.new ≡ with_pools kind
-                (with_pool (may_put cut) (λ p. with_cut p cut) (source_of cut).node (pools_of kind self.old)) self.old)
-        }
+        ensures ok { OnOk result (self.new ≡ with_pools kind
+            (with_pool (may_put cut) (λ p. with_cut p cut) (source_of cut).node (pools_of kind self.old)) self.old) }
         ensures err { OnErr result (self.new ≡ self.old) }
     {
         match kind {

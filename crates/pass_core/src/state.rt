@@ -166,7 +166,9 @@ impl State {
         else {
             return Ok(None);
         };
-        let read = self.banks.read(alloc, self.kind, self.frame.children(node))?;
+        let read = self
+            .banks
+            .read(alloc, self.kind, self.frame.children(node))?;
         Ok(Some(Begun {
             task: Task {
                 kind: self.kind,

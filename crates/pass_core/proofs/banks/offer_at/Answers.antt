@@ -1,4 +1,4 @@
-use Rattle.std.proofs.Common.{◌≡◌, true, get_or, Some, sym, ap, ◌∙◌}
+use Rattle.std.proofs.Common.{get_or, Some, sym, ap, ◌∙◌}
 use Rattle.std.specs.Option.{option_map}
 use Rattle.std.proofs.lemmas.Bool.{ltb-true, and_parts}
 use Rattle.cut_pool.specs.Pool.{offer_of, after_offer}

@@ -1,4 +1,5 @@
-use Rattle.std.proofs.Common.{map, refl}
+use Rattle.std.proofs.Common.{map, refl, ap, ◌∙◌}
+use Rattle.cut_pool.specs.Held.{Held}
 use Rattle.pass_core.specs.Pools.{cuts_of}
 use Rattle.pass_core.proofs.ReadPools.{no_cuts_read, no_number_read, cuts_added, number_added}
 use Rattle.pass_core.proofs.banks.read_at.Goals as goal
@@ -12,9 +13,11 @@ returns-then-place-pools-clause-numbers c = no_number_read c.args.pools.now c.ar
 pub returns-clause-cuts : goal.returns-clause-cuts
 returns-clause-cuts c =
     cuts_added c.args.pools.now c.args.child c.index-pools-place.result c.args.read.now.children.items c.push.new.self.items
-    record { child = c.args.child; cuts = c.in_ok-copied.copied.cuts } c.if-place-pools.false c.in_ok-push.ensures.items refl c.in_ok-copied.ensures.cuts
+    record { child = c.args.child; cuts = c.in_ok-copied.copied.cuts } c.if-place-pools.false c.in_ok-push.ensures.items refl
+    (c.in_ok-copied.ensures.cuts ∙ ap (λ (p : Held). p.cuts) c.index-pools-place.is)
 
 pub returns-clause-numbers : goal.returns-clause-numbers
 returns-clause-numbers c =
     number_added c.args.pools.now c.args.child c.index-pools-place.result c.args.read.now.readings.items c.push-2.new.self.items
-    c.in_ok-copied.copied.number c.if-place-pools.false c.in_ok-push-2.ensures.items c.in_ok-copied.ensures.number
+    c.in_ok-copied.copied.number c.if-place-pools.false c.in_ok-push-2.ensures.items
+    (c.in_ok-copied.ensures.number ∙ ap (λ (p : Held). p.number) c.index-pools-place.is)

@@ -1,4 +1,3 @@
-use Rattle.std.proofs.Common.{sym}
 use Rattle.std.proofs.lemmas.Result.{on_ok_weaker}
 use Rattle.pass_core.proofs.Sweeps.{sweeps_plain, sweeps_cone}
 use Rattle.pass_core.proofs.banks.Banks.sweep.Goals as goal
