@@ -55,12 +55,12 @@ cuts_read pools (child ∷ nodes) = cuts_at pools child ++ cuts_read pools nodes
 abbrev pub reading : ℕ → Held → Reading
 reading child p = record { child = child; number = p.number }
 
-abbrev pub number_at : List Held → ℕ → List Reading
-number_at pools child = option_to_list (option_map (reading child) (slice_get pools child))
+abbrev pub numbers_at : List Held → ℕ → List Reading
+numbers_at pools child = option_to_list (option_map (reading child) (slice_get pools child))
 
 abbrev pub numbers_read : List Held → List ℕ → List Reading
 numbers_read pools [] = []
-numbers_read pools (child ∷ nodes) = number_at pools child ++ numbers_read pools nodes
+numbers_read pools (child ∷ nodes) = numbers_at pools child ++ numbers_read pools nodes
 
 -- ---- a cut for one pool
 -- a pool may change while its number is below the greatest one of 64 bits

@@ -8,7 +8,7 @@ ghost use Rattle.cut_defs.specs.Stored.{source_of};
 ghost use Rattle.cut_defs.specs.Support.{support, first_stale};
 ghost use Rattle.cut_pool.specs.Pool.{offer_of, after_offer, with_cut, swept, VersionIsAbove, ShiftFits};
 ghost use Rattle.pass_core.specs.Pools.{no_cuts, all_empty, numbers_of, fit_pools, fit_pool};
-ghost use Rattle.pass_core.specs.Pools.{cuts_of, cuts_at, cuts_read, number_at, numbers_read};
+ghost use Rattle.pass_core.specs.Pools.{cuts_of, cuts_at, cuts_read, numbers_at, numbers_read};
 ghost use Rattle.pass_core.specs.Pools.{may_change, may_take, may_put, pool_if, with_pool, fitting, swept_for};
 
 use cut_defs::{Due, Shift, Touch};
@@ -182,7 +182,7 @@ fn put_at(pools: &mut [Pool], node: u32, cut: SharedCut) -> Result<bool, Memory>
 /// Adds the pool of a child, where there is one.
 fn read_at(alloc: Global, pools: &[Pool], child: u32, read: &mut Read) -> Result<(), Memory>
     ensures cuts { OnOk result (map cuts_of read.new.children.items ≡ map cuts_of read.old.children.items ++ cuts_at pools.now child) }
-    ensures numbers { OnOk result (read.new.readings.items ≡ read.old.readings.items ++ number_at pools.now child) }
+    ensures numbers { OnOk result (read.new.readings.items ≡ read.old.readings.items ++ numbers_at pools.now child) }
 {
     let place = child as usize;
     if place >= pools.len() {
