@@ -115,14 +115,22 @@ impl State {
         self.lasting = None;
         self.counts.since_item = 0;
         if self.is_begun || is_grown {
-            self.lasts = Lasts::none(alloc, self.frame.nodes())?;
-            match flight::start(alloc, &self.frame)? {
-                Some(table) => self.table = table,
-                None => self.stuck(),
-            }
+            self.forget(alloc)?;
         }
         self.kind = Kind::Feasible;
         self.is_begun = false;
+        Ok(())
+    }
+
+    /// No node has a last solve.
+    fn forget(&mut self, alloc: Global) -> Result<(), Memory>
+        ensures { self.new.banks ≡ self.old.banks }
+    {
+        self.lasts = Lasts::none(alloc, self.frame.nodes())?;
+        match flight::start(alloc, &self.frame)? {
+            Some(table) => self.table = table,
+            None => self.stuck(),
+        }
         Ok(())
     }
 }
