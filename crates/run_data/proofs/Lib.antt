@@ -1,0 +1,4 @@
+pub mod FrameLemmas
+pub mod TreeReads
+pub mod BookData
+pub mod DatumLemmas

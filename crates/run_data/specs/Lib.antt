@@ -1,0 +1,4 @@
+pub mod Frames
+pub mod Counts
+pub mod NodeData
+pub mod Laws

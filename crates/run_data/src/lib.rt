@@ -5,6 +5,6 @@ mod datum;
 mod frame;
 mod versions;
 
-pub use datum::datum_of;
+pub use datum::{data_are_the_books, datum_of};
 pub use frame::Frame;
 pub use versions::{Version, Versions};
