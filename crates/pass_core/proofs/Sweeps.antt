@@ -29,9 +29,10 @@ swept_next : (due : Due) (dues : List Due) (b c : Banks) → c ≡ swept_banks (
 swept_next due dues b c e =
     ap (swept_banks dues) e ∙ ap₂ (λ ps qs. record { plain = ps; cone = qs }) (next_after Plain 0 due dues b.plain) (next_after Cone 0 due dues b.cone)
 
-pub swept_step : (all : List Due) (i : ℕ) (d : Due) (b c : Banks) → i < length all → c ≡ swept_banks (get_or all i d ∷ []) b
+pub swept_step : (all : List Due) (i : ℕ) (d : Due) (b c : Banks) → i < length all → d ≡ get_or all i d → c ≡ swept_banks (d ∷ []) b
     → swept_banks (drop (i + 1) all) c ≡ swept_banks (drop i all) b
-swept_step all i d b c h e = swept_next (get_or all i d) (drop (i + 1) all) b c e ∙ ap (λ ds. swept_banks ds b) (sym (drop_more all i d h))
+swept_step all i d b c h is e =
+    swept_next d (drop (i + 1) all) b c e ∙ ap (λ ds. swept_banks ds b) (ap (λ x. x ∷ drop (i + 1) all) is ∙ sym (drop_more all i d h))
 
 pub swept_done : (all : List Due) (i : ℕ) (b c : Banks) → length all ≤ i → swept_banks (drop i all) c ≡ b → c ≡ b
 swept_done all i b c h e = sym (ap (λ ds. swept_banks ds c) (drop_all i all h) ∙ swept_for_none c) ∙ e

@@ -5,7 +5,8 @@ use Rattle.pass_core.proofs.state.State.sweep.Goals as goal
 
 pub loop-due-preserved : goal.loop-due-preserved
 loop-due-preserved c =
-    swept_step c.args.dues.now c.loop-due.due-index _ c.loop-due.self.banks c.sweep_for.new.self.banks c.loop-due-test.true c.in_ok-sweep_for.ensures
+    swept_step c.args.dues.now c.loop-due.due-index c.due-item.result c.loop-due.self.banks c.sweep_for.new.self.banks c.loop-due-test.true
+    c.due-item.is c.in_ok-sweep_for.ensures
     ∙ c.loop-due.invariant
 
 pub returns : goal.returns
