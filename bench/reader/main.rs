@@ -7,6 +7,8 @@ mod gcd;
 mod names;
 mod number;
 mod reader;
+#[path = "../fractions/wide.rs"]
+mod wide;
 
 use fraction::Frac;
 use reader::{Core, Kind, read_core};
