@@ -33,9 +33,9 @@ pub struct Core {
     pub columns: Vec<Column>,
     // Names by number stay with the core, to be found.
     #[allow(dead_code)]
-    row_names: Names,
+    pub row_names: Names,
     #[allow(dead_code)]
-    column_names: Names,
+    pub column_names: Names,
 }
 
 type Fault = u32;
