@@ -19,6 +19,6 @@ EndsWith words number = (status : Status) × (number ≡ status_number status) �
 -- The number of a run of the words behind the program's own name; of no words where one of them isn't UTF-8; that of want of memory
 -- where memory was wanting for them.
 abbrev pub EndsOn : Result (Option (Vec (String Global) Global)) AllocError → ℕ → Type 0
-EndsOn (Ok (Some words)) number = EndsWith (drop 1 (map string_bytes words.items)) number
+EndsOn (Ok (Some words)) number = EndsWith (map string_bytes (drop 1 words.items)) number
 EndsOn (Ok None) number = EndsWith [] number
 EndsOn (Err _) number = number ≡ status_number Memory

@@ -3,7 +3,7 @@
 
 ghost use Rattle.std.specs.Prelude.{◌≡◌, map, drop, string_bytes};
 ghost use Rattle.std.specs.Process.{exit_status};
-ghost use Rattle.tidzgheba.specs.Ending.{EndsOn, IsStatusOf};
+ghost use Rattle.tidzgheba.specs.Ending.{EndsOn, EndsWith, IsStatusOf};
 
 mod causes;
 mod explain;
@@ -42,17 +42,12 @@ fn arguments(rt: &HostRuntime) -> Result<Option<Vec<String>>, AllocError> {
 }
 
 /// Runs the words behind the program's own name over the files of the system and standard output; no words where one of them
-/// isn't UTF-8. Standard error says what the status means where the output doesn't say all.
+/// isn't UTF-8.
 fn ended(rt: &HostRuntime, arguments: Result<Option<Vec<String>>, AllocError>) -> ExitCode
     ensures { EndsOn arguments (exit_status result) }
 {
     match arguments {
-        Ok(Some(words)) => {
-            let words = behind_first(&words);
-            let (status, opens) = status_of(rt, words);
-            tell(rt, words, &status, opens);
-            ExitCode::from(status.number())
-        }
+        Ok(Some(words)) => ended_so(rt, behind_first(&words)),
         Ok(None) => {
             let _ = rt.eprint(NOT_TEXT);
             let (status, _) = status_of(rt, &[]);
@@ -63,6 +58,15 @@ fn ended(rt: &HostRuntime, arguments: Result<Option<Vec<String>>, AllocError>) -
             ExitCode::from(Status::Memory.number())
         }
     }
+}
+
+/// Runs the words; standard error says what their status means where the output doesn't say all.
+fn ended_so(rt: &HostRuntime, words: &[String]) -> ExitCode
+    ensures { EndsWith (map string_bytes words.now) (exit_status result) }
+{
+    let (status, opens) = status_of(rt, words);
+    tell(rt, words, &status, opens);
+    ExitCode::from(status.number())
 }
 
 /// The words behind the first.
