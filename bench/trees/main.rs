@@ -63,6 +63,7 @@ unsafe extern "C" {
     ) -> u64;
     fn clock_gettime(clock: i32, time: *mut Timespec) -> i32;
     fn malloc_trim(pad: usize) -> i32;
+    fn mallopt(parameter: i32, value: i32) -> i32;
 }
 
 #[repr(C)]
@@ -218,7 +219,19 @@ fn built(name: &str, texts: Texts, times: u64) {
     compare(name, &size, times, rattle, |times| rust_build(&texts, times));
 }
 
+/// What glibc maps and gives back by itself depends on what was allocated before, also by the other version. Here all up to 32 MB comes
+/// from one heap, which keeps what is freed.
+fn keep_memory() {
+    const TRIM_THRESHOLD: i32 = -1;
+    const MMAP_THRESHOLD: i32 = -3;
+    unsafe {
+        mallopt(MMAP_THRESHOLD, 32 << 20);
+        mallopt(TRIM_THRESHOLD, i32::MAX);
+    }
+}
+
 fn main() {
+    keep_memory();
     // Without a word all are compared, else those whose names have it.
     let wanted = std::env::args().nth(1).unwrap_or_default();
     let files: [(&str, fn() -> Texts); 4] = [
