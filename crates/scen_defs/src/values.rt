@@ -1,5 +1,5 @@
 // Numbers at nodes: points and multipliers.
-ghost use Rattle.std.specs.Prelude.{◌≡◌, ◌≢◌, ◌↔◌, IsTrue, [], ◌∷◌, ◌++◌, OnOk, OnErr};
+ghost use Rattle.std.specs.Prelude.{◌≡◌, ◌≢◌, ◌↔◌, IsTrue, [], ◌∷◌, ◌++◌, OnOk, OnErr, IfOk};
 ghost use Rattle.rationals.specs.Rational.{zero_ℚ};
 ghost use Rattle.scen_defs.specs.Values.{at, IsAt, IsBefore, EndsBefore, Rises};
 
@@ -125,6 +125,14 @@ impl Values {
         ensures { result ≡ at self.now node index }
     {
         value_in(&self.items, node, index)
+    }
+
+    /// The same numbers in memory of their own.
+    pub fn copy(&self, alloc: Global) -> Result<Values, Memory>
+        ensures { IfOk result (λ v. v ≡ self.now) }
+    {
+        let items = Vec::from_slice(alloc, &self.items)?;
+        Ok(Values { items })
     }
 
     /// The numbers in their order.

@@ -61,7 +61,7 @@ fn shares(alloc: Global, totals: &[Frac], positions: &[Position]) -> Result<Vec<
     ensures { MatchResult result (λ shares. gathered_from [] (shares_from totals.now 0 positions.now) ≡ Ok shares.items)
         (TreeFaultOf (gathered_from [] (shares_from totals.now 0 positions.now))) }
 {
-    let mut shares = Vec::new(alloc);
+    let mut shares = Vec::with_capacity(alloc, positions.len())?;
     for (node, position) in positions.iter().enumerate() {
         let total = number_at(totals, node as u32);
         let share = share(totals, total, *position)?;

@@ -51,7 +51,7 @@ fn add_path(sums: &mut Vec<Result<Frac, Passed>>, path: &[u32], probability: Fra
 fn empty_sums(alloc: Global, count: usize) -> Result<Vec<Result<Frac, Passed>>, AllocError>
     ensures { IfOk result (λ sums. sums.items ≡ replicate count (Ok zero_ℚ)) }
 {
-    let mut sums: Vec<Result<Frac, Passed>> = Vec::new(alloc);
+    let mut sums: Vec<Result<Frac, Passed>> = Vec::with_capacity(alloc, count)?;
     for _node in 0..count {
         sums.push(Ok(Frac::zero()))?;
     }
@@ -95,7 +95,7 @@ pub(crate) fn totals(
         (TreeFaultOf (gathered_from [] (live_sums_from 0 positions.now (scenarios_content scenarios.now)))) }
 {
     let sums = sums_through(alloc, positions.len(), scenarios)?;
-    let mut totals = Vec::new(alloc);
+    let mut totals = Vec::with_capacity(alloc, positions.len())?;
     for (node, position) in positions.iter().enumerate() {
         if node < sums.len() {
             let total = live_sum(*position, sums[node])?;

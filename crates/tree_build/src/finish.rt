@@ -40,7 +40,7 @@ pub(crate) fn positions(
 ) -> Result<Vec<Position>, AllocError>
     ensures { IfOk result (λ all. all.items ≡ map (position_at (paths_content paths.now)) debuts.now) }
 {
-    let mut all = Vec::new(alloc);
+    let mut all = Vec::with_capacity(alloc, debuts.len())?;
     for debut in debuts {
         all.push(position_at(paths, *debut))?;
     }
