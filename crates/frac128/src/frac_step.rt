@@ -9,7 +9,7 @@ use crate::passed::Passed;
 use rationals::Op;
 
 impl Frac {
-    /// Whether three numbers are whole and below 2^63 in size.
+    /// Whether three numbers are whole and short.
     #[inline(always)]
     fn are_short(self, factor: Frac, times: Frac) -> bool
         ensures { IsTrue result → AreShort self factor times }

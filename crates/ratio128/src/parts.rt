@@ -57,6 +57,8 @@ pub fn with_sign(is_negative: bool, size: u128) -> i128
 
 const HALF: u128 = 0x8000_0000_0000_0000;
 
+const SHORT: i128 = 1 << 62;
+
 /// A product that fits.
 fn times(a: i128, b: u128) -> Result<i128, TooWide>
     requires { b < 2 ^ 127 }
@@ -98,9 +100,15 @@ fn divide(a: i128, b: u128) -> i128
     }
 }
 
+// Two numbers below this in size are added without a look at the sum.
+const QUARTER: i128 = 1 << 125;
+
 fn plus(a: i128, b: i128) -> Result<i128, TooWide>
     ensures { OkIff result (unsigned_abs (a +ℤ b) < 2 ^ 127) (a +ℤ b) }
 {
+    if -QUARTER <= a && a < QUARTER && -QUARTER <= b && b < QUARTER {
+        return Ok(a + b);
+    }
     match a.checked_add(b) {
         Some(sum) if sum != i128::MIN => Ok(sum),
         _ => Err(TooWide),
@@ -285,12 +293,12 @@ impl Parts {
         }
     }
 
-    /// Whether the number is whole and below 2^63 in size.
+    /// Whether the number is whole and has at most 63 bits with its sign: -2^62 to 2^62 - 1.
     #[inline(always)]
     pub fn is_short(self) -> bool
         ensures { IsTrue result → IsShort self }
     {
-        self.den == 1 && self.num.unsigned_abs() < HALF
+        self.den == 1 && -SHORT <= self.num && self.num < SHORT
     }
 
     /// The number and a product, added, where all three are whole and short: the sum always fits.
