@@ -16,7 +16,7 @@ use Rattle.core_defs.proofs.Gathered.{free_in, data_on}
 use Rattle.core_defs.proofs.Judged.{IsFiled, Judged, judged_text}
 use Rattle.core_defs.proofs.Texts.{reading_as}
 use Rattle.mps_core.specs.declared.draft.Draft.{Draft}
-use Rattle.mps_core.specs.View.{Reads}
+use Rattle.mps_core.specs.View.{FilesLines}
 use Rattle.mps_core.specs.Whole.{IsWhole}
 use Rattle.mps_core.proofs.WholeLemmas.{column_count}
 
@@ -39,13 +39,13 @@ whole text f is =
       all_parts = sym (column_count f 0 (closed f).parts) ∙ sym (length-map (column_defs f 0 (closed f).parts) (λ (column : ColumnDef). column.name)) ∙ ap length core.named;
     }
 
-abbrev no_draft : ReadFail → Result Draft ReadFail
-no_draft e = Err e
+abbrev not_filed : ReadFail → Result (Unit {0}) ReadFail
+not_filed e = Err e
 
 abbrev no_core : ReadFail → Result Core ReadFail
 no_core e = Err e
 
 -- the line that is refused is the first at fault
-pub refused_text : (text : List ℕ) (e : ReadFail) → Reads (no_draft e) (filed_text text) → IsReadOrRefused text (no_core e)
-refused_text text fail.Memory given = tt
-refused_text text (fail.Refused refusal) given = reading_as text (Err refusal) given
+pub refused_text : (text : List ℕ) (d : Draft) (e : ReadFail) → FilesLines d (not_filed e) (filed_text text) → IsReadOrRefused text (no_core e)
+refused_text text d fail.Memory given = tt
+refused_text text d (fail.Refused refusal) given = reading_as text (Err refusal) given

@@ -36,8 +36,8 @@ Files new (Ok _) given = given ≡ Ok (filed new)
 Files new (Err stop.Memory) given = Unit {0}
 Files new (Err (stop.Fault cause)) given = given ≡ Err cause
 
--- The text is filed so, or refused at that line with that cause, unless memory ran out.
-abbrev pub Reads : Result Draft ReadFail → Result Filed Refusal → Type 0
-Reads (Ok draft) given = given ≡ Ok (filed draft)
-Reads (Err fail.Memory) given = Unit {0}
-Reads (Err (fail.Refused refusal)) given = given ≡ Err refusal
+-- The draft is now what the definition gives for a text, or the text is refused at that line with that cause, unless memory ran out.
+abbrev pub FilesLines : Draft → Result (Unit {0}) ReadFail → Result Filed Refusal → Type 0
+FilesLines new (Ok _) given = given ≡ Ok (filed new)
+FilesLines new (Err fail.Memory) given = Unit {0}
+FilesLines new (Err (fail.Refused refusal)) given = given ≡ Err refusal

@@ -15,7 +15,7 @@ const MOST_COLUMNS: usize = 4000;
 const MOST_ENTRIES: u32 = 100_000;
 
 impl Draft {
-    ghost use Rattle.std.specs.Prelude.{◌≡◌, ◌≤◌, ◌+◌, None, OnOk};
+    ghost use Rattle.std.specs.Prelude.{◌≡◌, ◌≤◌, ◌+◌, [], ◌∷◌, None, OnOk};
     ghost use Rattle.smps_words.specs.Names.{place_of};
     ghost use Rattle.smps_words.specs.Seen.{seen};
     ghost use Rattle.core_defs.specs.Filed.{closed};
@@ -119,6 +119,21 @@ impl Draft {
         Ok(())
     }
 
+    /// A line of COLUMNS with one value.
+    #[tactic(auto, unfolding(core_defs::specs::Step::column_line))]
+    fn one_value(&mut self, column: &[u8], row: &[u8], word: &[u8]) -> Result<(), Stop>
+        requires { self.old.entries ≤ most_entries }
+        ensures filed { Files self.new result (column_line (filed self.old) (column.now ∷ row.now ∷ word.now ∷ [])) }
+        ensures entries { OnOk result (self.new.entries ≤ most_entries) }
+    {
+        if row == b"'MARKER'".as_slice() {
+            return Err(Stop::Fault(Cause::IntegerMarker));
+        }
+        self.with_column(column)?;
+        self.with_value(row, word)?;
+        self.within_limits()
+    }
+
     /// A line of COLUMNS.
     #[tactic(auto, using(crate::proofs::StepLemmas::long_column), unfolding(core_defs::specs::Step::column_line))]
     pub(crate) fn column_line(&mut self, line: &Line) -> Result<(), Stop>
@@ -127,14 +142,7 @@ impl Draft {
         ensures entries { OnOk result (self.new.entries ≤ most_entries) }
     {
         match line.fields() {
-            Some([column, row, value]) => {
-                if *row == b"'MARKER'".as_slice() {
-                    return Err(Stop::Fault(Cause::IntegerMarker));
-                }
-                self.with_column(column)?;
-                self.with_value(row, value)?;
-                self.within_limits()
-            }
+            Some([column, row, value]) => self.one_value(column, row, value),
             Some([column, row, value, second, other]) => {
                 self.with_column(column)?;
                 self.with_value(row, value)?;

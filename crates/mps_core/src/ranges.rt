@@ -13,7 +13,8 @@ impl Draft {
     ghost use Rattle.std.specs.Prelude.{◌≡◌, OnOk, IfOk, option_map};
     ghost use Rattle.smps_words.specs.Seen.{seen};
     ghost use Rattle.core_defs.specs.Stated.{same_set, chosen};
-    ghost use Rattle.core_defs.specs.Step.{choosing_range, with_range, range_line};
+    ghost use Rattle.core_defs.specs.Step.{choosing_range, in_range_set, with_range, range_line};
+    ghost use Rattle.mps_core.specs.Pairs.{with_two_ranges};
     ghost use Rattle.mps_core.specs.View.{filed, Files};
 
     /// Whether a line of this set is used.
@@ -47,6 +48,55 @@ impl Draft {
         Ok(())
     }
 
+    /// Two constraints and their ranges.
+    fn with_two_ranges(
+        &mut self,
+        row: &[u8],
+        word: &[u8],
+        second: &[u8],
+        other: &[u8],
+    ) -> Result<(), Stop>
+        ensures filed { Files self.new result (with_two_ranges (filed self.old) row.now word.now second.now other.now) }
+        ensures entries { OnOk result (self.new.entries ≡ self.old.entries) }
+    {
+        match self.with_range(row, word) {
+            Ok(()) => self.with_range(second, other),
+            Err(stop) => Err(stop),
+        }
+    }
+
+    /// A line of one pair, where its set is used.
+    fn range_in_set(&mut self, set: Option<&[u8]>, row: &[u8], word: &[u8]) -> Result<(), Stop>
+        ensures filed { let line = option_map (λ name. name.now) set.entry
+            in Files self.new result (in_range_set (filed self.old) line (λ f. with_range f row.now word.now)) }
+        ensures entries { OnOk result (self.new.entries ≡ self.old.entries) }
+    {
+        if !self.choose_range(set)? {
+            return Ok(());
+        }
+        self.with_range(row, word)
+    }
+
+    /// A line of two pairs, where its set is used.
+    fn two_ranges_in_set(
+        &mut self,
+        set: Option<&[u8]>,
+        row: &[u8],
+        word: &[u8],
+        second: &[u8],
+        other: &[u8],
+    ) -> Result<(), Stop>
+        ensures filed { let line = option_map (λ name. name.now) set.entry
+            in Files self.new result (in_range_set (filed self.old) line
+            (λ f. with_two_ranges f row.now word.now second.now other.now)) }
+        ensures entries { OnOk result (self.new.entries ≡ self.old.entries) }
+    {
+        if !self.choose_range(set)? {
+            return Ok(());
+        }
+        self.with_two_ranges(row, word, second, other)
+    }
+
     /// A line of RANGES.
     #[tactic(auto, using(crate::proofs::StepLemmas::long_range), unfolding(core_defs::specs::Step::range_line))]
     pub(crate) fn range_line(&mut self, line: &Line) -> Result<(), Stop>
@@ -54,31 +104,13 @@ impl Draft {
         ensures entries { OnOk result (self.new.entries ≡ self.old.entries) }
     {
         match line.fields() {
-            Some([row, value]) => {
-                if !self.choose_range(None)? {
-                    return Ok(());
-                }
-                self.with_range(row, value)
-            }
-            Some([set, row, value]) => {
-                if !self.choose_range(Some(set))? {
-                    return Ok(());
-                }
-                self.with_range(row, value)
-            }
+            Some([row, value]) => self.range_in_set(None, row, value),
+            Some([set, row, value]) => self.range_in_set(Some(set), row, value),
             Some([row, value, second, other]) => {
-                if !self.choose_range(None)? {
-                    return Ok(());
-                }
-                self.with_range(row, value)?;
-                self.with_range(second, other)
+                self.two_ranges_in_set(None, row, value, second, other)
             }
             Some([set, row, value, second, other]) => {
-                if !self.choose_range(Some(set))? {
-                    return Ok(());
-                }
-                self.with_range(row, value)?;
-                self.with_range(second, other)
+                self.two_ranges_in_set(Some(set), row, value, second, other)
             }
             _ => Err(Stop::Fault(Cause::FieldCount)),
         }

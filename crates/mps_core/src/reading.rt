@@ -2,11 +2,12 @@
 ghost use Rattle.std.specs.Prelude.{◌≡◌, ◌<◌, ◌-◌, ◌^◌, length, IfOk};
 ghost use Rattle.core_defs.specs.Core.{IsCore};
 ghost use Rattle.core_defs.specs.Fault.{IsReadOrRefused};
+ghost use Rattle.core_defs.specs.Filed.{nothing_filed};
 ghost use Rattle.core_defs.specs.Means.{TextMeans};
 ghost use Rattle.core_defs.specs.Step.{filed_text};
 ghost use Rattle.core_defs.specs.declared.cause.Cause.TheVariants as cause;
 ghost use Rattle.core_defs.specs.declared.cause.ReadFail.TheVariants as fail;
-ghost use Rattle.mps_core.specs.View.{Reads};
+ghost use Rattle.mps_core.specs.View.{filed, FilesLines};
 
 use crate::draft::Draft;
 use crate::stop::Stop;
@@ -28,7 +29,19 @@ pub fn read_core(alloc: Global, text: &[u8]) -> Result<Core, ReadFail>
     // A text is read exactly where no line is at fault and no section is missing; else the first fault is named.
     ensures faults { IsReadOrRefused text.now result }
 {
-    let draft = file_text(alloc, text)?;
+    let mut draft = Draft::empty(alloc);
+    core_in(alloc, &mut draft, text)
+}
+
+/// The core that a text gives, whose lines are filed in a draft that is empty.
+fn core_in(alloc: Global, draft: &mut Draft, text: &[u8]) -> Result<Core, ReadFail>
+    requires empty { filed draft.old ≡ nothing_filed }
+    requires fits { length text.now < 2 ^ 32 - 1 }
+    ensures means { IfOk result (TextMeans text.now) }
+    ensures core { IfOk result IsCore }
+    ensures faults { IsReadOrRefused text.now result }
+{
+    file_lines(draft, text)?;
     match core_of(alloc, draft) {
         Ok(core) => Ok(core),
         Err(_) => Err(ReadFail::Memory),
@@ -45,13 +58,13 @@ fn missing(lines: &Lines) -> ReadFail
     })
 }
 
-/// Files the lines of a text up to ENDATA.
-pub(crate) fn file_text(alloc: Global, text: &[u8]) -> Result<Draft, ReadFail>
-    requires { length text.now < 2 ^ 32 - 1 }
-    ensures { Reads result (filed_text text.now) }
+/// Files the lines of a text up to ENDATA in a draft that is empty.
+fn file_lines(draft: &mut Draft, text: &[u8]) -> Result<(), ReadFail>
+    requires empty { filed draft.old ≡ nothing_filed }
+    requires fits { length text.now < 2 ^ 32 - 1 }
+    ensures { FilesLines draft.new result (filed_text text.now) }
 {
     let mut lines = Lines::over(text);
-    let mut draft = Draft::empty(alloc);
     while let Some(line) = lines.next() {
         match draft.step(&line) {
             Ok(()) => {}
@@ -65,7 +78,7 @@ pub(crate) fn file_text(alloc: Global, text: &[u8]) -> Result<Draft, ReadFail>
         }
         if draft.section == Section::End {
             if draft.has_columns {
-                return Ok(draft);
+                return Ok(());
             }
             return Err(missing(&lines));
         }

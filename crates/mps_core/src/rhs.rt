@@ -14,7 +14,8 @@ impl Draft {
     ghost use Rattle.std.specs.Prelude.{◌≡◌, OnOk, IfOk, option_map};
     ghost use Rattle.smps_words.specs.Seen.{seen};
     ghost use Rattle.core_defs.specs.Stated.{same_set, chosen};
-    ghost use Rattle.core_defs.specs.Step.{choosing_rhs, with_rhs_at, with_rhs, rhs_line};
+    ghost use Rattle.core_defs.specs.Step.{choosing_rhs, in_rhs_set, with_rhs_at, with_rhs, rhs_line};
+    ghost use Rattle.mps_core.specs.Pairs.{with_two_rhs};
     ghost use Rattle.mps_core.specs.View.{filed, Files};
 
     /// Whether a line of this set is used.
@@ -67,6 +68,55 @@ impl Draft {
         self.with_rhs_at(value, row)
     }
 
+    /// Two rows and their right-hand sides.
+    fn with_two_rhs(
+        &mut self,
+        row: &[u8],
+        word: &[u8],
+        second: &[u8],
+        other: &[u8],
+    ) -> Result<(), Stop>
+        ensures filed { Files self.new result (with_two_rhs (filed self.old) row.now word.now second.now other.now) }
+        ensures entries { OnOk result (self.new.entries ≡ self.old.entries) }
+    {
+        match self.with_rhs(row, word) {
+            Ok(()) => self.with_rhs(second, other),
+            Err(stop) => Err(stop),
+        }
+    }
+
+    /// A line of one pair, where its set is used.
+    fn rhs_in_set(&mut self, set: Option<&[u8]>, row: &[u8], word: &[u8]) -> Result<(), Stop>
+        ensures filed { let line = option_map (λ name. name.now) set.entry
+            in Files self.new result (in_rhs_set (filed self.old) line (λ f. with_rhs f row.now word.now)) }
+        ensures entries { OnOk result (self.new.entries ≡ self.old.entries) }
+    {
+        if !self.choose_rhs(set)? {
+            return Ok(());
+        }
+        self.with_rhs(row, word)
+    }
+
+    /// A line of two pairs, where its set is used.
+    fn two_rhs_in_set(
+        &mut self,
+        set: Option<&[u8]>,
+        row: &[u8],
+        word: &[u8],
+        second: &[u8],
+        other: &[u8],
+    ) -> Result<(), Stop>
+        ensures filed { let line = option_map (λ name. name.now) set.entry
+            in Files self.new result (in_rhs_set (filed self.old) line
+            (λ f. with_two_rhs f row.now word.now second.now other.now)) }
+        ensures entries { OnOk result (self.new.entries ≡ self.old.entries) }
+    {
+        if !self.choose_rhs(set)? {
+            return Ok(());
+        }
+        self.with_two_rhs(row, word, second, other)
+    }
+
     /// A line of RHS.
     #[tactic(auto, using(crate::proofs::StepLemmas::long_rhs), unfolding(core_defs::specs::Step::rhs_line))]
     pub(crate) fn rhs_line(&mut self, line: &Line) -> Result<(), Stop>
@@ -74,31 +124,13 @@ impl Draft {
         ensures entries { OnOk result (self.new.entries ≡ self.old.entries) }
     {
         match line.fields() {
-            Some([row, value]) => {
-                if !self.choose_rhs(None)? {
-                    return Ok(());
-                }
-                self.with_rhs(row, value)
-            }
-            Some([set, row, value]) => {
-                if !self.choose_rhs(Some(set))? {
-                    return Ok(());
-                }
-                self.with_rhs(row, value)
-            }
+            Some([row, value]) => self.rhs_in_set(None, row, value),
+            Some([set, row, value]) => self.rhs_in_set(Some(set), row, value),
             Some([row, value, second, other]) => {
-                if !self.choose_rhs(None)? {
-                    return Ok(());
-                }
-                self.with_rhs(row, value)?;
-                self.with_rhs(second, other)
+                self.two_rhs_in_set(None, row, value, second, other)
             }
             Some([set, row, value, second, other]) => {
-                if !self.choose_rhs(Some(set))? {
-                    return Ok(());
-                }
-                self.with_rhs(row, value)?;
-                self.with_rhs(second, other)
+                self.two_rhs_in_set(Some(set), row, value, second, other)
             }
             _ => Err(Stop::Fault(Cause::FieldCount)),
         }

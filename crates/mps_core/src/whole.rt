@@ -99,26 +99,27 @@ fn name_of_set(alloc: Global, set: Option<Option<Name>>) -> Result<Name, AllocEr
     }
 }
 
-/// The core of the lines that are filed.
-pub(crate) fn core_of(alloc: Global, draft: Draft) -> Result<Core, AllocError>
-    requires { IsWhole (filed draft) }
-    ensures { IfOk result (IsCoreOf (filed draft)) }
+/// The core of the lines that are filed; afterwards the draft holds them no more.
+pub(crate) fn core_of(alloc: Global, draft: &mut Draft) -> Result<Core, AllocError>
+    requires { IsWhole (filed draft.old) }
+    ensures { IfOk result (IsCoreOf (filed draft.old)) }
 {
-    let mut draft = draft;
     draft.close_column()?;
     let parts = mem::replace(&mut draft.parts, Vec::new(alloc));
     // Of N rows nothing is kept, and there may be many.
     draft.free_rhs = Vec::new(alloc);
     let objective = Name::new(alloc, draft.free.name(0))?;
     let skipped = skipped_rows(alloc, &draft.free)?;
-    let rows = row_defs(alloc, &draft)?;
+    let rows = row_defs(alloc, draft)?;
     let columns = column_defs(alloc, &draft.names, &draft.bounds, parts)?;
-    let rhs_set = name_of_set(alloc, draft.rhs_set)?;
+    let rhs_set = name_of_set(alloc, mem::replace(&mut draft.rhs_set, None))?;
+    let row_names = mem::replace(&mut draft.rows, Names::empty(alloc));
+    let column_names = mem::replace(&mut draft.names, Names::empty(alloc));
     Ok(Core::of_parts(
         objective,
         skipped,
         rhs_set,
-        (draft.rows, rows),
-        (draft.names, columns),
+        (row_names, rows),
+        (column_names, columns),
     ))
 }

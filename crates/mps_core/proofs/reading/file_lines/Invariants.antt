@@ -2,7 +2,7 @@
 use Rattle.std.proofs.Common.{◌≡◌, ◌≤◌, length}
 use Rattle.core_defs.specs.Step.{most_entries, read_from, filed_text}
 use Rattle.mps_core.specs.View.{filed}
-use Rattle.mps_core.proofs.reading.file_text.Given as goal
+use Rattle.mps_core.proofs.reading.file_lines.Given as goal
 
 abbrev pub invariant-loop-line : goal.invariant-loop-line
 invariant-loop-line l = record {
