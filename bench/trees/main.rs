@@ -234,8 +234,12 @@ fn main() {
     keep_memory();
     // Without a word all are compared, else those whose names have it.
     let wanted = std::env::args().nth(1).unwrap_or_default();
-    let files: [(&str, fn() -> Texts); 4] = [
+    let files: [(&str, fn() -> Texts); 8] = [
         ("reading SCENARIOS, replaced and added", texts::scenarios),
+        ("reading two chains by turns", texts::two_chains),
+        ("reading sixteen chains by turns", texts::sixteen_chains),
+        ("reading seventeen chains by turns", texts::seventeen_chains),
+        ("reading a hundred chains by turns", texts::hundred_chains),
         ("reading BLOCKS, four of ten cases", texts::blocks),
         ("reading BLOCKS, two of a hundred cases", texts::short_blocks),
         ("reading INDEP", texts::indep),

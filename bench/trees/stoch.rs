@@ -4,6 +4,7 @@ use crate::fraction::Frac;
 use crate::names::Names;
 use crate::number::{NumFault, parse};
 use crate::reader::Core;
+use std::mem::replace;
 
 /// A number that a file may set.
 #[derive(Clone, Copy, PartialEq, Eq, Hash)]
@@ -79,40 +80,83 @@ struct Scenario {
     sets: Sets,
 }
 
-/// Scenarios, with the values on the path of one of them at hand.
+/// So many hands there are at most.
+const MOST_HANDS: usize = 16;
+
+/// So many values they have at most, but for the present one.
+const MOST_VALUES: usize = 131_072;
+
+/// The values on the path of a scenario; none is the core's own path.
 #[derive(Default)]
-struct Paths {
-    scenarios: Vec<Scenario>,
+struct Hand {
     at: Option<usize>,
     values: Table<Entry, Frac>,
 }
 
+/// Scenarios, with the values on the paths of some of them at hand.
+#[derive(Default)]
+struct Paths {
+    scenarios: Vec<Scenario>,
+    // The hand that was wanted last; the others, that which was wanted longest ago first.
+    present: Hand,
+    others: Vec<Hand>,
+}
+
 impl Paths {
-    /// Brings the values on the path of a scenario to hand: those at hand with its own, where they are its parent's.
-    fn seek(&mut self, number: usize) {
-        if self.at == Some(number) {
+    /// Makes that hand the present one from which a scenario is reached: the one that is at it, or else at its parent, or else a fresh
+    /// one, or else that which was wanted longest ago.
+    fn turn(&mut self, number: usize) {
+        let place_at = |at| self.others.iter().position(|hand| hand.at == at);
+        let parent = self.scenarios[number].parent;
+        let place = place_at(Some(number));
+        if place.is_none() && self.present.at == parent {
+            return;
+        }
+        let next = match place.or_else(|| place_at(parent)) {
+            Some(place) => self.others.remove(place),
+            None if self.others.len() < MOST_HANDS - 1 => Hand::default(),
+            None => self.others.remove(0),
+        };
+        self.others.push(replace(&mut self.present, next));
+    }
+
+    /// Brings the values on the path of a scenario to the present hand: those of its parent with its own, where they are there.
+    fn advance(&mut self, number: usize) {
+        let hand = &mut self.present;
+        if hand.at == Some(number) {
             return;
         }
         let scenario = &self.scenarios[number];
-        if scenario.parent == self.at {
-            self.values.extend(scenario.sets.iter().copied());
+        if scenario.parent == hand.at {
+            hand.values.extend(scenario.sets.iter().copied());
         } else {
-            self.values.clear();
+            hand.values.clear();
             let mut next = Some(number);
             while let Some(at) = next {
                 let scenario = &self.scenarios[at];
                 for (entry, value) in &scenario.sets {
-                    self.values.entry(*entry).or_insert(*value);
+                    hand.values.entry(*entry).or_insert(*value);
                 }
                 next = scenario.parent;
             }
         }
-        self.at = Some(number);
+        hand.at = Some(number);
+    }
+
+    fn seek(&mut self, number: usize) {
+        if self.present.at == Some(number) {
+            return;
+        }
+        self.turn(number);
+        self.advance(number);
+        if self.others.iter().map(|hand| hand.values.len()).sum::<usize>() > MOST_VALUES {
+            self.others.clear();
+        }
     }
 
     fn value(&mut self, parent: Option<usize>, entry: Entry) -> Option<Frac> {
         self.seek(parent?);
-        self.values.get(&entry).copied()
+        self.present.values.get(&entry).copied()
     }
 }
 
@@ -231,6 +275,13 @@ impl<'a> Draft<'a> {
         }
     }
 
+    fn in_case(&self, entry: Entry, value: Frac) -> Result<Frac, Fault> {
+        match self.mode {
+            Mode::Replace => Ok(value),
+            mode => resulting(mode, self.core_value(entry), value),
+        }
+    }
+
     fn period(&self, word: &[u8]) -> Option<usize> {
         self.periods.names.iter().position(|name| name == word)
     }
@@ -288,7 +339,7 @@ impl<'a> Draft<'a> {
                 block
             }
         };
-        let result = resulting(self.mode, self.core_value(entry), value)?;
+        let result = self.in_case(entry, value)?;
         self.cases.push(CaseHead { block, probability });
         self.case_sets.push(vec![(entry, result)]);
         Ok(())
@@ -331,7 +382,7 @@ impl<'a> Draft<'a> {
         if *self.owners.entry(entry).or_insert(block) != block {
             return Err(17);
         }
-        let result = resulting(self.mode, self.core_value(entry), value)?;
+        let result = self.in_case(entry, value)?;
         self.sets.push((entry, result));
         Ok(())
     }

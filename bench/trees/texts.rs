@@ -112,6 +112,22 @@ fn head(text: &mut String, number: usize, parent: Option<usize>, stage: usize) {
     writeln!(text, " SC SCEN{number:04} {parent:8} 0.{weight:06} P{}", stage + 1).unwrap();
 }
 
+/// So many lines of values of a scenario, from its branch period on.
+fn values(text: &mut String, random: &mut Random, parts: &[Part], scenario: usize, stage: usize, lines: usize) {
+    for line in 0..lines {
+        let at = stage + line % (parts.len() - stage);
+        let (rows, columns) = (parts[at].rows, parts[at].columns);
+        let column = column(at, (scenario * 13 + line * 11) % columns);
+        let first = scenario * 17 + line * 2;
+        let (first, second) = (row(at, first % rows), row(at, (first + 1) % rows));
+        match line % 4 {
+            0 | 1 => pair(text, random, "RHS", &first, &second),
+            2 => pair(text, random, &column, "COST", &first),
+            _ => pair(text, random, &column, &first, &second),
+        }
+    }
+}
+
 /// Scenarios of a tree in which each node has ten children, each with so many lines of values. Each is the child of the first
 /// scenario that has its node in the period before. The last fifth adds to its parents' values.
 fn tree(parts: &[Part], lines: usize) -> Texts {
@@ -132,18 +148,7 @@ fn tree(parts: &[Part], lines: usize) -> Texts {
         }
         let parent = if scenario == 0 { None } else { Some(scenario - scenario / unit % 10 * unit) };
         head(text, scenario, parent, stage);
-        for line in 0..lines {
-            let at = stage + line % (last + 1 - stage);
-            let (rows, columns) = (parts[at].rows, parts[at].columns);
-            let column = column(at, (scenario * 13 + line * 11) % columns);
-            let first = scenario * 17 + line * 2;
-            let (first, second) = (row(at, first % rows), row(at, (first + 1) % rows));
-            match line % 4 {
-                0 | 1 => pair(text, &mut random, "RHS", &first, &second),
-                2 => pair(text, &mut random, &column, "COST", &first),
-                _ => pair(text, &mut random, &column, &first, &second),
-            }
-        }
+        values(text, &mut random, parts, scenario, stage, lines);
     }
     text.push_str("ENDATA\n");
     texts
@@ -151,6 +156,36 @@ fn tree(parts: &[Part], lines: usize) -> Texts {
 
 pub fn scenarios() -> Texts {
     tree(&WIDE, 17)
+}
+
+/// Scenarios in so many chains by turns: each adds to the values of the one that many before it.
+fn chains(count: usize) -> Texts {
+    let mut random = random();
+    let mut texts = in_band(&WIDE);
+    let text = &mut texts.stoch;
+    text.push_str("STOCH BENCH\nSCENARIOS DISCRETE ADD\n");
+    for scenario in 0..10_000usize {
+        head(text, scenario, scenario.checked_sub(count), 1);
+        values(text, &mut random, &WIDE, scenario, 1, 17);
+    }
+    text.push_str("ENDATA\n");
+    texts
+}
+
+pub fn two_chains() -> Texts {
+    chains(2)
+}
+
+pub fn sixteen_chains() -> Texts {
+    chains(16)
+}
+
+pub fn seventeen_chains() -> Texts {
+    chains(17)
+}
+
+pub fn hundred_chains() -> Texts {
+    chains(100)
 }
 
 pub fn branching() -> Texts {

@@ -13,8 +13,8 @@ use Rattle.stoch_defs.specs.Random.{Sets}
 use Rattle.stoch_defs.specs.Stated.{Node, value_set, path_among, paths_from, paths_of}
 use Rattle.stoch_defs.proofs.EntryLemmas.{same_is, same_both_ways}
 use Rattle.stoch_defs.proofs.PathLemmas.{paths_snoc, paths_length, path_stays}
-use Rattle.smps_stoch.specs.declared.paths.Hand.{Hand}
-use Rattle.smps_stoch.specs.declared.paths.Scenario.{Scenario}
+use Rattle.smps_stoch.specs.declared.hand.Hand.{Hand}
+use Rattle.smps_stoch.specs.declared.hand.Scenario.{Scenario}
 use Rattle.smps_stoch.specs.Paths.{first_of, earlier, is_among, node_content, Shows, IsAtHand}
 use Rattle.smps_stoch.proofs.EntryLemmas.{derived, derived_is}
 

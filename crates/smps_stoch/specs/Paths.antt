@@ -1,11 +1,12 @@
 -- The values on a path, by entry, as the code has them at hand.
-use Rattle.std.specs.Prelude.{◌≡◌, ℕ, Bool, true, List, length, Option, Some, None, nat_lt, if◌then◌else◌}
+use Rattle.std.specs.Prelude.{◌≡◌, ℕ, Bool, true, List, All, length, Option, Some, None, nat_lt, if◌then◌else◌}
 use Rattle.rationals.specs.Rational.{ℚ}
 use Rattle.smps_words.specs.declared.entry.Entry.{Entry}
 use Rattle.stoch_defs.specs.Random.{Sets}
 use Rattle.stoch_defs.specs.Stated.{Node, value_set, path_among, paths_of}
-use Rattle.smps_stoch.specs.declared.paths.Scenario.{Scenario}
-use Rattle.smps_stoch.specs.declared.paths.Hand.{Hand}
+use Rattle.smps_stoch.specs.declared.hand.Scenario.{Scenario}
+use Rattle.smps_stoch.specs.declared.hand.Hand.{Hand}
+use Rattle.smps_stoch.specs.declared.hands.Hands.{Hands}
 
 abbrev pub node_content : Scenario → Node
 node_content s = record { parent = s.parent; sets = s.sets.items }
@@ -32,3 +33,12 @@ Shows values path = (entry : Entry) → value_set values entry ≡ value_set pat
 pub record IsAtHand (nodes : List Node) (hand : Hand) : Type 0 where
   pub among : is_among hand.at (length nodes) ≡ true
   pub values : Shows hand.values.entries (path_among (paths_of nodes) hand.at)
+
+-- the same of several paths
+pub record AreAtHand (nodes : List Node) (hands : Hands) : Type 0 where
+  pub present : IsAtHand nodes hands.present
+  pub others : All (IsAtHand nodes) hands.others.items
+
+-- what is at hand stays so, whatever the scenarios are
+abbrev pub Keeps : Hands → Hands → Type 0
+Keeps old new = (nodes : List Node) → AreAtHand nodes old → AreAtHand nodes new

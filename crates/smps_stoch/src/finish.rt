@@ -9,8 +9,8 @@ ghost use Rattle.smps_stoch.specs.Paths.{node_content};
 ghost use Rattle.smps_stoch.specs.View.{sets_in, cases_in, items_in, blocks_in, branches_in, Gives};
 
 use crate::draft::Draft;
+use crate::hand::Scenario;
 use crate::numbers::at_most;
-use crate::paths::Scenario;
 use crate::stop::Stop;
 use core_defs::Cause;
 use frac128::Frac;

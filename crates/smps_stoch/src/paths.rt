@@ -1,174 +1,34 @@
-//! What is set on the paths of scenarios.
-ghost use Rattle.std.specs.Prelude.{◌≡◌, ◌<◌, ◌++◌, ◌∷◌, [], IfOk, OnOk, length, map};
-ghost use Rattle.smps_words.specs.declared.entry.Entry.{Entry};
+//! The scenarios, and what is set on their paths.
+ghost use Rattle.std.specs.Prelude.{◌≡◌, ◌++◌, ◌∷◌, [], IfOk, OnOk, map};
 ghost use Rattle.stoch_defs.specs.Stated.{value_set, path_among, paths_of};
 ghost use Rattle.stoch_defs.specs.Step.{node_of};
-ghost use Rattle.smps_stoch.specs.Paths.{first_of, earlier, node_content, IsAtHand, Shows};
+ghost use Rattle.smps_stoch.specs.Paths.{node_content};
 
+use crate::hand::Scenario;
+use crate::hands::Hands;
 use frac128::Frac;
-use indexmap::IndexMap;
 use smps_words::Entry;
 use std::alloc::{AllocError, Global};
 use std::marker::Model;
-use std::mem::replace;
 
-/// A scenario: the number of its parent, where that isn't ROOT, and the values that it sets.
-#[derive(Drop)]
-pub(crate) struct Scenario {
-    pub(crate) parent: Option<usize>,
-    pub(crate) sets: Vec<(Entry, Frac)>,
-}
-
-/// The values on one path, by entry.
-#[derive(Drop)]
-pub(crate) struct Hand {
-    /// The last scenario of the path; none is the core's own path.
-    pub(crate) at: Option<usize>,
-    pub(crate) values: IndexMap<Entry, Frac>,
-}
-
-/// Scenarios, with the values on the path of one of them at hand: a child of that one, or a further child of its parent, wants no way up.
+/// Scenarios, with the values on the paths of some of them at hand.
 #[derive(Drop)]
 pub(crate) struct Paths {
     alloc: Global,
     scenarios: Vec<Scenario>,
-    hand: Hand,
+    hands: Hands,
 }
 
 impl Model for Paths {
     ghost use Rattle.std.specs.Prelude.{List, map};
     ghost use Rattle.stoch_defs.specs.Stated.{Node};
-    ghost use Rattle.smps_stoch.specs.Paths.{node_content, IsAtHand};
+    ghost use Rattle.smps_stoch.specs.Paths.{node_content, AreAtHand};
 
     ghost Value = { List Node };
 
     ghost view = { λ s. map node_content s.scenarios.items };
 
-    ghost invariant = { λ s. IsAtHand (map node_content s.scenarios.items) s.hand };
-}
-
-/// Nothing is set on the core's own path.
-fn empty_hand(alloc: Global) -> Hand
-    ensures at { result.at ≡ None }
-    ensures values { result.values.entries ≡ [] }
-{
-    Hand {
-        at: None,
-        values: IndexMap::new(alloc),
-    }
-}
-
-/// The parent, where its number is the smaller one.
-fn earlier(parent: Option<usize>, number: usize) -> Option<usize>
-    ensures { result ≡ earlier parent number }
-{
-    match parent {
-        Some(above) => {
-            if above < number {
-                return Some(above);
-            }
-            None
-        }
-        None => None,
-    }
-}
-
-/// The values with these, which count before them.
-fn with_sets(
-    mut values: IndexMap<Entry, Frac>,
-    sets: &[(Entry, Frac)],
-) -> Result<IndexMap<Entry, Frac>, AllocError>
-    ensures { IfOk result (λ m. (e : Entry) → value_set m.entries e ≡ first_of (value_set sets.now e) (value_set values.entries e)) }
-{
-    let mut left = sets.len();
-    while left > 0 {
-        left -= 1;
-        let set = sets[left];
-        values.insert(set.0, set.1)?;
-    }
-    Ok(values)
-}
-
-/// The values with those of these that they lack.
-fn with_missing(
-    mut values: IndexMap<Entry, Frac>,
-    sets: &[(Entry, Frac)],
-) -> Result<IndexMap<Entry, Frac>, AllocError>
-    ensures { IfOk result (λ m. (e : Entry) → value_set m.entries e ≡ first_of (value_set values.entries e) (value_set sets.now e)) }
-{
-    for set in sets {
-        match values.get(&set.0) {
-            Some(_) => {}
-            None => {
-                values.insert(set.0, set.1)?;
-            }
-        }
-    }
-    Ok(values)
-}
-
-/// The values on the path of a scenario, found by going up its parents.
-fn collected(
-    alloc: Global,
-    scenarios: &[Scenario],
-    number: usize,
-) -> Result<IndexMap<Entry, Frac>, AllocError>
-    ensures { IfOk result (λ m. Shows m.entries (path_among (paths_of (map node_content scenarios.now)) (Some number))) }
-{
-    let mut values = IndexMap::new(alloc);
-    let mut next = Some(number);
-    while let Some(at) = next {
-        if at >= scenarios.len() {
-            return Ok(values);
-        }
-        let scenario = &scenarios[at];
-        values = with_missing(values, &scenario.sets)?;
-        next = earlier(scenario.parent, at);
-    }
-    Ok(values)
-}
-
-/// The values on the path of a scenario: those at hand with its own, where they are its parent's.
-fn values_on_path(
-    alloc: Global,
-    scenarios: &[Scenario],
-    hand: Hand,
-    number: usize,
-) -> Result<IndexMap<Entry, Frac>, AllocError>
-    requires within { number < length scenarios.now }
-    requires known { IsAtHand (map node_content scenarios.now) hand }
-    ensures { IfOk result (λ m. Shows m.entries (path_among (paths_of (map node_content scenarios.now)) (Some number))) }
-{
-    let scenario = &scenarios[number];
-    if earlier(scenario.parent, number) == hand.at {
-        let values = with_sets(hand.values, &scenario.sets)?;
-        return Ok(values);
-    }
-    collected(alloc, scenarios, number)
-}
-
-/// The values on the path of a scenario.
-fn moved(
-    alloc: Global,
-    scenarios: &[Scenario],
-    hand: Hand,
-    number: usize,
-) -> Result<Hand, AllocError>
-    requires { IsAtHand (map node_content scenarios.now) hand }
-    ensures known { IfOk result (λ h. IsAtHand (map node_content scenarios.now) h) }
-    ensures here { IfOk result (λ h. Shows h.values.entries (path_among (paths_of (map node_content scenarios.now)) (Some number))) }
-{
-    if hand.at == Some(number) {
-        return Ok(hand);
-    }
-    if number >= scenarios.len() {
-        return Ok(empty_hand(alloc));
-    }
-    let values = values_on_path(alloc, scenarios, hand, number)?;
-    Ok(Hand {
-        at: Some(number),
-        values,
-    })
+    ghost invariant = { λ s. AreAtHand (map node_content s.scenarios.items) s.hands };
 }
 
 impl Paths {
@@ -179,7 +39,7 @@ impl Paths {
         Paths {
             alloc,
             scenarios: Vec::new(alloc),
-            hand: empty_hand(alloc),
+            hands: Hands::empty(alloc),
         }
     }
 
@@ -202,8 +62,7 @@ impl Paths {
         let Some(number) = parent else {
             return Ok(());
         };
-        let hand = replace(&mut self.hand, empty_hand(self.alloc));
-        self.hand = moved(self.alloc, &self.scenarios, hand, number)?;
+        self.hands.bring(self.alloc, &self.scenarios, number)?;
         Ok(())
     }
 
@@ -219,9 +78,8 @@ impl Paths {
         let Some(number) = parent else {
             return Ok(None);
         };
-        let hand = replace(&mut self.hand, empty_hand(self.alloc));
-        self.hand = moved(self.alloc, &self.scenarios, hand, number)?;
-        Ok(self.hand.values.get(&entry).copied())
+        self.hands.bring(self.alloc, &self.scenarios, number)?;
+        Ok(self.hands.present.values.get(&entry).copied())
     }
 
     /// The scenarios in their order.

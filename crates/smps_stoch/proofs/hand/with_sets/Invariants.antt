@@ -3,7 +3,7 @@ use Rattle.std.proofs.Common.{◌≡◌, ◌≤◌, drop, length}
 use Rattle.smps_words.specs.declared.entry.Entry.{Entry}
 use Rattle.stoch_defs.specs.Stated.{value_set}
 use Rattle.smps_stoch.specs.Paths.{first_of}
-use Rattle.smps_stoch.proofs.paths.with_sets.Given as goal
+use Rattle.smps_stoch.proofs.hand.with_sets.Given as goal
 
 abbrev pub invariant-loop-left : goal.invariant-loop-left
 invariant-loop-left l = record {

@@ -2,7 +2,7 @@
 use Rattle.std.proofs.Common.{◌∙◌, ap, sym}
 use Rattle.stoch_defs.specs.Stated.{value_set}
 use Rattle.smps_stoch.proofs.HandLemmas.{past_map}
-use Rattle.smps_stoch.proofs.paths.moved.Goals as goal
+use Rattle.smps_stoch.proofs.hand.moved.Goals as goal
 
 pub returns-then-number-scenarios-clause-here : goal.returns-then-number-scenarios-clause-here
 returns-then-number-scenarios-clause-here c = λ entry.

@@ -3,7 +3,7 @@ use Rattle.std.proofs.Common.{◌≡◌, ◌+◌, ℕ, Option, Some, None, map}
 use Rattle.smps_words.specs.declared.entry.Entry.{Entry}
 use Rattle.stoch_defs.specs.Stated.{value_set, path_among, paths_of}
 use Rattle.smps_stoch.specs.Paths.{first_of, node_content}
-use Rattle.smps_stoch.proofs.paths.collected.Given as goal
+use Rattle.smps_stoch.proofs.hand.collected.Given as goal
 
 abbrev pub invariant-loop-next : goal.invariant-loop-next
 invariant-loop-next l = (e : Entry) →

@@ -3,7 +3,7 @@ use Rattle.std.proofs.Common.{◌∙◌, ap, arith, map, sym}
 use Rattle.stoch_defs.specs.Stated.{value_set}
 use Rattle.smps_stoch.specs.Paths.{first_of, node_content}
 use Rattle.smps_stoch.proofs.HandLemmas.{child_step, at_map, within_map, same_option}
-use Rattle.smps_stoch.proofs.paths.values_on_path.Goals as goal
+use Rattle.smps_stoch.proofs.hand.values_on_path.Goals as goal
 
 pub returns-then-eq : goal.returns-then-eq
 returns-then-eq c =

@@ -1,7 +1,7 @@
 -- The value before those that are set is set.
 use Rattle.std.proofs.Common.{arith}
 use Rattle.smps_stoch.proofs.HandLemmas.{sets_step}
-use Rattle.smps_stoch.proofs.paths.with_sets.Goals as goal
+use Rattle.smps_stoch.proofs.hand.with_sets.Goals as goal
 
 pub loop-left-preserved : goal.loop-left-preserved
 loop-left-preserved c = record {

@@ -4,7 +4,7 @@ use Rattle.smps_words.specs.declared.entry.Entry.{Entry}
 use Rattle.stoch_defs.specs.Stated.{value_set, path_among, paths_of}
 use Rattle.smps_stoch.specs.Paths.{first_of, node_content}
 use Rattle.smps_stoch.proofs.HandLemmas.{up_step, at_map, within_map, past_map, none_left}
-use Rattle.smps_stoch.proofs.paths.collected.Goals as goal
+use Rattle.smps_stoch.proofs.hand.collected.Goals as goal
 
 pub returns-then-at-scenarios : goal.returns-then-at-scenarios
 returns-then-at-scenarios c = λ e. none_left (path_among (paths_of (map node_content c.args.scenarios.now)) c.loop-next.next) _ _ e
