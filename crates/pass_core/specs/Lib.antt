@@ -5,3 +5,4 @@ pub mod Settled
 pub mod Counting
 pub mod Pools
 pub mod Banks
+pub mod Versions

@@ -1,9 +1,10 @@
 //! What an edit of the program leaves.
-ghost use Rattle.std.specs.Prelude.{◌≡◌, ◌∷◌, [], map, IfOk, OnOk};
+ghost use Rattle.std.specs.Prelude.{◌≡◌, ◌∷◌, [], IfOk, OnOk};
 ghost use Rattle.scen_defs.specs.Lists.{pick};
 ghost use Rattle.scen_defs.specs.Program.{content};
 ghost use Rattle.scen_defs.specs.Valid.{IsProgram};
-ghost use Rattle.pass_core.specs.Banks.{touched_of, fit_banks, swept_banks, edited_banks};
+ghost use Rattle.pass_core.specs.Banks.{fit_banks, swept_banks, edited_banks};
+ghost use Rattle.pass_core.specs.Versions.{next_version, with_next, next_touch, next_touches, next_versions};
 
 use crate::ends::Ends;
 use crate::flight;
@@ -20,7 +21,8 @@ impl State {
     /// The versions of what an edit touches rise: the touches with the versions that stand from then on. What is gone has
     /// version 1.
     pub fn touch(&mut self, alloc: Global, touched: &[Touched]) -> Result<Vec<Touch>, Memory>
-        ensures touches { IfOk result (λ touches. map touched_of touches.items ≡ touched.now) }
+        ensures touches { IfOk result (λ touches. touches.items ≡ next_touches touched.now self.old.versions) }
+        ensures versions { OnOk result (self.new.versions ≡ next_versions touched.now self.old.versions) }
         ensures banks { self.new.banks ≡ self.old.banks }
     {
         let mut touches = Vec::new(alloc);
@@ -32,7 +34,8 @@ impl State {
 
     /// The version of a part that is touched rises: the touch with the version that stands from then on.
     fn raise(&mut self, touched: Touched) -> Touch
-        ensures touched { touched_of result ≡ touched }
+        ensures touch { result ≡ next_touch touched self.old.versions }
+        ensures versions { self.new.versions ≡ with_next touched.part touched.node self.old.versions }
         ensures banks { self.new.banks ≡ self.old.banks }
     {
         let Touched { node, part } = touched;
@@ -46,7 +49,9 @@ impl State {
 
     /// The version of a part rises, and is answered.
     fn raised(&mut self, node: u32, part: Part) -> u32
-        ensures { self.new.banks ≡ self.old.banks }
+        ensures version { result ≡ next_version part node self.old.versions }
+        ensures versions { self.new.versions ≡ with_next part node self.old.versions }
+        ensures banks { self.new.banks ≡ self.old.banks }
     {
         match part {
             Part::Rows => self.versions.touch_rows(node),

@@ -1,9 +1,10 @@
-use Rattle.std.proofs.Common.{◌≡◌, ◌++◌, drop, map}
-use Rattle.pass_core.specs.Banks.{touched_of}
+use Rattle.std.proofs.Common.{◌≡◌, ◌++◌, drop}
+use Rattle.pass_core.specs.Versions.{next_touches, next_versions}
 use Rattle.pass_core.proofs.state.State.touch.Given as goal
 
 abbrev pub invariant-loop-place : goal.invariant-loop-place
 invariant-loop-place l = record {
-  touches : map touched_of l.touches.items ++ drop l.place-index l.touched ≡ l.touched;
+  touches : l.touches.items ++ next_touches (drop l.place-index l.touched) l.self.versions ≡ next_touches l.touched l.initial.self.versions;
+  versions : next_versions (drop l.place-index l.touched) l.self.versions ≡ next_versions l.touched l.initial.self.versions;
   banks : l.self.banks ≡ l.initial.self.banks;
 }
