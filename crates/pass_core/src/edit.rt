@@ -1,8 +1,9 @@
 //! What an edit of the program leaves.
-ghost use Rattle.std.specs.Prelude.{◌≡◌, ◌∷◌, [], IfOk, OnOk};
+ghost use Rattle.std.specs.Prelude.{◌≡◌, ◌∷◌, [], length, IfOk, OnOk};
 ghost use Rattle.scen_defs.specs.Lists.{pick};
 ghost use Rattle.scen_defs.specs.Program.{content};
 ghost use Rattle.scen_defs.specs.Valid.{IsProgram};
+ghost use Rattle.run_data.specs.Counts.{grown};
 ghost use Rattle.pass_core.specs.Banks.{fit_banks, swept_banks, edited_banks};
 ghost use Rattle.pass_core.specs.Versions.{next_version, with_next, next_touch, next_touches, next_versions};
 
@@ -71,7 +72,9 @@ impl State {
         is_grown: bool,
     ) -> Result<(), Memory>
         requires { IsProgram (content program.now) }
-        ensures { OnOk result (self.new.banks ≡ edited_banks is_grown (content program.now).nodes dues.now self.old.banks) }
+        ensures banks { OnOk result (self.new.banks ≡ edited_banks is_grown (content program.now).nodes dues.now self.old.banks) }
+        ensures versions { OnOk result (self.new.versions
+            ≡ pick is_grown (grown (length (content program.now).nodes) self.old.versions) self.old.versions) }
     {
         self.grow(alloc, program, is_grown)?;
         self.sweep(alloc, dues)?;
@@ -81,7 +84,9 @@ impl State {
     /// Where nodes came or went, there are places for them from now on.
     fn grow(&mut self, alloc: Global, program: &Program, is_grown: bool) -> Result<(), Memory>
         requires { IsProgram (content program.now) }
-        ensures { OnOk result (self.new.banks ≡ pick is_grown (fit_banks (content program.now).nodes self.old.banks) self.old.banks) }
+        ensures banks { OnOk result (self.new.banks ≡ pick is_grown (fit_banks (content program.now).nodes self.old.banks) self.old.banks) }
+        ensures versions { OnOk result (self.new.versions
+            ≡ pick is_grown (grown (length (content program.now).nodes) self.old.versions) self.old.versions) }
     {
         if !is_grown {
             return Ok(());
@@ -93,7 +98,8 @@ impl State {
 
     /// Sweeps the pools of all dues, in their order.
     fn sweep(&mut self, alloc: Global, dues: &[Due]) -> Result<(), Memory>
-        ensures { OnOk result (self.new.banks ≡ swept_banks dues.now self.old.banks) }
+        ensures banks { OnOk result (self.new.banks ≡ swept_banks dues.now self.old.banks) }
+        ensures versions { self.new.versions ≡ self.old.versions }
     {
         for due in dues {
             self.sweep_for(alloc, due)?;
@@ -103,7 +109,8 @@ impl State {
 
     /// Sweeps the pool of a due.
     fn sweep_for(&mut self, alloc: Global, due: &Due) -> Result<(), Memory>
-        ensures { OnOk result (self.new.banks ≡ swept_banks (due.now ∷ []) self.old.banks) }
+        ensures banks { OnOk result (self.new.banks ≡ swept_banks (due.now ∷ []) self.old.banks) }
+        ensures versions { self.new.versions ≡ self.old.versions }
     {
         if !self.banks.sweep(alloc, due)? {
             self.stuck();
@@ -113,7 +120,8 @@ impl State {
 
     /// Nothing is known but the cuts.
     fn begin_anew(&mut self, alloc: Global, is_grown: bool) -> Result<(), Memory>
-        ensures { self.new.banks ≡ self.old.banks }
+        ensures banks { self.new.banks ≡ self.old.banks }
+        ensures versions { self.new.versions ≡ self.old.versions }
     {
         self.ends = Ends::none();
         self.stop = None;
@@ -129,7 +137,8 @@ impl State {
 
     /// No node has a last solve.
     fn forget(&mut self, alloc: Global) -> Result<(), Memory>
-        ensures { self.new.banks ≡ self.old.banks }
+        ensures banks { self.new.banks ≡ self.old.banks }
+        ensures versions { self.new.versions ≡ self.old.versions }
     {
         self.lasts = Lasts::none(alloc, self.frame.nodes())?;
         match flight::start(alloc, &self.frame)? {

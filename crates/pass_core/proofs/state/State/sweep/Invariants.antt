@@ -3,4 +3,7 @@ use Rattle.pass_core.specs.Banks.{swept_banks}
 use Rattle.pass_core.proofs.state.State.sweep.Given as goal
 
 abbrev pub invariant-loop-due : goal.invariant-loop-due
-invariant-loop-due l = swept_banks (drop l.due-index l.dues) l.self.banks ≡ swept_banks l.dues l.initial.self.banks
+invariant-loop-due l = record {
+  banks : swept_banks (drop l.due-index l.dues) l.self.banks ≡ swept_banks l.dues l.initial.self.banks;
+  versions : l.self.versions ≡ l.initial.self.versions;
+}
