@@ -10,6 +10,11 @@ use Rattle.cut_defs.specs.declared.versions.Touch.{Touch}
 use Rattle.cut_defs.specs.declared.versions.Shift.{Shift}
 use Rattle.cut_defs.specs.declared.versions.Due.{Due}
 
+-- the version of the rows that were touched, 0 where none were
+abbrev pub rows_version : List Touch → ℕ
+rows_version [] = 0
+rows_version (t ∷ ts) = pick (is_rows t.part) t.version (rows_version ts)
+
 -- whether a touch says that the node is gone
 abbrev pub is_gone_in : ℕ → List Touch → Bool
 is_gone_in n [] = false
