@@ -84,7 +84,8 @@ impl State {
     /// Where nodes came or went, there are places for them from now on.
     fn grow(&mut self, alloc: Global, program: &Program, is_grown: bool) -> Result<(), Memory>
         requires { IsProgram (content program.now) }
-        ensures banks { OnOk result (self.new.banks ≡ pick is_grown (fit_banks (content program.now).nodes self.old.banks) self.old.banks) }
+        ensures banks { OnOk result (self.new.banks
+            ≡ pick is_grown (fit_banks (content program.now).nodes self.old.banks) self.old.banks) }
         ensures versions { OnOk result (self.new.versions
             ≡ pick is_grown (grown (length (content program.now).nodes) self.old.versions) self.old.versions) }
     {

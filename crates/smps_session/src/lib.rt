@@ -1,8 +1,7 @@
 //! The reports of a program on a tree: of one solve, and of a script of edits and solves.
 #![tactic(auto)]
 
-mod edits;
-mod found;
+mod items;
 mod running;
 mod scripts;
 mod told;

@@ -6,12 +6,12 @@ ghost use Rattle.scen_defs.specs.Valid.{IsSmall};
 ghost use Rattle.report_defs.specs.Truth.{IsTrue, HasCounts};
 ghost use Rattle.smps_session.specs.Reasons.{told_reasons};
 
-use crate::found::Method;
 use frac128::Memory;
 use pass_core::Budget;
 use proved_report::{Open, report};
 use scen_defs::{Program, Report};
 use std::alloc::Global;
+use tree_method::Method;
 
 /// Solves a program on a tree by the nested method, with so many solves of nodes at most and so many pivots in each, and
 /// tests what was found before it is told: see `proved_report::report`.

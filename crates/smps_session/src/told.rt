@@ -4,12 +4,12 @@ ghost use Rattle.scen_defs.specs.Program.{content};
 ghost use Rattle.scen_defs.specs.Valid.{IsProgram};
 ghost use Rattle.smps_session.specs.Told.{IsTold};
 
-use crate::found::Method;
 use crate::running::reported;
 use frac128::Memory;
 use report_text::print_report;
 use scen_defs::{Finding, Program};
 use std::alloc::Global;
+use tree_method::Method;
 
 /// What is told of a report.
 #[derive(Drop)]

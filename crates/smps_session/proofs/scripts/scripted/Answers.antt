@@ -1,24 +1,34 @@
-use Rattle.std.proofs.Common.{◌≡◌, ◌+◌, rules, List, [], refl, sym, subst}
-use Rattle.std.proofs.lemmas.List.{append-nil}
-use Rattle.scen_defs.specs.Program.{content}
-use Rattle.edit_defs.specs.declared.edit.Item.{Item}
-use Rattle.smps_session.specs.declared.told.Told.{Told}
-use Rattle.smps_session.specs.Told.{AreTold}
-use Rattle.smps_session.proofs.ToldLemmas.{none_left, solve_on}
+use Rattle.std.proofs.Common.{List, Option, ap, ◌∙◌}
+use Rattle.scen_defs.specs.Program.{content, nodes_content}
+use Rattle.scen_defs.specs.declared.program.Node.{Node as NodeOf}
+use Rattle.edit_defs.specs.Limits.{counts}
+use Rattle.smps_session.specs.Courses.{course_at}
+use Rattle.smps_session.proofs.ToldLemmas.{begins_course, item_allowed, stays_on_course, all_told}
 use Rattle.smps_session.proofs.scripts.scripted.Goals as goal
 
-pub returns : goal.returns
-returns c =
-    let ended : AreTold c.args.solves c.loop-rest.number (content c.loop-rest.program) c.loop-rest.rest.now [] =
-    subst (λ (items : List Item). AreTold c.args.solves c.loop-rest.number (content c.loop-rest.program) items []) (sym (none_left c.loop-rest.rest.now c.in_default.len_below)) refl in
-    subst (λ (tolds : List Told). AreTold c.args.solves 1 (content c.args.program.now) c.args.script.now.items.items tolds) (append-nil c.loop-rest.tolds.items)
-    (c.loop-rest.invariant.3 [] ended)
+pub loop-rest-init : goal.loop-rest-init
+loop-rest-init c = record {
+  program = c.requires.program;
+  counted = c.in_ok-counted.ensures ∙ ap (λ (nodes : List (Option NodeOf)). counts (nodes_content nodes)) c.deref.ensures.value;
+  course = begins_course c.args.solves (content c.args.program.now) c.args.script.now.items.items c.as_slice-rest.result.now
+      c.new-tolds.result.items c.as_slice-rest.ensures.value c.new-tolds.ensures.items c.requires.allowed;
+}
+
+pub take-requires-clause-allowed : goal.take-requires-clause-allowed
+take-requires-clause-allowed c = item_allowed (content c.loop-rest.program) c.item-item.result c.loop-rest.rest.now
+    c.in-len1-up.len_at_least c.item-item.is c.loop-rest.invariant.course.0
 
 pub loop-rest-preserved : goal.loop-rest-preserved
-loop-rest-preserved c =
-    let next : c.in_ok-number-in-Solve.number ≡ c.loop-rest.number + 1 = search rules in
-    let on = solve_on c.args.solves c.loop-rest.number c.in_ok-number-in-Solve.number (content c.loop-rest.program) (content c.args.program.now)
-    c.item-item.result c.loop-rest.rest.now c.args.script.now.items.items c.in_ok-told_one-in-Solve.field-0 c.loop-rest.tolds.items c.push.new.self.items
-    c.in-len1-up.len_at_least c.item-item.is c.in-Solve.is next c.in_ok-push-in-Solve.ensures.items c.in_ok-told_one-in-Solve.ensures
-    c.loop-rest.invariant.1 c.loop-rest.invariant.3 in
-    (c.loop-rest.invariant.0, on.0, c.loop-rest.invariant.2, on.1)
+loop-rest-preserved c = record {
+  program = c.in_ok-take.ensures.keeps;
+  counted = c.in_ok-take.ensures.counted;
+  course = stays_on_course c.args.solves (content c.args.program.now) c.args.script.now.items.items c.loop-rest.rest.now c.item-item.result
+      (course_at (content c.loop-rest.program) c.loop-rest.progress.number c.loop-rest.tolds.items)
+      (course_at (content c.take.new.program) c.take.new.self.number c.take.new.tolds.items)
+      c.in-len1-up.len_at_least c.item-item.is c.loop-rest.invariant.course c.in_ok-take.ensures.course;
+}
+
+pub returns : goal.returns
+returns c = all_told c.args.solves (content c.args.program.now) c.args.script.now.items.items c.loop-rest.rest.now
+    (course_at (content c.loop-rest.program) c.loop-rest.progress.number c.loop-rest.tolds.items) c.in_default.len_below
+    c.loop-rest.invariant.course

@@ -4,7 +4,8 @@ use Rattle.pass_core.proofs.state.State.touch.Given as goal
 
 abbrev pub invariant-loop-place : goal.invariant-loop-place
 invariant-loop-place l = record {
-  touches : l.touches.items ++ next_touches (drop l.place-index l.touched) l.self.versions ≡ next_touches l.touched l.initial.self.versions;
+  touches : l.touches.items ++ next_touches (drop l.place-index l.touched) l.self.versions
+      ≡ next_touches l.touched l.initial.self.versions;
   versions : next_versions (drop l.place-index l.touched) l.self.versions ≡ next_versions l.touched l.initial.self.versions;
   banks : l.self.banks ≡ l.initial.self.banks;
 }

@@ -1,8 +1,11 @@
-//! What the nested method finds of a program.
+//! The nested method at work on a program.
+ghost use Rattle.std.specs.Prelude.{IfOk};
+ghost use Rattle.tree_method.specs.Edited.{IsTreeless};
 
+use crate::found::{Found, nothing};
 use frac128::Memory;
 use pass_core::{Budget, State};
-use proved_report::{Claim, Open};
+use proved_report::Open;
 use scen_defs::{Place, Program};
 use scen_tree::{Tree, TreeFault};
 use std::alloc::Global;
@@ -13,44 +16,25 @@ const MANY: usize = 1 << 32;
 /// More solves than are ever committed.
 const ENDLESS: u64 = u64::MAX;
 
-/// What is claimed of a program; why its report is open, where that doesn't settle it; and where a test of the claim that passes
-/// 128 bits is told.
-#[derive(Drop)]
-pub(crate) struct Found {
-    pub(crate) claim: Claim,
-    pub(crate) why: Open,
-    pub(crate) place: Place,
-}
-
 /// The method on a program with its tree.
 #[derive(Drop)]
-pub(crate) struct Working {
+pub struct Working {
     pub(crate) state: State,
     pub(crate) tree: Tree,
 }
 
 /// The nested method at work.
 #[derive(Drop)]
-pub(crate) enum Method {
+pub enum Method {
     Working(Working),
-    /// It can't begin, which never comes of a program that was built.
+    /// It can't begin or go on, which never comes of a program that was built.
     Idle(Open),
 }
 
-/// Nothing is claimed.
-fn nothing(why: Open) -> Found {
-    Found {
-        claim: Claim::Ends {
-            policy: None,
-            dual: None,
-        },
-        why,
-        place: Place::Dual,
-    }
-}
-
 /// Why there is no tree: its totals or shares don't fit, which never comes of a program that was built.
-pub(crate) fn treeless(fault: TreeFault) -> Result<Open, Memory> {
+pub(crate) fn treeless(fault: TreeFault) -> Result<Open, Memory>
+    ensures { IfOk result (IsTreeless fault) }
+{
     match fault {
         TreeFault::Passed(passed) => Ok(Open::Passed(Place::Dual, passed)),
         TreeFault::Memory => Err(Memory),
@@ -83,11 +67,7 @@ impl Working {
 
 impl Method {
     /// The method before any solve.
-    pub(crate) fn begin(
-        alloc: Global,
-        program: &Program,
-        budget: Budget,
-    ) -> Result<Method, Memory> {
+    pub fn begin(alloc: Global, program: &Program, budget: Budget) -> Result<Method, Memory> {
         if program.nodes.len() >= MANY {
             return Ok(Method::Idle(Open::Solves(budget.solves)));
         }
@@ -102,12 +82,7 @@ impl Method {
     }
 
     /// Works on the program until so many solves were committed since the last item, or nothing is left to find.
-    pub(crate) fn work(
-        &mut self,
-        alloc: Global,
-        program: &Program,
-        work: u64,
-    ) -> Result<(), Memory> {
+    pub fn work(&mut self, alloc: Global, program: &Program, work: u64) -> Result<(), Memory> {
         match self {
             Method::Working(working) => working.run(alloc, program, work),
             Method::Idle(_) => Ok(()),
@@ -115,7 +90,7 @@ impl Method {
     }
 
     /// What it finds of the program.
-    pub(crate) fn find(&mut self, alloc: Global, program: &Program) -> Result<Found, Memory> {
+    pub fn find(&mut self, alloc: Global, program: &Program) -> Result<Found, Memory> {
         match self {
             Method::Working(working) => working.find(alloc, program),
             Method::Idle(why) => Ok(nothing(*why)),

@@ -1,0 +1,19 @@
+use Rattle.scen_defs.specs.Program.{content}
+use Rattle.smps_session.specs.Courses.{course_at}
+use Rattle.smps_session.proofs.ToldLemmas.{edit_allowed, is_behind_edit, is_behind_solve}
+use Rattle.smps_session.proofs.items.Progress.take.Goals as goal
+
+pub change-requires-clause-allowed : goal.change-requires-clause-allowed
+change-requires-clause-allowed c =
+    edit_allowed (content c.args.program.now) c.args.item.now c.in-Change.edit c.in-Change.is c.requires.allowed
+
+pub returns-in-Change-clause-course : goal.returns-in-Change-clause-course
+returns-in-Change-clause-course c = is_behind_edit c.change.result c.args.solves c.args.item.now.act c.in-Change.edit
+    (content c.args.program.now) (content c.change.new.program) c.args.self.now.number c.change.new.self.number c.args.tolds.now.items
+    c.in-Change.is c.change.ensures.after c.change.ensures.number
+
+pub returns-in-Solve-clause-course : goal.returns-in-Solve-clause-course
+returns-in-Solve-clause-course c = is_behind_solve c.tell.result c.args.solves c.args.item.now.act
+    (course_at (content c.args.program.now) c.args.self.now.number c.args.tolds.now.items)
+    (course_at (content c.args.program.now) c.tell.new.self.number c.tell.new.tolds.items)
+    c.in-Solve.is c.tell.ensures.told

@@ -1,0 +1,10 @@
+use Rattle.std.proofs.Common.{◌≡◌, ◌+◌, rules}
+use Rattle.scen_defs.specs.Program.{content}
+use Rattle.smps_session.proofs.ToldLemmas.{tells_one}
+use Rattle.smps_session.proofs.items.Progress.tell.Goals as goal
+
+pub returns-clause-told : goal.returns-clause-told
+returns-clause-told c =
+    let next : c.in_ok-next.next ≡ c.args.self.now.number + 1 = search rules in
+    tells_one c.args.solves c.args.self.now.number c.in_ok-next.next (content c.args.program.now) c.in_ok-told.told c.args.tolds.now.items
+    c.push.new.self.items c.in_ok-told.ensures next c.in_ok-push.ensures.items

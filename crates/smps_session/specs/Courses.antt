@@ -1,0 +1,28 @@
+-- How far a script has come, item by item.
+use Rattle.std.specs.Prelude.{◌≡◌, ℕ, ◌+◌, List, [], ◌∷◌, ◌++◌}
+use Rattle.scen_defs.specs.Program.{Program}
+use Rattle.edit_defs.specs.declared.edit.Act.{Act}
+use Rattle.edit_defs.specs.declared.edit.Act.TheVariants.{Change, Solve}
+use Rattle.edit_defs.specs.After.{after}
+use Rattle.smps_session.specs.declared.told.Told.{Told}
+use Rattle.smps_session.specs.Told.{IsTold}
+
+-- the program as it is, the number of the next report, and what was told
+pub record Course : Type 0 where
+  pub program : Program
+  pub number : ℕ
+  pub tolds : List Told
+
+abbrev pub course_at : Program → ℕ → List Told → Course
+course_at p number tolds = record { program = p; number = number; tolds = tolds }
+
+-- a report of the program is told behind the others
+pub record TellsOne (solves : ℕ) (s t : Course) : Type 0 where
+  pub told : Told
+  pub is_told : IsTold solves s.number s.program told
+  pub course : t ≡ record s { number = s.number + 1; tolds = s.tolds ++ told ∷ [] }
+
+-- behind an item: an edit changes the program, and of a SOLVE a report is told
+abbrev pub IsBehind : ℕ → Act → Course → Course → Type 0
+IsBehind solves (Change e) s t = t ≡ record s { program = after s.program e }
+IsBehind solves Solve s t = TellsOne solves s t

@@ -1,0 +1,91 @@
+//! The items of a script, one behind the other.
+ghost use Rattle.std.specs.Prelude.{◌≡◌, ◌∷◌, [], OnOk};
+ghost use Rattle.scen_defs.specs.Program.{content};
+ghost use Rattle.scen_defs.specs.Valid.{IsProgram};
+ghost use Rattle.edit_defs.specs.After.{after};
+ghost use Rattle.edit_defs.specs.Limits.{counts};
+ghost use Rattle.edit_script.specs.Allowed.{AreAllowed, IsAllowed};
+ghost use Rattle.smps_session.specs.Courses.{course_at, TellsOne, IsBehind};
+
+use crate::told::{Told, told_one};
+use edit_defs::{Act, Counts, Edit, Item};
+use frac128::Memory;
+use scen_defs::Program;
+use std::alloc::Global;
+use tree_method::Method;
+
+/// How far a script has come.
+#[derive(Drop)]
+pub(crate) struct Progress {
+    /// What the program's nodes have.
+    pub(crate) counted: Counts,
+    pub(crate) method: Method,
+    /// The number of the next report.
+    pub(crate) number: u32,
+}
+
+impl Progress {
+    /// Applies an edit in place, after so many solves were committed since the item before it, or where nothing is left to find. The
+    /// method goes on with the program after it.
+    fn change(
+        &mut self,
+        alloc: Global,
+        program: &mut Program,
+        edit: &Edit,
+        work: u64,
+    ) -> Result<(), Memory>
+        requires program { IsProgram (content program.old) }
+        requires allowed { IsAllowed (content program.old) edit.now }
+        requires counted { self.old.counted ≡ counts (content program.old).nodes }
+        ensures after { OnOk result (content program.new ≡ after (content program.old) edit.now) }
+        ensures keeps { OnOk result (IsProgram (content program.new)) }
+        ensures counted { OnOk result (self.new.counted ≡ counts (content program.new).nodes) }
+        ensures number { self.new.number ≡ self.old.number }
+    {
+        self.method.work(alloc, program, work)?;
+        self.method.edit(alloc, program, &mut self.counted, edit)
+    }
+
+    /// Tells the report of the program as it is.
+    fn tell(
+        &mut self,
+        alloc: Global,
+        program: &Program,
+        solves: u64,
+        tolds: &mut Vec<Told>,
+    ) -> Result<(), Memory>
+        requires { IsProgram (content program.now) }
+        ensures counted { self.new.counted ≡ self.old.counted }
+        ensures told { OnOk result (TellsOne solves (course_at (content program.now) self.old.number tolds.old.items)
+            (course_at (content program.now) self.new.number tolds.new.items)) }
+    {
+        let told = told_one(alloc, program, &mut self.method, self.number, solves)?;
+        let next = self.number.checked_add(1).ok_or(Memory)?;
+        tolds.push(told)?;
+        self.number = next;
+        Ok(())
+    }
+
+    /// Takes an item: an edit, or a SOLVE, of which a report is told.
+    pub(crate) fn take(
+        &mut self,
+        alloc: Global,
+        program: &mut Program,
+        item: &Item,
+        solves: u64,
+        tolds: &mut Vec<Told>,
+    ) -> Result<(), Memory>
+        requires program { IsProgram (content program.old) }
+        requires allowed { AreAllowed (content program.old) (item.now ∷ []) }
+        requires counted { self.old.counted ≡ counts (content program.old).nodes }
+        ensures keeps { OnOk result (IsProgram (content program.new)) }
+        ensures counted { OnOk result (self.new.counted ≡ counts (content program.new).nodes) }
+        ensures course { OnOk result (IsBehind solves item.now.act (course_at (content program.old) self.old.number tolds.old.items)
+            (course_at (content program.new) self.new.number tolds.new.items)) }
+    {
+        match &item.act {
+            Act::Change(edit) => self.change(alloc, program, edit, item.work),
+            Act::Solve => self.tell(alloc, program, solves, tolds),
+        }
+    }
+}

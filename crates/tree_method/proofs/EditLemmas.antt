@@ -1,0 +1,40 @@
+-- What an edit leaves, step by step.
+use Rattle.std.proofs.Common.{◌≡◌, ℕ, ◌<◌, ◌^◌, List, length, Option, ap, ap₂, ◌∙◌, arith}
+use Rattle.scen_defs.specs.Program.{Program, content, view_of}
+use Rattle.scen_defs.specs.declared.program.Program.{Program as ProgramOf}
+use Rattle.scen_defs.specs.Valid.{IsProgram}
+use Rattle.scen_tree.specs.Chances.{TreeFaultOf}
+use Rattle.scen_tree.specs.Trees.{tree_walk}
+use Rattle.scen_tree.specs.declared.fault.TreeFault.{TreeFault}
+use Rattle.scen_tree.specs.declared.fault.TreeFault.TheVariants.{Memory, Passed as PassedFault}
+use Rattle.cut_defs.specs.declared.versions.Touch.{Touch}
+use Rattle.cut_defs.specs.declared.versions.Shift.{Shift}
+use Rattle.edit_defs.specs.declared.edit.Edit.{Edit}
+use Rattle.edit_defs.specs.declared.edit.Touched.{Touched}
+use Rattle.edit_defs.specs.Touches.{touches}
+use Rattle.edit_apply.proofs.Grown.{nodes_long}
+use Rattle.edit_retire.specs.Dues.{dues, rows_version}
+use Rattle.edit_retire.specs.Shifted.{shift_of}
+use Rattle.run_data.specs.declared.versions.Version.{Version}
+use Rattle.proved_report.specs.declared.open.Open.{Open}
+use Rattle.pass_core.specs.Versions.{next_touches}
+use Rattle.tree_method.specs.Edited.{touches_of, dues_of, IsTreeless, HasNoTree}
+
+-- the number of places of a program has 32 bits
+pub few_places : (program : ProgramOf) → IsProgram (content program) → length program.nodes.items < 2 ^ 32
+few_places program h = let e = nodes_long program.nodes.items in let f = h.small.nodes in omega (arith, e, f)
+
+-- the sweeps for the touches that rise, and for the shift with the version of the rows among them
+pub dues_are : (p : Program) (e : Edit) (versions : List Version) (places : List Touched) (ts : List Touch) (version : ℕ)
+    (moved : Option Shift)
+    → places ≡ touches p e → ts ≡ next_touches places versions → version ≡ rows_version ts → moved ≡ shift_of p e version
+    → dues (view_of p) ts moved ≡ dues_of p e versions
+dues_are p e versions places ts version moved a b c d =
+    let t : ts ≡ touches_of p e versions = b ∙ ap (λ (ps : List Touched). next_touches ps versions) a in
+    ap₂ (dues (view_of p)) t (d ∙ ap (shift_of p e) (c ∙ ap rows_version t))
+
+-- the program after an edit has no tree
+pub no_tree : (p : Program) (fault : TreeFault) (why : Open) → TreeFaultOf (tree_walk p) fault → IsTreeless fault why
+    → HasNoTree p why
+no_tree p (PassedFault o) why f t = record { operation = o; passes = f; why_is = t }
+no_tree p Memory why f t = absurd t

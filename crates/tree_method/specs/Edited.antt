@@ -1,0 +1,84 @@
+-- The method behind an edit of its program: which pools are swept for what the edit touches.
+use Rattle.std.specs.Prelude.{◌≡◌, Bool, true, false, length, List, Option, Ok, Err}
+use Rattle.rationals.specs.Passes.{Operation}
+use Rattle.scen_defs.specs.Lists.{pick}
+use Rattle.scen_defs.specs.declared.report.Place.TheVariants.{Dual}
+use Rattle.scen_defs.specs.Program.{Node, Program, view_of}
+use Rattle.scen_tree.specs.Trees.{tree_walk}
+use Rattle.scen_tree.specs.declared.fault.TreeFault.{TreeFault}
+use Rattle.scen_tree.specs.declared.fault.TreeFault.TheVariants.{Memory, Passed as PassedFault}
+use Rattle.cut_defs.specs.declared.versions.Touch.{Touch}
+use Rattle.cut_defs.specs.declared.versions.Due.{Due}
+use Rattle.edit_defs.specs.declared.edit.Edit.{Edit}
+use Rattle.edit_defs.specs.declared.edit.Edit.TheVariants.{Set, Prob, Drop, Add}
+use Rattle.edit_defs.specs.After.{after}
+use Rattle.edit_defs.specs.Touches.{touches}
+use Rattle.edit_retire.specs.Dues.{dues, rows_version}
+use Rattle.edit_retire.specs.Shifted.{shift_of}
+use Rattle.run_data.specs.declared.versions.Version.{Version}
+use Rattle.run_data.specs.Counts.{grown}
+use Rattle.proved_report.specs.declared.open.Open.{Open}
+use Rattle.proved_report.specs.declared.open.Open.TheVariants.{Passed}
+use Rattle.pass_core.specs.declared.banks.Banks.{Banks}
+use Rattle.pass_core.specs.Banks.{edited_banks}
+use Rattle.pass_core.specs.Versions.{next_touches, next_versions}
+use Rattle.tree_method.specs.declared.method.Working.{Working}
+use Rattle.tree_method.specs.declared.method.Method.{Method}
+use Rattle.tree_method.specs.declared.method.Method.TheVariants.{Working as AtWork, Idle}
+
+-- whether nodes come or go with an edit
+abbrev pub is_grown : Edit → Bool
+is_grown (Set name entry v) = false
+is_grown (Prob name q) = false
+is_grown (Drop name) = true
+is_grown (Add name parent q t) = true
+
+-- ---- the sweeps
+-- what an edit of a program touches: each place with its next version
+abbrev pub touches_of : Program → Edit → List Version → List Touch
+touches_of p e versions = next_touches (touches p e) versions
+
+-- the sweeps that are due for these touches of an edit, with the shift that it is
+abbrev pub dues_for : Program → Edit → List Touch → List Due
+dues_for p e ts = dues (view_of p) ts (shift_of p e (rows_version ts))
+
+-- the sweeps that are due for an edit, by the program before it
+abbrev pub dues_of : Program → Edit → List Version → List Due
+dues_of p e versions = dues_for p e (touches_of p e versions)
+
+-- ---- what an edit leaves
+-- the pools are swept for each due of the edit, and are otherwise as they were; those of nodes that came or went are empty
+abbrev pub retired : Program → Edit → List Version → Banks → Banks
+retired p e versions banks = edited_banks (is_grown e) (after p e).nodes (dues_of p e versions) banks
+
+-- versions for the nodes of a program, where nodes came or went: no edit has touched the new ones
+abbrev pub fit_versions : Bool → List (Option Node) → List Version → List Version
+fit_versions grows nodes versions = pick grows (grown (length nodes) versions) versions
+
+-- the versions of what the edit touches rise
+abbrev pub raised_versions : Program → Edit → List Version → List Version
+raised_versions p e versions = fit_versions (is_grown e) (after p e).nodes (next_versions (touches p e) versions)
+
+-- The method at work behind an edit of the program on which it was at work.
+pub record IsEdited (p : Program) (e : Edit) (old new : Working) : Type 0 where
+  pub tree : tree_walk (after p e) ≡ Ok new.tree
+  pub versions : new.state.versions ≡ raised_versions p e old.state.versions
+  pub pools : new.state.banks ≡ retired p e old.state.versions old.state.banks
+
+-- why a tree isn't made is told by the operation that passes
+abbrev pub IsTreeless : TreeFault → Open → Type 0
+IsTreeless (PassedFault o) why = why ≡ Passed Dual o
+IsTreeless Memory why = ⊥
+
+-- the program has no tree, since an operation passes, and that is why
+pub record HasNoTree (p : Program) (why : Open) : Type 0 where
+  pub operation : Operation
+  pub passes : tree_walk p ≡ Err operation
+  pub why_is : why ≡ Passed Dual operation
+
+-- A method behind an edit of its program: one at work goes on, unless the program after the edit has no tree; an idle one stays so.
+abbrev pub GoesOn : Program → Edit → Method → Method → Type 0
+GoesOn p e (AtWork old) (AtWork new) = IsEdited p e old new
+GoesOn p e (AtWork old) (Idle why) = HasNoTree (after p e) why
+GoesOn p e (Idle why) (AtWork new) = ⊥
+GoesOn p e (Idle why) (Idle next) = next ≡ why

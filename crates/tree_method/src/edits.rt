@@ -1,0 +1,130 @@
+//! How the method goes on behind an edit of its program.
+ghost use Rattle.std.specs.Prelude.{◌≡◌, IfOk, OnOk, MatchOption};
+ghost use Rattle.scen_defs.specs.Program.{content};
+ghost use Rattle.scen_defs.specs.Valid.{IsProgram};
+ghost use Rattle.edit_defs.specs.After.{after};
+ghost use Rattle.edit_defs.specs.Limits.{counts};
+ghost use Rattle.edit_defs.specs.Touches.{touches};
+ghost use Rattle.edit_script.specs.Allowed.{IsAllowed};
+ghost use Rattle.pass_core.specs.Banks.{edited_banks};
+ghost use Rattle.pass_core.specs.Versions.{next_versions};
+ghost use Rattle.tree_method.specs.Edited.{is_grown, dues_of, fit_versions, IsEdited, HasNoTree, GoesOn};
+
+use crate::method::{Method, Working, treeless};
+use cut_defs::Due;
+use edit_defs::{Counts, Edit};
+use edit_retire::{rows_version, shift, sweeps, touches};
+use frac128::Memory;
+use proved_report::Open;
+use scen_defs::Program;
+use scen_tree::Tree;
+use script_steps::applied;
+use std::alloc::Global;
+
+/// Whether nodes come or go with an edit.
+fn is_grown(edit: &Edit) -> bool
+    ensures { result ≡ is_grown edit.now }
+{
+    match edit {
+        Edit::Set { .. } | Edit::Prob { .. } => false,
+        Edit::Drop { .. } | Edit::Add { .. } => true,
+    }
+}
+
+impl Working {
+    /// The sweeps that are due for an edit, by the program before it. The versions of what it touches rise.
+    fn dues(&mut self, alloc: Global, program: &Program, edit: &Edit) -> Result<Vec<Due>, Memory>
+        requires program { IsProgram (content program.now) }
+        requires allowed { IsAllowed (content program.now) edit.now }
+        ensures dues { IfOk result (λ dues. dues.items ≡ dues_of (content program.now) edit.now self.old.state.versions) }
+        ensures versions { OnOk result (self.new.state.versions
+            ≡ next_versions (touches (content program.now) edit.now) self.old.state.versions) }
+        ensures banks { OnOk result (self.new.state.banks ≡ self.old.state.banks) }
+    {
+        let touched = touches(alloc, program, edit)?;
+        let raised = self.state.touch(alloc, &touched)?;
+        let moved = shift(program, edit, rows_version(&raised));
+        sweeps(alloc, program, &raised, &moved)
+    }
+
+    /// Takes the program as an edit left it, with its tree. `dues` are the sweeps for the edit; `is_grown` says whether nodes came
+    /// or went.
+    fn replanted(
+        &mut self,
+        alloc: Global,
+        program: &Program,
+        tree: Tree,
+        dues: &[Due],
+        is_grown: bool,
+    ) -> Result<(), Memory>
+        requires { IsProgram (content program.now) }
+        ensures tree { OnOk result (self.new.tree ≡ tree) }
+        ensures versions { OnOk result (self.new.state.versions
+            ≡ fit_versions is_grown (content program.now).nodes self.old.state.versions) }
+        ensures banks { OnOk result (self.new.state.banks
+            ≡ edited_banks is_grown (content program.now).nodes dues.now self.old.state.banks) }
+    {
+        self.tree = tree;
+        self.state.edited(alloc, program, dues, is_grown)
+    }
+
+    /// Edits the program in place, and goes on with the program after it. Why it can't, where that has no tree.
+    fn edit(
+        &mut self,
+        alloc: Global,
+        program: &mut Program,
+        counted: &mut Counts,
+        edit: &Edit,
+    ) -> Result<Option<Open>, Memory>
+        requires program { IsProgram (content program.old) }
+        requires allowed { IsAllowed (content program.old) edit.now }
+        requires counted { counted.old ≡ counts (content program.old).nodes }
+        ensures after { OnOk result (content program.new ≡ after (content program.old) edit.now) }
+        ensures keeps { OnOk result (IsProgram (content program.new)) }
+        ensures counted { OnOk result (counted.new ≡ counts (content program.new).nodes) }
+        ensures method { IfOk result (λ stop. MatchOption stop (IsEdited (content program.old) edit.now self.old self.new)
+            (HasNoTree (after (content program.old) edit.now))) }
+    {
+        let dues = self.dues(alloc, program, edit)?;
+        applied(alloc, program, counted, edit)?;
+        match Tree::of(alloc, program) {
+            Ok(tree) => {
+                self.replanted(alloc, program, tree, &dues, is_grown(edit))?;
+                Ok(None)
+            }
+            Err(fault) => Ok(Some(treeless(fault)?)),
+        }
+    }
+}
+
+impl Method {
+    /// Edits the program in place, and goes on with the program after it. `counted` has what the program's nodes have, before and
+    /// after. The pools are swept for what the edit touches: cuts that don't rest on it are kept, cuts that it shifts are repaired,
+    /// and the others go.
+    pub fn edit(
+        &mut self,
+        alloc: Global,
+        program: &mut Program,
+        counted: &mut Counts,
+        edit: &Edit,
+    ) -> Result<(), Memory>
+        requires program { IsProgram (content program.old) }
+        requires allowed { IsAllowed (content program.old) edit.now }
+        requires counted { counted.old ≡ counts (content program.old).nodes }
+        ensures after { OnOk result (content program.new ≡ after (content program.old) edit.now) }
+        ensures keeps { OnOk result (IsProgram (content program.new)) }
+        ensures counted { OnOk result (counted.new ≡ counts (content program.new).nodes) }
+        ensures method { OnOk result (GoesOn (content program.old) edit.now self.old self.new) }
+    {
+        match self {
+            Method::Working(working) => match working.edit(alloc, program, counted, edit)? {
+                None => Ok(()),
+                Some(why) => {
+                    *self = Method::Idle(why);
+                    Ok(())
+                }
+            },
+            Method::Idle(_) => applied(alloc, program, counted, edit),
+        }
+    }
+}
