@@ -3,7 +3,9 @@
 
 mod edits;
 mod found;
+mod laws;
 mod method;
 
 pub use found::Found;
+pub use laws::touches_stand;
 pub use method::{Method, Working};
