@@ -1,10 +1,9 @@
 -- The ends of the least cost that are known, what they are after a root value and after a policy, and what they show.
-use Rattle.std.specs.Prelude.{Bool, true, false, List, Option, Some, None, ⊤}
+use Rattle.std.specs.Prelude.{Bool, true, false, Option, Some, None}
 use Rattle.std.specs.Ordering.{is_lt}
 use Rattle.rationals.specs.Rational.{ℚ, zero_ℚ}
 use Rattle.rationals.specs.Order.{compare, same}
 use Rattle.scen_defs.specs.Lists.{pick}
-use Rattle.scen_defs.specs.Values.{AreValues}
 use Rattle.scen_defs.specs.declared.report.Kind.{Kind}
 use Rattle.scen_defs.specs.declared.report.Kind.TheVariants.{Feasible, Recession, Cost}
 use Rattle.cut_defs.specs.Stored.{Stored}
@@ -63,13 +62,3 @@ meet (Some lower) (Some upper) = same lower.value upper.cost
 abbrev pub falls : Option Priced → Bool
 falls None = false
 falls (Some direction) = below direction.cost zero_ℚ
-
--- the numbers of a policy rise, and none is 0, as those of every list of values
-abbrev pub IsListed : Option Priced → Type 0
-IsListed None = ⊤
-IsListed (Some found) = AreValues found.policy
-
--- so do those of the policies that are known
-pub record AreListed (e : Ends) : Type 0 where
-  pub upper : IsListed e.upper
-  pub direction : IsListed e.direction

@@ -3,6 +3,4 @@ pub mod Ends
 pub mod Costs
 pub mod Settled
 pub mod Counting
-pub mod Pools
-pub mod Banks
 pub mod Versions

@@ -1,5 +1,6 @@
 -- Whether nothing is left to find, and why; and what is claimed of the program then.
-use Rattle.std.specs.Prelude.{◌≡◌, ◌⊎◌, ℕ, leb, Bool, true, false, ◌&&◌, is_some, List, Option, Some, None, Result, Ok, Err}
+use Rattle.std.specs.Prelude.{◌≡◌, ◌⊎◌, ℕ, leb, Bool, true, false, ◌&&◌, is_some}
+use Rattle.std.specs.Prelude.{List, Option, Some, None, Result, Ok, Err}
 use Rattle.rationals.specs.Passes.{Operation}
 use Rattle.scen_defs.specs.Lists.{pick}
 use Rattle.scen_defs.specs.Values.{At}

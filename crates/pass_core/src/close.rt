@@ -1,14 +1,13 @@
 //! Whether anything is left to find, and what the report is to say.
-ghost use Rattle.std.specs.Prelude.{◌≡◌, ◌≤◌, ◌↔◌, None, Some, IfOk, OnOk, OnErr, IsTrue, IsSome, is_some, leb, ◌&&◌, ◌||◌, option_copied};
-ghost use Rattle.std.specs.Prelude.{◌≢◌, ℕ, List, [], ◌∷◌, ◌++◌, Result};
-ghost use Rattle.rationals.specs.Rational.{zero_ℚ};
+ghost use Rattle.std.specs.Prelude.{◌≡◌, ◌≤◌, ◌↔◌, ◌&&◌, ◌||◌, ℕ, leb, List, Result, None, Some, option_copied};
+ghost use Rattle.std.specs.Prelude.{IfOk, OnOk, OnErr, IsTrue, IsSome, is_some};
 ghost use Rattle.rationals.specs.Passes.{Operation};
 ghost use Rattle.frac128.specs.Faults.{FaultOf};
-ghost use Rattle.scen_defs.specs.Values.{At, AreValues, EndsBefore};
+ghost use Rattle.scen_defs.specs.Values.{At};
 ghost use Rattle.proved_report.specs.declared.open.Open.{Open as OpenOf};
 ghost use Rattle.pass_table.specs.Machine.{Machine, IsClosed};
 ghost use Rattle.pass_table.specs.Fits.{Fits};
-ghost use Rattle.pass_core.specs.Ends.{falls, IsListed, AreListed};
+ghost use Rattle.pass_core.specs.Ends.{falls};
 ghost use Rattle.pass_core.specs.Settled.{where_so, shown, ended, settled, why_open, IsReason, found_or, multipliers_of};
 ghost use Rattle.pass_core.specs.Settled.{policy_of, cut_of, ends_of, by_ray, by_direction, by_ends, closed_by};
 ghost use Rattle.pass_core.specs.Counting.{after_report};
@@ -19,7 +18,7 @@ use cut_proof::SharedCut;
 use dual_assemble::assemble;
 use frac128::{FormFault, Memory, Passed};
 use proved_report::{Claim, Open};
-use scen_defs::{Kind, Place, Value, Values};
+use scen_defs::{Kind, Place, Values};
 use std::alloc::Global;
 
 /// Why nothing is left to find.
@@ -140,7 +139,7 @@ impl State {
     pub fn close(&mut self, alloc: Global) -> Result<Closed, Memory>
         ensures claim { let s = self.old in
             let case = settled s.kind s.table.closed s.ends s.stop s.counts.since_report s.budget.solves in
-            AreListed s.ends → IfOk result (λ closed. closed ≡ closed_by case s.ends (why_open s.stop s.budget.solves)) }
+            IfOk result (λ closed. closed ≡ closed_by case s.ends (why_open s.stop s.budget.solves)) }
         ensures why { IfOk result (λ closed. IsReason (why_open self.old.stop self.old.budget.solves) closed.why) }
         // where nothing stopped the method and a number of solves is told, it is the number that was allowed
         ensures allowed { IfOk result (λ closed. (n : ℕ) → self.old.stop ≡ None → closed.why ≡ Open.Solves n
@@ -165,7 +164,7 @@ impl State {
     fn found(&self, alloc: Global) -> Result<Closed, Memory>
         ensures claim { let s = self.now in
             let case = settled s.kind s.table.closed s.ends s.stop s.counts.since_report s.budget.solves in
-            AreListed s.ends → IfOk result (λ closed. closed ≡ closed_by case s.ends (why_open s.stop s.budget.solves)) }
+            IfOk result (λ closed. closed ≡ closed_by case s.ends (why_open s.stop s.budget.solves)) }
         ensures why { IfOk result (λ closed. IsReason (why_open self.now.stop self.now.budget.solves) closed.why) }
     {
         let why = self.why();
@@ -263,8 +262,7 @@ fn without_dual(policy: Option<Values>, passed: Passed) -> Closed
 
 /// What shows that the cost falls for ever.
 fn endless(alloc: Global, ends: &Ends, why: Open) -> Result<Closed, Memory>
-    ensures exact { AreListed ends.now →
-        IfOk result (λ closed. closed ≡ by_direction (policy_of ends.now.upper) (policy_of ends.now.direction) why) }
+    ensures exact { IfOk result (λ closed. closed ≡ by_direction (policy_of ends.now.upper) (policy_of ends.now.direction) why) }
     ensures why { IfOk result (λ closed. IsReason why closed.why) }
 {
     let policy = policy_of(alloc, &ends.upper)?;
@@ -289,8 +287,7 @@ fn by_direction(policy: Option<Values>, direction: Option<Values>, why: Open) ->
 
 /// What shows the ends that are known.
 fn between(alloc: Global, ends: &Ends, why: Open) -> Result<Closed, Memory>
-    ensures exact { AreListed ends.now →
-        IfOk result (λ closed. closed ≡ by_ends (policy_of ends.now.upper) (multipliers_of (cut_of ends.now.lower)) why) }
+    ensures exact { IfOk result (λ closed. closed ≡ by_ends (policy_of ends.now.upper) (multipliers_of (cut_of ends.now.lower)) why) }
     ensures why { IfOk result (λ closed. IsReason why closed.why) }
 {
     let policy = policy_of(alloc, &ends.upper)?;
@@ -310,34 +307,12 @@ fn by_ends(policy: Option<Values>, multipliers: Multipliers, why: Open) -> Close
 }
 
 fn policy_of(alloc: Global, found: &Option<Priced>) -> Result<Option<Values>, Memory>
-    ensures { IsListed found.now → IfOk result (λ policy. policy ≡ policy_of found.now) }
+    ensures { IfOk result (λ policy. policy ≡ policy_of found.now) }
 {
     match found {
-        Some(found) => Ok(Some(copied(alloc, &found.policy)?)),
+        Some(found) => Ok(Some(found.policy.copy(alloc)?)),
         None => Ok(None),
     }
-}
-
-/// The same numbers once more.
-fn copied(alloc: Global, values: &Values) -> Result<Values, Memory>
-    ensures { AreValues values.now → IfOk result (λ copy. copy ≡ values.now) }
-{
-    let mut copy = Values::empty(alloc);
-    for item in values.items() {
-        copy_number(&mut copy, *item)?;
-    }
-    Ok(copy)
-}
-
-/// Adds a number, where it stands behind all others and isn't 0.
-fn copy_number(copy: &mut Values, item: Value) -> Result<(), Memory>
-    ensures { OnOk result (EndsBefore copy.old item.node item.index → item.value ≢ zero_ℚ → copy.new ≡ copy.old ++ item ∷ []) }
-{
-    let Value { node, index, value } = item;
-    if copy.ends_before(node, index) && !value.is_zero() {
-        copy.push(node, index, value)?;
-    }
-    Ok(())
 }
 
 fn cut_of(found: &Option<Bounded>) -> Option<&SharedCut>

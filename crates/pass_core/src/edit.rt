@@ -4,7 +4,7 @@ ghost use Rattle.scen_defs.specs.Lists.{pick};
 ghost use Rattle.scen_defs.specs.Program.{content};
 ghost use Rattle.scen_defs.specs.Valid.{IsProgram};
 ghost use Rattle.run_data.specs.Counts.{grown};
-ghost use Rattle.pass_core.specs.Banks.{fit_banks, swept_banks, edited_banks};
+ghost use Rattle.cut_banks.specs.Banks.{fit_banks, swept_banks, edited_banks};
 ghost use Rattle.pass_core.specs.Versions.{next_version, with_next, next_touch, next_touches, next_versions};
 
 use crate::ends::Ends;

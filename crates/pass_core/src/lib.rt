@@ -1,7 +1,6 @@
 //! The nested method on a tree of nodes: what is known of a program, and what a step does.
 #![tactic(auto)]
 
-mod banks;
 mod budget;
 mod close;
 mod commit;

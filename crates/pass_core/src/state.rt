@@ -2,11 +2,11 @@
 ghost use Rattle.std.specs.Prelude.{◌≡◌};
 ghost use Rattle.pass_core.specs.Counting.{no_counts, raised, first_of, first_or};
 
-use crate::banks::Banks;
 use crate::budget::Budget;
 use crate::ends::Ends;
 use crate::flight;
 use crate::last::Lasts;
+use cut_banks::Banks;
 use frac128::Memory;
 use node_lp::{Solved, Task, fits, solve_node};
 use pass_table::{Reading, Table};

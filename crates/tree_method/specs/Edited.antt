@@ -19,8 +19,8 @@ use Rattle.run_data.specs.declared.versions.Version.{Version}
 use Rattle.run_data.specs.Counts.{grown}
 use Rattle.proved_report.specs.declared.open.Open.{Open}
 use Rattle.proved_report.specs.declared.open.Open.TheVariants.{Passed}
-use Rattle.pass_core.specs.declared.banks.Banks.{Banks}
-use Rattle.pass_core.specs.Banks.{edited_banks}
+use Rattle.cut_banks.specs.declared.banks.Banks.{Banks}
+use Rattle.cut_banks.specs.Banks.{edited_banks}
 use Rattle.pass_core.specs.Versions.{next_touches, next_versions}
 use Rattle.tree_method.specs.declared.method.Working.{Working}
 use Rattle.tree_method.specs.declared.method.Method.{Method}

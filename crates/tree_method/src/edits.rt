@@ -6,7 +6,7 @@ ghost use Rattle.edit_defs.specs.After.{after};
 ghost use Rattle.edit_defs.specs.Limits.{counts};
 ghost use Rattle.edit_defs.specs.Touches.{touches};
 ghost use Rattle.edit_script.specs.Allowed.{IsAllowed};
-ghost use Rattle.pass_core.specs.Banks.{edited_banks};
+ghost use Rattle.cut_banks.specs.Banks.{edited_banks};
 ghost use Rattle.pass_core.specs.Versions.{next_versions};
 ghost use Rattle.tree_method.specs.Edited.{is_grown, dues_of, fit_versions, IsEdited, HasNoTree, GoesOn};
 

@@ -1,6 +1,6 @@
 use Rattle.std.proofs.Common.{◌∙◌}
-use Rattle.pass_core.specs.Banks.{swept_banks}
-use Rattle.pass_core.proofs.Sweeps.{swept_step, swept_done}
+use Rattle.cut_banks.specs.Banks.{swept_banks}
+use Rattle.cut_banks.proofs.Sweeps.{swept_step, swept_done}
 use Rattle.pass_core.proofs.state.State.sweep.Goals as goal
 
 pub loop-due-preserved : goal.loop-due-preserved

@@ -1,5 +1,5 @@
 use Rattle.std.proofs.Common.{◌≡◌, drop}
-use Rattle.pass_core.specs.Banks.{swept_banks}
+use Rattle.cut_banks.specs.Banks.{swept_banks}
 use Rattle.pass_core.proofs.state.State.sweep.Given as goal
 
 abbrev pub invariant-loop-due : goal.invariant-loop-due

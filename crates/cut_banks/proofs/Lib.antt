@@ -1,0 +1,5 @@
+pub mod Places
+pub mod ReadPools
+pub mod Fresh
+pub mod Fitting
+pub mod Sweeps

@@ -1,6 +1,0 @@
-mod Copies
-pub mod Places
-pub mod ReadPools
-pub mod Fresh
-pub mod Fitting
-pub mod Sweeps

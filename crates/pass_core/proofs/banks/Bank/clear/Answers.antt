@@ -1,7 +1,0 @@
-use Rattle.std.proofs.Common.{ap}
-use Rattle.cut_pool.specs.Held.{Held}
-use Rattle.pass_core.proofs.Places.{cleared}
-use Rattle.pass_core.proofs.banks.Bank.clear.Goals as goal
-
-pub invariant_of-self : goal.invariant_of-self
-invariant_of-self c = cleared c.self.inside.pools.items c.self.inside.numbers.items c.args.node c.empty.result c.self.invariant (ap (λ (p : Held). p.number) c.empty.ensures)

@@ -1,6 +1,0 @@
-use Rattle.std.proofs.Common.{◌≡◌, ◌-◌, ◌++◌}
-use Rattle.pass_core.specs.Pools.{all_empty}
-use Rattle.pass_core.proofs.banks.Bank.empty.Given as goal
-
-abbrev pub invariant-loop-node : goal.invariant-loop-node
-invariant-loop-node l = l.bank ++ all_empty l.node (l.nodes - l.node) ≡ all_empty 0 l.nodes

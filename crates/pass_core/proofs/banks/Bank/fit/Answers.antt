@@ -1,5 +1,0 @@
-use Rattle.pass_core.proofs.Fitting.{fit_done}
-use Rattle.pass_core.proofs.banks.Bank.fit.Goals as goal
-
-pub returns : goal.returns
-returns c = fit_done c.args.nodes.now c.loop-index.index c.args.self.now c.loop-index.self c.loop-index-test.false c.loop-index.invariant

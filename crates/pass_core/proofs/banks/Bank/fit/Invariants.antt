@@ -1,7 +1,0 @@
-use Rattle.std.proofs.Common.{◌≡◌, drop}
-use Rattle.scen_defs.specs.Program.{nodes_content}
-use Rattle.pass_core.proofs.Fitting.{fit_from}
-use Rattle.pass_core.proofs.banks.Bank.fit.Given as goal
-
-abbrev pub invariant-loop-index : goal.invariant-loop-index
-invariant-loop-index l = fit_from l.index (nodes_content (drop l.index l.nodes)) l.self ≡ fit_from 0 (nodes_content l.nodes) l.initial.self

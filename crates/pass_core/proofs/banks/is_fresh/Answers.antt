@@ -1,5 +1,0 @@
-use Rattle.pass_core.proofs.Fresh.{fresh_is}
-use Rattle.pass_core.proofs.banks.is_fresh.Goals as goal
-
-pub returns : goal.returns
-returns c = fresh_is c.args.pool.now.known c.cut.result.now c.args.cut.now c.is_fresh.result c.cut.ensures c.is_fresh.ensures
