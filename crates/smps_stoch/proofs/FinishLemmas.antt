@@ -1,5 +1,8 @@
 -- Sums of probabilities, and lists of cases.
-use Rattle.std.proofs.Common.{◌≡◌, ◌≢◌, ◌∙◌, ◌+◌, ◌<◌, ◌⊎◌, inl, inr, map, Vec, get_or-set_same, get_or-set_other, ap, append_assoc, get_or, drop, nat_eq, zero, suc, if◌then◌else◌, ℕ, pos, Bool, true, false, Option, Some, None, Result, Ok, List, [], ◌∷◌, ◌++◌, length, append-nil, arith, refl, sym}
+use Rattle.std.proofs.Common.{◌≡◌, ◌≢◌, ◌∙◌, ◌+◌, ◌<◌, ◌⊎◌, ◌∷◌, ◌++◌, [], inl, inr, refl, sym, ap, arith}
+use Rattle.std.proofs.Common.{ℕ, zero, suc, pos, nat_eq, Bool, true, false, if◌then◌else◌, Option, Some, None, Result, Ok}
+use Rattle.std.proofs.Common.{List, Vec, length, map, get_or, drop, append_assoc, append-nil}
+use Rattle.std.proofs.Common.{get_or-set_same, get_or-set_other}
 use Rattle.std.proofs.Math.ListN.{set, length-set}
 use Rattle.std.proofs.Math.Seq.{drop-cons}
 use Rattle.std.proofs.lemmas.Bool.Decides.{eqb_tells}
@@ -151,18 +154,20 @@ goes_to old new own_old block case block_in at is n n_in =
     by (inr h) = at_others old new own_old block n (λ e. h.1 (sym e)) ∙ ap (λ b. cases_in (get_or old n own_old) ++ (if b then case_content case ∷ [] else [])) (sym h.0)
 
 -- one more scenario
-pub branches_step : (names : List (List ℕ)) (number : ℕ) (old_heads heads : List BranchHead) (head : BranchHead) (old_parts parts : List ℚ) (part : ℚ)
-    (old_nodes nodes : List Node) (node : Node) (done new all : List Branch) → number < length names →
-    old_heads ≡ head ∷ heads → old_parts ≡ part ∷ parts → old_nodes ≡ node ∷ nodes → new ≡ done ++ branch_with (get_or names number []) head node part ∷ [] →
+pub branches_step : (names : List (List ℕ)) (number : ℕ) (old_heads heads : List BranchHead) (head : BranchHead)
+    (old_parts parts : List ℚ) (part : ℚ) (old_nodes nodes : List Node) (node : Node) (done new all : List Branch) → number < length names →
+    old_heads ≡ head ∷ heads → old_parts ≡ part ∷ parts → old_nodes ≡ node ∷ nodes →
+    new ≡ done ++ branch_with (get_or names number []) head node part ∷ [] →
     done ++ branches_with (drop number names) old_heads old_nodes old_parts ≡ all →
     new ++ branches_with (drop (number + 1) names) heads nodes parts ≡ all
-branches_step names number old_heads heads head old_parts parts part old_nodes nodes node done new all within heads_are parts_are nodes_are is before =
+branches_step names number old_heads heads head old_parts parts part old_nodes nodes node done new all within h p n is before =
     let next : suc number ≡ number + 1 = omega arith in
     let front : drop number names ≡ get_or names number [] ∷ drop (number + 1) names =
-    drop-cons names number [] within ∙ ap (λ (n : ℕ). get_or names number [] ∷ drop n names) next in
+    drop-cons names number [] within ∙ ap (λ (k : ℕ). get_or names number [] ∷ drop k names) next in
+    let branch : Branch = branch_with (get_or names number []) head node part in
     let further : List Branch = branches_with (drop (number + 1) names) heads nodes parts in
-    ap (λ (branches : List Branch). branches ++ further) is ∙ append_assoc done (branch_with (get_or names number []) head node part ∷ []) further
+    ap (λ (branches : List Branch). branches ++ further) is ∙ append_assoc done (branch ∷ []) further
     ∙ ap (λ (left : List (List ℕ)). done ++ branches_with left (head ∷ heads) (node ∷ nodes) (part ∷ parts)) (sym front)
-    ∙ ap (λ (hs : List BranchHead). done ++ branches_with (drop number names) hs (node ∷ nodes) (part ∷ parts)) (sym heads_are)
-    ∙ ap (λ (ns : List Node). done ++ branches_with (drop number names) old_heads ns (part ∷ parts)) (sym nodes_are)
-    ∙ ap (λ (ps : List ℚ). done ++ branches_with (drop number names) old_heads old_nodes ps) (sym parts_are) ∙ before
+    ∙ ap (λ (hs : List BranchHead). done ++ branches_with (drop number names) hs (node ∷ nodes) (part ∷ parts)) (sym h)
+    ∙ ap (λ (ns : List Node). done ++ branches_with (drop number names) old_heads ns (part ∷ parts)) (sym n)
+    ∙ ap (λ (ps : List ℚ). done ++ branches_with (drop number names) old_heads old_nodes ps) (sym p) ∙ before

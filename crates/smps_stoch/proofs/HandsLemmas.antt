@@ -1,6 +1,6 @@
 -- Several hands: a fresh one, a further scenario, and another one as the present one.
-use Rattle.std.proofs.Common.{◌≡◌, ◌∙◌, ◌<◌, ◌++◌, ◌∷◌, [], ℕ, suc, List, Option, None, get_or, length, take, drop}
-use Rattle.std.proofs.Common.{subst, sym, ap}
+use Rattle.std.proofs.Common.{◌≡◌, ◌∙◌, ◌<◌, ◌++◌, ◌∷◌, [], ℕ, suc, List, Option, None, get_or, length}
+use Rattle.std.proofs.Common.{take, drop, subst, sym, ap}
 use Rattle.std.specs.List.{All, remove}
 use Rattle.std.proofs.lemmas.List.Elements.{All-get_or, All-push, All-append, All-take, All-drop}
 use Rattle.stoch_defs.specs.Stated.{Node, value_set, path_among, paths_of}

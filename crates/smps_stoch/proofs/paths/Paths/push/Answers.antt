@@ -8,6 +8,6 @@ use Rattle.smps_stoch.proofs.paths.Paths.push.Goals as goal
 
 pub invariant_of-self-2 : goal.invariant_of-self-2
 invariant_of-self-2 c =
-    all_pushed (map node_content c.self.inside.scenarios.items) (map node_content c.push.new.self.items) (node_of c.args.parent c.args.sets.items)
-    c.self.inside.hands
-    (ap (map node_content) c.in_ok-push.ensures.items ∙ map-append node_content c.self.inside.scenarios.items _) c.self.invariant
+    let before = c.self.inside.scenarios.items in
+    all_pushed (map node_content before) (map node_content c.push.new.self.items) (node_of c.args.parent c.args.sets.items)
+    c.self.inside.hands (ap (map node_content) c.in_ok-push.ensures.items ∙ map-append node_content before _) c.self.invariant
