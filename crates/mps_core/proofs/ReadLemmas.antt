@@ -36,7 +36,8 @@ whole text f is =
       some_free = some_free lines f ended;
       few_rows = core.few_rows;
       few_columns = core.few_columns;
-      all_parts = sym (column_count f 0 (closed f).parts) ∙ sym (length-map (column_defs f 0 (closed f).parts) (λ (column : ColumnDef). column.name)) ∙ ap length core.named;
+      all_parts = sym (column_count f 0 (closed f).parts)
+          ∙ sym (length-map (column_defs f 0 (closed f).parts) (λ (column : ColumnDef). column.name)) ∙ ap length core.named;
     }
 
 abbrev not_filed : ReadFail → Result (Unit {0}) ReadFail
@@ -46,6 +47,7 @@ abbrev no_core : ReadFail → Result Core ReadFail
 no_core e = Err e
 
 -- the line that is refused is the first at fault
-pub refused_text : (text : List ℕ) (d : Draft) (e : ReadFail) → FilesLines d (not_filed e) (filed_text text) → IsReadOrRefused text (no_core e)
+pub refused_text : (text : List ℕ) (d : Draft) (e : ReadFail) → FilesLines d (not_filed e) (filed_text text)
+    → IsReadOrRefused text (no_core e)
 refused_text text d fail.Memory given = tt
 refused_text text d (fail.Refused refusal) given = reading_as text (Err refusal) given

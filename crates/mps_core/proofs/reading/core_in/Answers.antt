@@ -10,10 +10,12 @@ pub core_of-requires : goal.core_of-requires
 core_of-requires c = whole c.args.text.now (filed c.file_lines.new.draft) c.in_ok-file_lines.ensures
 
 pub returns-in-Ok-clause-means : goal.returns-in-Ok-clause-means
-returns-in-Ok-clause-means c = (reading_as c.args.text.now (Ok (filed c.file_lines.new.draft)) c.in_ok-file_lines.ensures).means c.in-Ok.core c.in-Ok.ensures
+returns-in-Ok-clause-means c =
+    (reading_as c.args.text.now (Ok (filed c.file_lines.new.draft)) c.in_ok-file_lines.ensures).means c.in-Ok.core c.in-Ok.ensures
 
 pub returns-in-Ok-clause-core : goal.returns-in-Ok-clause-core
-returns-in-Ok-clause-core c = (reading_as c.args.text.now (Ok (filed c.file_lines.new.draft)) c.in_ok-file_lines.ensures).is_core c.in-Ok.core c.in-Ok.ensures
+returns-in-Ok-clause-core c =
+    (reading_as c.args.text.now (Ok (filed c.file_lines.new.draft)) c.in_ok-file_lines.ensures).is_core c.in-Ok.core c.in-Ok.ensures
 
 pub returns-in-Ok-clause-faults : goal.returns-in-Ok-clause-faults
 returns-in-Ok-clause-faults c = (reading_as c.args.text.now (Ok (filed c.file_lines.new.draft)) c.in_ok-file_lines.ensures).file
