@@ -1,0 +1,278 @@
+// Cuts with the records that prove them, pools, and flat duals in Rust, with the steps of `cut_proof`, `cut_pool` and `dual_assemble`.
+use crate::fraction::{Frac, Passed, Term, add_scaled};
+use crate::tree::NodeRow;
+use std::cmp::Ordering;
+use std::sync::Arc;
+
+#[derive(Clone, Copy, PartialEq)]
+pub enum CutKind {
+    Bound,
+    Ray,
+}
+
+#[derive(Clone, Copy)]
+pub struct Bounds {
+    pub column: u32,
+    pub lower: Option<Frac>,
+    pub upper: Option<Frac>,
+}
+
+#[derive(Clone, Copy)]
+pub struct Share {
+    pub child: u32,
+    pub share: Frac,
+}
+
+/// The data of a node in a run.
+pub struct Datum {
+    pub node: u32,
+    pub cost: Vec<Term>,
+    pub rows: Vec<NodeRow>,
+    pub bounds: Vec<Bounds>,
+    pub shares: Vec<Share>,
+}
+
+/// A version of a part of a node's data: its rows, or its costs. Nothing is edited here, so versions are 0.
+#[derive(Clone, Copy, PartialEq, PartialOrd)]
+pub struct Stamp {
+    node: u32,
+    is_costs: bool,
+    version: u32,
+}
+
+pub struct Used {
+    pub weight: Frac,
+    pub cut: Arc<Cut>,
+}
+
+pub struct Record {
+    pub node: u32,
+    pub kind: CutKind,
+    pub multipliers: Vec<Term>,
+    pub used: Vec<Used>,
+}
+
+pub struct Cut {
+    pub source: Record,
+    pub constant: Frac,
+    pub form: Vec<Term>,
+    support: Vec<Stamp>,
+}
+
+pub enum CutFault {
+    NotGood,
+    Passed(Passed),
+}
+
+impl From<Passed> for CutFault {
+    fn from(passed: Passed) -> CutFault {
+        CutFault::Passed(passed)
+    }
+}
+
+pub fn get(form: &[Term], column: u64) -> Frac {
+    match form.binary_search_by_key(&column, |term| term.column) {
+        Ok(place) => form[place].value,
+        Err(_) => Frac::ZERO,
+    }
+}
+
+pub fn push_nonzero(form: &mut Vec<Term>, column: u64, value: Frac) {
+    if !value.is_zero() {
+        form.push(Term { column, value });
+    }
+}
+
+/// The place of a column among those of the node.
+pub fn place_of(bounds: &[Bounds], column: u64) -> Option<usize> {
+    bounds.binary_search_by_key(&column, |bound| u64::from(bound.column)).ok()
+}
+
+fn used_end(low: Option<Frac>, high: Option<Frac>, number: Frac) -> Option<Frac> {
+    match number.cmp(&Frac::ZERO) {
+        Ordering::Greater => low,
+        Ordering::Less => high,
+        Ordering::Equal => Some(Frac::ZERO),
+    }
+}
+
+fn column_sum(rows: &[NodeRow], source: &Record, column: u64, start: Frac) -> Result<Frac, Passed> {
+    let mut sum = start;
+    for row in rows {
+        sum = sum.less_product(get(&row.entries, column), get(&source.multipliers, u64::from(row.row)))?;
+    }
+    for one in &source.used {
+        sum = sum.add_product(one.weight, get(&one.cut.form, column))?;
+    }
+    Ok(sum)
+}
+
+fn union(xs: &[u64], ys: &[Term]) -> Vec<u64> {
+    let mut all = Vec::with_capacity(xs.len() + ys.len());
+    let (mut i, mut j) = (0, 0);
+    while i < xs.len() && j < ys.len() {
+        let (x, y) = (xs[i], ys[j].column);
+        all.push(x.min(y));
+        i += usize::from(x <= y);
+        j += usize::from(y <= x);
+    }
+    all.extend_from_slice(&xs[i..]);
+    all.extend(ys[j..].iter().map(|term| term.column));
+    all
+}
+
+fn merge(xs: &[Stamp], ys: &[Stamp]) -> Vec<Stamp> {
+    let mut all = Vec::with_capacity(xs.len() + ys.len());
+    let (mut i, mut j) = (0, 0);
+    while i < xs.len() && j < ys.len() {
+        if xs[i] < ys[j] {
+            all.push(xs[i]);
+            i += 1;
+        } else {
+            all.push(ys[j]);
+            i += usize::from(xs[i] == ys[j]);
+            j += 1;
+        }
+    }
+    all.extend_from_slice(&xs[i..]);
+    all.extend_from_slice(&ys[j..]);
+    all
+}
+
+fn support_of(source: &Record) -> Vec<Stamp> {
+    let own = |is_costs| Stamp { node: source.node, is_costs, version: 0 };
+    let mut all = vec![own(false)];
+    if source.kind == CutKind::Bound {
+        all.push(own(true));
+    }
+    for one in &source.used {
+        all = merge(&all, &one.cut.support);
+    }
+    all
+}
+
+struct Worth {
+    sum: Frac,
+    is_good: bool,
+}
+
+impl Worth {
+    fn add(&mut self, number: Frac, end: Option<Frac>) -> Result<(), Passed> {
+        match end {
+            None => self.is_good = false,
+            Some(end) => self.sum = self.sum.add_product(number, end)?,
+        }
+        Ok(())
+    }
+}
+
+impl Cut {
+    pub fn of(source: Record, datum: &Datum) -> Result<Cut, CutFault> {
+        let mut priced = Vec::new();
+        for bound in &datum.bounds {
+            let column = u64::from(bound.column);
+            let cost = match source.kind {
+                CutKind::Bound => get(&datum.cost, column),
+                CutKind::Ray => Frac::ZERO,
+            };
+            priced.push((bound, column_sum(&datum.rows, &source, column, cost)?));
+        }
+        let mut columns = Vec::new();
+        for row in &datum.rows {
+            columns = union(&columns, &row.entries);
+        }
+        for one in &source.used {
+            columns = union(&columns, &one.cut.form);
+        }
+        let mut form = Vec::new();
+        for column in columns {
+            if place_of(&datum.bounds, column).is_none() {
+                push_nonzero(&mut form, column, column_sum(&datum.rows, &source, column, Frac::ZERO)?);
+            }
+        }
+        let mut worth = Worth { sum: Frac::ZERO, is_good: true };
+        for row in &datum.rows {
+            let number = get(&source.multipliers, u64::from(row.row));
+            worth.add(number, used_end(row.low, row.high, number))?;
+        }
+        for (bound, number) in priced {
+            worth.add(number, used_end(bound.lower, bound.upper, number))?;
+        }
+        for one in &source.used {
+            worth.add(one.weight, Some(one.cut.constant))?;
+        }
+        if !worth.is_good {
+            return Err(CutFault::NotGood);
+        }
+        let support = support_of(&source);
+        Ok(Cut { source, constant: worth.sum, form, support })
+    }
+
+    fn at(&self, trial: &[Term]) -> Result<Frac, Passed> {
+        let mut sum = self.constant;
+        for term in &self.form {
+            sum = sum.add_product(term.value, get(trial, term.column))?;
+        }
+        Ok(sum)
+    }
+}
+
+/// The cuts of one node. Nothing is swept here, so no touch is known.
+#[derive(Default)]
+pub struct Pool {
+    pub cuts: Vec<Arc<Cut>>,
+    pub number: u64,
+}
+
+impl Pool {
+    pub fn put(&mut self, cut: Arc<Cut>) {
+        self.cuts.push(cut);
+        self.number += 1;
+    }
+
+    /// Whether the cut is added.
+    pub fn offer(&mut self, cut: Arc<Cut>, trial: &[Term]) -> Result<bool, Passed> {
+        let kind = cut.source.kind;
+        let value = cut.at(trial)?;
+        let mut best = if kind == CutKind::Ray { Some(Frac::ZERO) } else { None };
+        for held in &self.cuts {
+            if held.source.kind == kind {
+                let there = held.at(trial)?;
+                best = Some(best.map_or(there, |best| if best <= there { there } else { best }));
+            }
+        }
+        let is_added = best.is_none_or(|best| value > best);
+        if is_added {
+            self.put(cut);
+        }
+        Ok(is_added)
+    }
+}
+
+/// The multipliers of all nodes from a cut, depth first.
+pub fn flat(cut: &Cut, nodes: usize) -> Result<Vec<Vec<Term>>, Passed> {
+    fn add(table: &mut [Vec<Term>], weight: Frac, cut: &Cut) -> Result<(), Passed> {
+        let place = cut.source.node as usize;
+        table[place] = add_scaled(&table[place], weight, &cut.source.multipliers)?;
+        for one in &cut.source.used {
+            add(table, weight.mul(one.weight)?, &one.cut)?;
+        }
+        Ok(())
+    }
+    let mut table = vec![Vec::new(); nodes];
+    add(&mut table, Frac::ONE, cut)?;
+    Ok(table)
+}
+
+/// The cut of a node that the numbers of a dual make, with the children's cuts by their shares.
+pub fn ground(datum: &Datum, total: Frac, dual: &[Term], children: Vec<Arc<Cut>>) -> Result<Arc<Cut>, CutFault> {
+    let mut multipliers = Vec::new();
+    for row in &datum.rows {
+        let number = get(dual, u64::from(row.row));
+        let quotient = if total.is_zero() { Frac::ZERO } else { number.div(total)? };
+        push_nonzero(&mut multipliers, u64::from(row.row), quotient);
+    }
+    let used = datum.shares.iter().zip(children).map(|(share, cut)| Used { weight: share.share, cut }).collect();
+    let source = Record { node: datum.node, kind: CutKind::Bound, multipliers, used };
+    Ok(Arc::new(Cut::of(source, datum)?))
+}
