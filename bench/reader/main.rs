@@ -6,11 +6,14 @@ mod fraction;
 mod gcd;
 mod names;
 mod number;
+#[path = "../random.rs"]
+mod random;
 mod reader;
 #[path = "../fractions/wide.rs"]
 mod wide;
 
 use fraction::Frac;
+use random::Random;
 use reader::{Core, Kind, read_core};
 use std::fmt::Write;
 use std::hint::black_box;
@@ -26,18 +29,6 @@ const ROWS: u64 = 4000;
 const COLUMNS: u64 = 4000;
 /// Entries of a column: 100,000 in all.
 const ENTRIES: u64 = 25;
-
-/// Pseudo-random numbers, the same on every machine.
-struct Random(u64);
-
-impl Random {
-    fn below(&mut self, n: u64) -> u64 {
-        self.0 ^= self.0 << 13;
-        self.0 ^= self.0 >> 7;
-        self.0 ^= self.0 << 17;
-        (self.0 >> 11) % n
-    }
-}
 
 #[derive(Clone, Copy)]
 enum Style {

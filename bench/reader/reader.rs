@@ -379,8 +379,22 @@ impl Draft {
     }
 }
 
-fn is_blank(byte: u8) -> bool {
+pub fn is_blank(byte: u8) -> bool {
     byte == b' ' || byte == b'\t' || byte == b'\r'
+}
+
+/// The first six fields of a line, and how many there are.
+#[inline]
+pub fn fields_of(line: &[u8]) -> ([&[u8]; 6], usize) {
+    let mut fields: [&[u8]; 6] = [&[]; 6];
+    let mut count = 0;
+    for field in line.split(|byte| is_blank(*byte)).filter(|field| !field.is_empty()) {
+        if count < 6 {
+            fields[count] = field;
+        }
+        count += 1;
+    }
+    (fields, count)
 }
 
 /// The core, or the line at fault and the cause.
@@ -412,14 +426,7 @@ pub fn read_core(text: &[u8]) -> Result<Core, (u32, Fault)> {
         if bytes.first() == Some(&b'*') {
             continue;
         }
-        let mut fields: [&[u8]; 6] = [&[]; 6];
-        let mut count = 0;
-        for field in bytes.split(|byte| is_blank(*byte)).filter(|field| !field.is_empty()) {
-            if count < 6 {
-                fields[count] = field;
-            }
-            count += 1;
-        }
+        let (fields, count) = fields_of(bytes);
         if count == 0 {
             continue;
         }

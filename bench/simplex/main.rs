@@ -4,12 +4,15 @@
 mod fraction;
 #[path = "../fractions/gcd.rs"]
 mod gcd;
+#[path = "../random.rs"]
+mod random;
 mod simplex;
 #[path = "../fractions/wide.rs"]
 #[allow(dead_code)]
 mod wide;
 
 use fraction::{Frac, Term};
+use random::Random;
 use simplex::{Outcome, Program, solve, whole};
 use std::hint::black_box;
 use std::time::Instant;
@@ -34,18 +37,6 @@ impl Cells {
     fn put(&mut self, row: u64, column: u64, num: i64, den: u64) {
         let sign = (num < 0) as u64;
         self.words.extend([row, column, 2 * num.unsigned_abs() + sign, den]);
-    }
-}
-
-/// Pseudo-random numbers, the same on every machine.
-struct Random(u64);
-
-impl Random {
-    fn below(&mut self, n: u64) -> u64 {
-        self.0 ^= self.0 << 13;
-        self.0 ^= self.0 >> 7;
-        self.0 ^= self.0 << 17;
-        (self.0 >> 11) % n
     }
 }
 

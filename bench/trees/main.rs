@@ -10,6 +10,8 @@ mod gcd;
 mod names;
 #[path = "../reader/number.rs"]
 mod number;
+#[path = "../random.rs"]
+mod random;
 #[path = "../reader/reader.rs"]
 #[allow(dead_code)]
 mod reader;

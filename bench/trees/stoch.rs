@@ -3,7 +3,7 @@ use crate::fold::{Seen, Table};
 use crate::fraction::Frac;
 use crate::names::Names;
 use crate::number::{NumFault, parse};
-use crate::reader::Core;
+use crate::reader::{Core, fields_of, is_blank};
 use std::mem::replace;
 
 /// A number that a file may set.
@@ -542,10 +542,6 @@ impl<'a> Draft<'a> {
     }
 }
 
-fn is_blank(byte: u8) -> bool {
-    byte == b' ' || byte == b'\t' || byte == b'\r'
-}
-
 /// What the text states, or the line at fault and the cause.
 pub fn read_stoch(text: &[u8], core: &Core, periods: &Periods) -> Result<Stoch, (u32, Fault)> {
     let mut draft = Draft {
@@ -576,14 +572,7 @@ pub fn read_stoch(text: &[u8], core: &Core, periods: &Periods) -> Result<Stoch, 
         if bytes.first() == Some(&b'*') {
             continue;
         }
-        let mut fields: [&[u8]; 6] = [&[]; 6];
-        let mut count = 0;
-        for field in bytes.split(|byte| is_blank(*byte)).filter(|field| !field.is_empty()) {
-            if count < 6 {
-                fields[count] = field;
-            }
-            count += 1;
-        }
+        let (fields, count) = fields_of(bytes);
         if count == 0 {
             continue;
         }

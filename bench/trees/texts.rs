@@ -1,4 +1,5 @@
 // The files that are read: cores in periods, and what may come.
+use crate::random::Random;
 use crate::stoch::Periods;
 use std::fmt::Write;
 
@@ -10,17 +11,7 @@ pub struct Texts {
     pub periods: Periods,
 }
 
-/// Pseudo-random numbers, the same on every machine.
-struct Random(u64);
-
 impl Random {
-    fn below(&mut self, n: u64) -> u64 {
-        self.0 ^= self.0 << 13;
-        self.0 ^= self.0 >> 7;
-        self.0 ^= self.0 << 17;
-        (self.0 >> 11) % n
-    }
-
     /// A whole number, a decimal or a fraction.
     fn value(&mut self) -> String {
         match self.below(4) {
