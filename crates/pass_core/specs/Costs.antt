@@ -4,7 +4,7 @@ use Rattle.rationals.specs.Rational.{ℚ, zero_ℚ}
 use Rattle.rationals.specs.Sparse.{Entry}
 use Rattle.rationals.specs.Forms.{dot_walk}
 use Rattle.rationals.specs.Passes.{Operation, add_product_walk, then_walk}
-use Rattle.scen_defs.specs.declared.program.Node.{Node}
+use Rattle.scen_defs.specs.Program.{Node}
 use Rattle.pass_core.specs.declared.last.Last.{Last}
 use Rattle.pass_core.specs.Lasts.{last_at, point_of}
 

@@ -4,3 +4,4 @@ pub mod Costs
 pub mod Settled
 pub mod Counting
 pub mod Versions
+pub mod Explained

@@ -1,5 +1,5 @@
 -- Whether nothing is left to find, and why; and what is claimed of the program then.
-use Rattle.std.specs.Prelude.{◌≡◌, ◌⊎◌, ℕ, leb, Bool, true, false, ◌&&◌, is_some}
+use Rattle.std.specs.Prelude.{◌≡◌, ◌⊎◌, ℕ, leb, Bool, ◌&&◌, is_some}
 use Rattle.std.specs.Prelude.{List, Option, Some, None, Result, Ok, Err}
 use Rattle.rationals.specs.Passes.{Operation}
 use Rattle.scen_defs.specs.Lists.{pick}
@@ -21,6 +21,7 @@ use Rattle.pass_core.specs.declared.close.Closed.{Closed}
 use Rattle.pass_core.specs.declared.close.Multipliers.{Multipliers}
 use Rattle.pass_core.specs.declared.close.Multipliers.TheVariants.{Found, Not}
 use Rattle.pass_core.specs.Ends.{meet, falls}
+use Rattle.pass_core.specs.Explained.{PassesInAssembly}
 
 -- ---- whether nothing is left to find
 
@@ -53,9 +54,9 @@ abbrev pub why_open : Option Open → ℕ → Open
 why_open (Some why) allowed = why
 why_open None allowed = Solves allowed
 
--- what is told is this reason, or the operation in which the multipliers' assembly ends
+-- what is told is this reason, or the operation in which the assembly of a cut's multipliers ends
 abbrev pub IsReason : Open → Open → Type 0
-IsReason why told = (told ≡ why) ⊎ ((p : Operation) × (told ≡ Passed Dual p))
+IsReason why told = (told ≡ why) ⊎ ((p : Operation) × (told ≡ Passed Dual p) × PassesInAssembly p)
 
 -- ---- what is claimed
 

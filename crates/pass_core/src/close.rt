@@ -10,7 +10,10 @@ ghost use Rattle.pass_table.specs.Fits.{Fits};
 ghost use Rattle.pass_core.specs.Ends.{falls};
 ghost use Rattle.pass_core.specs.Settled.{where_so, shown, ended, settled, why_open, IsReason, found_or, multipliers_of};
 ghost use Rattle.pass_core.specs.Settled.{policy_of, cut_of, ends_of, by_ray, by_direction, by_ends, closed_by};
+ghost use Rattle.scen_defs.specs.Program.{Program};
+ghost use Rattle.scen_tree.specs.Trees.{Tree};
 ghost use Rattle.pass_core.specs.Counting.{after_report};
+ghost use Rattle.pass_core.specs.Explained.{IsExplained, AreExplained, KeepsExplained};
 
 use crate::ends::{Bounded, Ends, Priced};
 use crate::state::State;
@@ -150,6 +153,10 @@ impl State {
             case ≡ Some Settled.Spent → s.budget.solves ≤ s.counts.since_report }
         // where the method was stopped, that is told, or the operation in which the multipliers' assembly ends
         ensures stopped { IfOk result (λ closed. (w : OpenOf) → self.old.stop ≡ Some w → IsReason w closed.why) }
+        // it is explained by a program and a tree that explain what stopped the method, and so is what is kept of that
+        ensures explained { (p : Program) (tree : Tree) → AreExplained p tree self.old
+            → IfOk result (λ closed. IsExplained p self.old.frame tree self.old.budget closed.why) }
+        ensures kept { (p : Program) (tree : Tree) → OnOk result (KeepsExplained p tree self.old self.new) }
         ensures state { OnOk result (self.new ≡ record self.old { stop = self.old.lasting; counts = after_report self.old.counts }) }
         ensures err { OnErr result (self.new ≡ self.old) }
     {
@@ -162,10 +169,9 @@ impl State {
 
     /// What was found, with the lists that show it.
     fn found(&self, alloc: Global) -> Result<Closed, Memory>
-        ensures claim { let s = self.now in
+        ensures { let s = self.now in
             let case = settled s.kind s.table.closed s.ends s.stop s.counts.since_report s.budget.solves in
             IfOk result (λ closed. closed ≡ closed_by case s.ends (why_open s.stop s.budget.solves)) }
-        ensures why { IfOk result (λ closed. IsReason (why_open self.now.stop self.now.budget.solves) closed.why) }
     {
         let why = self.why();
         match self.settled() {
@@ -220,8 +226,7 @@ fn ends_of(policy: Option<Values>, dual: Option<Values>, why: Open) -> Closed
 
 /// What shows that no point is feasible.
 fn nowhere(alloc: Global, ends: &Ends, why: Open) -> Result<Closed, Memory>
-    ensures exact { IfOk result (λ closed. closed ≡ by_ray (multipliers_of ends.now.nowhere) why) }
-    ensures why { IfOk result (λ closed. IsReason why closed.why) }
+    ensures { IfOk result (λ closed. closed ≡ by_ray (multipliers_of ends.now.nowhere) why) }
 {
     let multipliers = multipliers_of(alloc, ends.nowhere.as_ref())?;
     Ok(by_ray(multipliers, why))
@@ -229,8 +234,7 @@ fn nowhere(alloc: Global, ends: &Ends, why: Open) -> Result<Closed, Memory>
 
 /// The claim of multipliers that show that no point is feasible, where they were found.
 fn by_ray(multipliers: Multipliers, why: Open) -> Closed
-    ensures exact { result ≡ by_ray multipliers why }
-    ensures why { IsReason why result.why }
+    ensures { result ≡ by_ray multipliers why }
 {
     match multipliers {
         Multipliers::Found(ray) => by_some_ray(ray, why),
@@ -240,8 +244,7 @@ fn by_ray(multipliers: Multipliers, why: Open) -> Closed
 
 /// The same where no operation passed.
 fn by_some_ray(ray: Option<Values>, why: Open) -> Closed
-    ensures exact { result ≡ by_ray (Multipliers.Found ray) why }
-    ensures why { result.why ≡ why }
+    ensures { result ≡ by_ray (Multipliers.Found ray) why }
 {
     match ray {
         Some(ray) => Closed {
@@ -254,16 +257,14 @@ fn by_some_ray(ray: Option<Values>, why: Open) -> Closed
 
 /// The claim without multipliers, whose assembly ends in an operation: that is told.
 fn without_dual(policy: Option<Values>, passed: Passed) -> Closed
-    ensures exact { result ≡ ends_of policy None (Open.Passed Place.Dual passed) }
-    ensures why { (why : OpenOf) → IsReason why result.why }
+    ensures { result ≡ ends_of policy None (Open.Passed Place.Dual passed) }
 {
     ends_of(policy, None, Open::Passed(Place::Dual, passed))
 }
 
 /// What shows that the cost falls for ever.
 fn endless(alloc: Global, ends: &Ends, why: Open) -> Result<Closed, Memory>
-    ensures exact { IfOk result (λ closed. closed ≡ by_direction (policy_of ends.now.upper) (policy_of ends.now.direction) why) }
-    ensures why { IfOk result (λ closed. IsReason why closed.why) }
+    ensures { IfOk result (λ closed. closed ≡ by_direction (policy_of ends.now.upper) (policy_of ends.now.direction) why) }
 {
     let policy = policy_of(alloc, &ends.upper)?;
     let direction = policy_of(alloc, &ends.direction)?;
@@ -272,8 +273,7 @@ fn endless(alloc: Global, ends: &Ends, why: Open) -> Result<Closed, Memory>
 
 /// The claim of a policy and a direction, or of a policy alone.
 fn by_direction(policy: Option<Values>, direction: Option<Values>, why: Open) -> Closed
-    ensures exact { result ≡ by_direction policy direction why }
-    ensures why { IsReason why result.why }
+    ensures { result ≡ by_direction policy direction why }
 {
     match (policy, direction) {
         (Some(policy), Some(direction)) => Closed {
@@ -287,8 +287,7 @@ fn by_direction(policy: Option<Values>, direction: Option<Values>, why: Open) ->
 
 /// What shows the ends that are known.
 fn between(alloc: Global, ends: &Ends, why: Open) -> Result<Closed, Memory>
-    ensures exact { IfOk result (λ closed. closed ≡ by_ends (policy_of ends.now.upper) (multipliers_of (cut_of ends.now.lower)) why) }
-    ensures why { IfOk result (λ closed. IsReason why closed.why) }
+    ensures { IfOk result (λ closed. closed ≡ by_ends (policy_of ends.now.upper) (multipliers_of (cut_of ends.now.lower)) why) }
 {
     let policy = policy_of(alloc, &ends.upper)?;
     let multipliers = multipliers_of(alloc, cut_of(&ends.lower))?;
@@ -297,8 +296,7 @@ fn between(alloc: Global, ends: &Ends, why: Open) -> Result<Closed, Memory>
 
 /// The claim of a policy and of multipliers, where they were found.
 fn by_ends(policy: Option<Values>, multipliers: Multipliers, why: Open) -> Closed
-    ensures exact { result ≡ by_ends policy multipliers why }
-    ensures why { IsReason why result.why }
+    ensures { result ≡ by_ends policy multipliers why }
 {
     match multipliers {
         Multipliers::Found(dual) => ends_of(policy, dual, why),

@@ -1,9 +1,14 @@
 //! What a solve leaves.
-ghost use Rattle.std.specs.Prelude.{◌≡◌, true, false, Ok, Err, IfOk, OnOk, OnErr};
+ghost use Rattle.std.specs.Prelude.{◌≡◌, true, false, Ok, Err, IfOk, IfSome, OnOk, OnErr};
 ghost use Rattle.rationals.specs.Passes.{Operation};
+ghost use Rattle.scen_defs.specs.Lists.{pick};
+ghost use Rattle.scen_defs.specs.Program.{content, Program as ProgramOf};
+ghost use Rattle.scen_tree.specs.Trees.{Tree as TreeOf};
+ghost use Rattle.node_lp.specs.Told.{node_solved};
 ghost use Rattle.pass_core.specs.Lasts.{kept, joined};
 ghost use Rattle.pass_core.specs.Ends.{with_lower, cheaper, after_root, after_policy};
 ghost use Rattle.pass_core.specs.Counting.{first_of, is_added, after_offer};
+ghost use Rattle.pass_core.specs.Explained.{IsTask, GivesCut, KeepsExplained};
 
 use crate::cost::cost;
 use crate::ends::{Bounded, Priced};
@@ -19,6 +24,17 @@ use scen_defs::{Kind, Place, Program, Values};
 use scen_tree::Tree;
 use std::alloc::Global;
 
+/// Where an operation of a solve stands.
+fn solve_place(in_cut: bool, solve: u64) -> Place
+    ensures { result ≡ pick in_cut (Place.Cut solve) (Place.Solve solve) }
+{
+    if in_cut {
+        Place::Cut(solve)
+    } else {
+        Place::Solve(solve)
+    }
+}
+
 impl State {
     /// Takes what a solve gave: its cut is offered to the node's pool, and its point becomes the node's last one.
     pub(crate) fn commit(
@@ -29,7 +45,10 @@ impl State {
         node: u32,
         begun: &Begun,
         solved: Solved,
-    ) -> Result<(), Memory> {
+    ) -> Result<(), Memory>
+        ensures { IsTask (content program.now) self.old.frame tree.now self.old.budget.pivots begun.now.task
+            → node_solved begun.now.task ≡ solved → OnOk result (KeepsExplained (content program.now) tree.now self.old self.new) }
+    {
         self.counts.raise();
         match solved {
             Solved::Point { point, value, cut } => {
@@ -42,11 +61,7 @@ impl State {
                 Ok(())
             }
             Solved::Passed { in_cut, passed } => {
-                let place = if in_cut {
-                    Place::Cut(self.counts.all)
-                } else {
-                    Place::Solve(self.counts.all)
-                };
+                let place = solve_place(in_cut, self.counts.all);
                 self.left_open(Open::Passed(place, passed));
                 Ok(())
             }
@@ -84,33 +99,64 @@ impl State {
         point: Form,
         value: Frac,
         cut: Option<SharedCut>,
-    ) -> Result<(), Memory> {
+    ) -> Result<(), Memory>
+        ensures { (p : ProgramOf) (tree : TreeOf)
+            → IfSome cut (GivesCut p self.old.frame tree self.old.budget.pivots begun.now.task.trial)
+            → OnOk result (KeepsExplained p tree self.old self.new) }
+    {
         if !self.keep(node, &begun.task.trial, point)? {
             return Ok(());
         }
-        let is_raised = match cut {
-            Some(cut) if node > 0 => self.offer(cut, &begun.task.trial)?,
-            Some(cut) => {
-                self.take_root(value, cut)?;
-                false
-            }
-            None => false,
-        };
+        let is_raised = self.take_bound(node, &begun.task.trial, value, cut)?;
         self.commit_last(node, begun, true, is_raised);
         Ok(())
     }
 
+    /// The cut of a solve that found a point: the root's is kept with its value, another is offered. Whether a pool took it.
+    fn take_bound(
+        &mut self,
+        node: u32,
+        trial: &Form,
+        value: Frac,
+        cut: Option<SharedCut>,
+    ) -> Result<bool, Memory>
+        ensures { (p : ProgramOf) (tree : TreeOf)
+            → IfSome cut (GivesCut p self.old.frame tree self.old.budget.pivots trial.now)
+            → OnOk result (KeepsExplained p tree self.old self.new) }
+    {
+        match cut {
+            Some(cut) if node > 0 => self.offer(cut, trial),
+            Some(cut) => {
+                self.take_root(value, cut)?;
+                Ok(false)
+            }
+            None => Ok(false),
+        }
+    }
+
     /// A solve that showed that there is no point.
-    fn no_point(&mut self, node: u32, begun: &Begun, cut: SharedCut) -> Result<(), Memory> {
+    fn no_point(&mut self, node: u32, begun: &Begun, cut: SharedCut) -> Result<(), Memory>
+        ensures { (p : ProgramOf) (tree : TreeOf)
+            → GivesCut p self.old.frame tree self.old.budget.pivots begun.now.task.trial cut
+            → OnOk result (KeepsExplained p tree self.old self.new) }
+    {
         self.lasts.forget(node);
-        let is_raised = if node > 0 {
-            self.offer(cut, &begun.task.trial)?
-        } else {
-            self.ends.nowhere = Some(cut);
-            false
-        };
+        let is_raised = self.take_ray(node, &begun.task.trial, cut)?;
         self.commit_last(node, begun, false, is_raised);
         Ok(())
+    }
+
+    /// The cut of a solve that found none: the root's shows that there is no point, another is offered. Whether a pool took it.
+    fn take_ray(&mut self, node: u32, trial: &Form, cut: SharedCut) -> Result<bool, Memory>
+        ensures { (p : ProgramOf) (tree : TreeOf)
+            → GivesCut p self.old.frame tree self.old.budget.pivots trial.now cut
+            → OnOk result (KeepsExplained p tree self.old self.new) }
+    {
+        if node > 0 {
+            return self.offer(cut, trial);
+        }
+        self.ends.nowhere = Some(cut);
+        Ok(false)
     }
 
     /// Keeps the point of a node. False where its values can't be joined with those above, which never comes.
@@ -122,6 +168,7 @@ impl State {
           stop = first_of self.old.stop (Open.Solves self.old.budget.solves);
           table = self.new.table;
         } }
+        ensures explained { (p : ProgramOf) (tree : TreeOf) → OnOk result (KeepsExplained p tree self.old self.new) }
         ensures err { OnErr result (self.new ≡ self.old) }
     {
         match self.lasts.keep(node, trial, point) {
@@ -162,7 +209,11 @@ impl State {
     }
 
     /// Offers a cut to the pool of its node, and tells whether it was added.
-    fn offer(&mut self, cut: SharedCut, trial: &Form) -> Result<bool, Memory> {
+    fn offer(&mut self, cut: SharedCut, trial: &Form) -> Result<bool, Memory>
+        ensures { (p : ProgramOf) (tree : TreeOf)
+            → GivesCut p self.old.frame tree self.old.budget.pivots trial.now cut
+            → OnOk result (KeepsExplained p tree self.old self.new) }
+    {
         match self.banks.offer(self.kind, cut, trial)? {
             Some(offer) => Ok(self.judged(offer)),
             None => {
@@ -192,7 +243,9 @@ impl State {
     }
 
     /// The solve becomes its node's last one; where its cut was added, the number of the node's pool rose.
-    fn commit_last(&mut self, node: u32, begun: &Begun, has_point: bool, is_raised: bool) {
+    fn commit_last(&mut self, node: u32, begun: &Begun, has_point: bool, is_raised: bool)
+        ensures { self.new ≡ record self.old { table = self.new.table } }
+    {
         let numbers = self.banks.numbers(self.kind);
         flight::commit(&mut self.table, numbers, &begun.readings, has_point);
         if is_raised {
@@ -201,19 +254,28 @@ impl State {
     }
 
     /// Where the run is complete, the joined policy and its cost.
-    fn complete(&mut self, alloc: Global, program: &Program, tree: &Tree) -> Result<(), Memory> {
+    fn complete(&mut self, alloc: Global, program: &Program, tree: &Tree) -> Result<(), Memory>
+        ensures { OnOk result (KeepsExplained (content program.now) tree.now self.old self.new) }
+    {
         if !self.table.is_complete() {
             return Ok(());
         }
         match cost(program, tree, &self.lasts) {
             Ok(cost) => self.take_policy(alloc, cost),
             Err(passed) => {
-                if self.kind == Kind::Recession {
-                    self.ends.direction = None;
-                }
+                self.forget_direction();
                 self.stop_for_run(Open::Passed(Place::Cost(self.counts.all), passed));
                 Ok(())
             }
+        }
+    }
+
+    /// In a Recession run no direction is known from now on.
+    fn forget_direction(&mut self)
+        ensures { self.new ≡ record self.old { ends = self.new.ends } }
+    {
+        if self.kind == Kind::Recession {
+            self.ends.direction = None;
         }
     }
 

@@ -1,5 +1,6 @@
 //! What the joined points of a run cost.
 ghost use Rattle.std.specs.Prelude.{◌≡◌, option_copied};
+ghost use Rattle.scen_defs.specs.Program.{content, place_content};
 ghost use Rattle.pass_core.specs.Costs.{part, number_of, joined_cost};
 
 use crate::last::Lasts;
@@ -14,7 +15,7 @@ fn add_part(
     point: Option<&Form>,
     sum: Frac,
 ) -> Result<Frac, Passed>
-    ensures { result ≡ part total place.now (option_copied point.entry) sum }
+    ensures { result ≡ part total (place_content place.now) (option_copied point.entry) sum }
 {
     if let (Some(node), Some(point)) = (place, point) {
         let own = node.cost.dot(point)?;
@@ -37,7 +38,7 @@ fn number_of(place: usize) -> u32
 /// What the points of all nodes cost together: by node the sum by column of cost times value, and the total times that sum,
 /// each added as a step. The totals are those of the tree.
 pub(crate) fn cost(program: &Program, tree: &Tree, lasts: &Lasts) -> Result<Frac, Passed>
-    ensures { result ≡ joined_cost program.now.nodes.items tree.now.chances.totals lasts.now.nodes.items }
+    ensures { result ≡ joined_cost (content program.now).nodes tree.now.chances.totals lasts.now.nodes.items }
 {
     let mut sum = Frac::zero();
     for (place, node) in program.nodes.iter().enumerate() {

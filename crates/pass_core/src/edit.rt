@@ -5,7 +5,9 @@ ghost use Rattle.scen_defs.specs.Program.{content};
 ghost use Rattle.scen_defs.specs.Valid.{IsProgram};
 ghost use Rattle.run_data.specs.Counts.{grown};
 ghost use Rattle.cut_banks.specs.Banks.{fit_banks, swept_banks, edited_banks};
+ghost use Rattle.run_data.specs.Frames.{frame_of};
 ghost use Rattle.pass_core.specs.Versions.{next_version, with_next, next_touch, next_touches, next_versions};
+ghost use Rattle.pass_core.specs.Explained.{IsUnstopped};
 
 use crate::ends::Ends;
 use crate::flight;
@@ -24,7 +26,7 @@ impl State {
     pub fn touch(&mut self, alloc: Global, touched: &[Touched]) -> Result<Vec<Touch>, Memory>
         ensures touches { IfOk result (λ touches. touches.items ≡ next_touches touched.now self.old.versions) }
         ensures versions { OnOk result (self.new.versions ≡ next_versions touched.now self.old.versions) }
-        ensures banks { self.new.banks ≡ self.old.banks }
+        ensures others { self.new ≡ record self.old { versions = self.new.versions } }
     {
         let mut touches = Vec::new(alloc);
         for place in touched {
@@ -37,7 +39,7 @@ impl State {
     fn raise(&mut self, touched: Touched) -> Touch
         ensures touch { result ≡ next_touch touched self.old.versions }
         ensures versions { self.new.versions ≡ with_next touched.part touched.node self.old.versions }
-        ensures banks { self.new.banks ≡ self.old.banks }
+        ensures others { self.new ≡ record self.old { versions = self.new.versions } }
     {
         let Touched { node, part } = touched;
         let version = self.raised(node, part);
@@ -52,7 +54,7 @@ impl State {
     fn raised(&mut self, node: u32, part: Part) -> u32
         ensures version { result ≡ next_version part node self.old.versions }
         ensures versions { self.new.versions ≡ with_next part node self.old.versions }
-        ensures banks { self.new.banks ≡ self.old.banks }
+        ensures others { self.new ≡ record self.old { versions = self.new.versions } }
     {
         match part {
             Part::Rows => self.versions.touch_rows(node),
@@ -75,6 +77,9 @@ impl State {
         ensures banks { OnOk result (self.new.banks ≡ edited_banks is_grown (content program.now).nodes dues.now self.old.banks) }
         ensures versions { OnOk result (self.new.versions
             ≡ pick is_grown (grown (length (content program.now).nodes) self.old.versions) self.old.versions) }
+        ensures frame { OnOk result (self.new.frame ≡ pick is_grown (frame_of (content program.now)) self.old.frame) }
+        ensures budget { self.new.budget ≡ self.old.budget }
+        ensures reasons { OnOk result (IsUnstopped self.new) }
     {
         self.grow(alloc, program, is_grown)?;
         self.sweep(alloc, dues)?;
@@ -88,6 +93,8 @@ impl State {
             ≡ pick is_grown (fit_banks (content program.now).nodes self.old.banks) self.old.banks) }
         ensures versions { OnOk result (self.new.versions
             ≡ pick is_grown (grown (length (content program.now).nodes) self.old.versions) self.old.versions) }
+        ensures frame { OnOk result (self.new.frame ≡ pick is_grown (frame_of (content program.now)) self.old.frame) }
+        ensures budget { self.new.budget ≡ self.old.budget }
     {
         if !is_grown {
             return Ok(());
@@ -101,6 +108,8 @@ impl State {
     fn sweep(&mut self, alloc: Global, dues: &[Due]) -> Result<(), Memory>
         ensures banks { OnOk result (self.new.banks ≡ swept_banks dues.now self.old.banks) }
         ensures versions { self.new.versions ≡ self.old.versions }
+        ensures frame { self.new.frame ≡ self.old.frame }
+        ensures budget { self.new.budget ≡ self.old.budget }
     {
         for due in dues {
             self.sweep_for(alloc, due)?;
@@ -112,6 +121,8 @@ impl State {
     fn sweep_for(&mut self, alloc: Global, due: &Due) -> Result<(), Memory>
         ensures banks { OnOk result (self.new.banks ≡ swept_banks (due.now ∷ []) self.old.banks) }
         ensures versions { self.new.versions ≡ self.old.versions }
+        ensures frame { self.new.frame ≡ self.old.frame }
+        ensures budget { self.new.budget ≡ self.old.budget }
     {
         if !self.banks.sweep(alloc, due)? {
             self.stuck();
@@ -123,6 +134,9 @@ impl State {
     fn begin_anew(&mut self, alloc: Global, is_grown: bool) -> Result<(), Memory>
         ensures banks { self.new.banks ≡ self.old.banks }
         ensures versions { self.new.versions ≡ self.old.versions }
+        ensures frame { self.new.frame ≡ self.old.frame }
+        ensures budget { self.new.budget ≡ self.old.budget }
+        ensures reasons { OnOk result (IsUnstopped self.new) }
     {
         self.ends = Ends::none();
         self.stop = None;
@@ -140,6 +154,9 @@ impl State {
     fn forget(&mut self, alloc: Global) -> Result<(), Memory>
         ensures banks { self.new.banks ≡ self.old.banks }
         ensures versions { self.new.versions ≡ self.old.versions }
+        ensures frame { self.new.frame ≡ self.old.frame }
+        ensures budget { self.new.budget ≡ self.old.budget }
+        ensures reasons { IsUnstopped self.old → IsUnstopped self.new }
     {
         self.lasts = Lasts::none(alloc, self.frame.nodes())?;
         match flight::start(alloc, &self.frame)? {

@@ -1,5 +1,11 @@
 //! The opening of the next run: each pool gets a cut that holds for every dual of the run before.
 
+ghost use Rattle.std.specs.Prelude.{IfErr, OnOk};
+ghost use Rattle.scen_defs.specs.Program.{content, Program as ProgramOf};
+ghost use Rattle.scen_tree.specs.Trees.{Tree as TreeOf};
+ghost use Rattle.run_data.specs.Frames.{Frame as FrameOf};
+ghost use Rattle.pass_core.specs.Explained.{FailsToOpen, KeepsExplained};
+
 use crate::flight;
 use crate::last::Lasts;
 use crate::state::State;
@@ -52,6 +58,13 @@ fn shared(
     Ok(all)
 }
 
+/// The multipliers of a cut.
+fn dual_of(alloc: Global, cut: &SharedCut) -> Result<Values, CutFault>
+    ensures { (p : ProgramOf) (frame : FrameOf) (tree : TreeOf) → IfErr result (FailsToOpen p frame tree) }
+{
+    Ok(assemble(alloc, cut.cut())?)
+}
+
 impl State {
     /// Opens the run behind a closed one. Before a Recession run each of its pools gets the cut of the dual that is 0
     /// everywhere, before a Cost run that of the flat dual of the closed run's root. Where an operation passes, nothing opens.
@@ -60,31 +73,55 @@ impl State {
         alloc: Global,
         program: &Program,
         tree: &Tree,
-    ) -> Result<(), Memory> {
+    ) -> Result<(), Memory>
+        ensures { OnOk result (KeepsExplained (content program.now) tree.now self.old self.new) }
+    {
         let kind = next(self.kind);
-        let dual = match self.opening_dual(alloc) {
-            Ok(dual) => dual,
-            Err(fault) => return self.not_opened(fault),
-        };
-        match self.ground_cuts(alloc, program, tree, kind, &dual) {
+        match self.first_cuts(alloc, program, tree, kind) {
             Ok(cuts) => self.open(alloc, kind, cuts),
             Err(fault) => self.not_opened(fault),
         }
     }
 
-    fn not_opened(&mut self, fault: CutFault) -> Result<(), Memory> {
+    fn not_opened(&mut self, fault: CutFault) -> Result<(), Memory>
+        ensures { (p : ProgramOf) (tree : TreeOf) → FailsToOpen p self.old.frame tree fault
+            → OnOk result (KeepsExplained p tree self.old self.new) }
+    {
         match fault {
-            CutFault::Passed(passed) => self.stop_at(Open::Passed(Place::Ground, passed)),
-            CutFault::NotGood => self.stuck(),
-            CutFault::Memory => return Err(Memory),
+            CutFault::Passed(passed) => {
+                self.stop_at(Open::Passed(Place::Ground, passed));
+                Ok(())
+            }
+            CutFault::NotGood => {
+                self.stuck();
+                Ok(())
+            }
+            CutFault::Memory => Err(Memory),
         }
-        Ok(())
+    }
+
+    /// The cuts that the next run begins with, which is of this kind, by number.
+    fn first_cuts(
+        &self,
+        alloc: Global,
+        program: &Program,
+        tree: &Tree,
+        kind: Kind,
+    ) -> Result<Vec<Option<SharedCut>>, CutFault>
+        ensures { IfErr result (FailsToOpen (content program.now) self.now.frame tree.now) }
+    {
+        match self.opening_dual(alloc) {
+            Ok(dual) => self.ground_cuts(alloc, program, tree, kind, &dual),
+            Err(fault) => Err(fault),
+        }
     }
 
     /// The dual whose cuts the next run begins with.
-    fn opening_dual(&self, alloc: Global) -> Result<Values, CutFault> {
+    fn opening_dual(&self, alloc: Global) -> Result<Values, CutFault>
+        ensures { (p : ProgramOf) (frame : FrameOf) (tree : TreeOf) → IfErr result (FailsToOpen p frame tree) }
+    {
         match (self.kind, &self.ends.root) {
-            (Kind::Recession, Some(root)) => Ok(assemble(alloc, root.cut())?),
+            (Kind::Recession, Some(root)) => dual_of(alloc, root),
             _ => Ok(Values::empty(alloc)),
         }
     }
@@ -97,25 +134,42 @@ impl State {
         tree: &Tree,
         kind: Kind,
         dual: &Values,
-    ) -> Result<Vec<Option<SharedCut>>, CutFault> {
+    ) -> Result<Vec<Option<SharedCut>>, CutFault>
+        ensures { IfErr result (FailsToOpen (content program.now) self.now.frame tree.now) }
+    {
         let nodes = self.frame.nodes();
         let mut cuts = none(alloc, nodes)?;
         for node in (0..nodes).rev() {
             if !is_live(program, node) {
                 continue;
             }
-            let version = self.versions.of(node);
-            let Some(datum) = datum_of(alloc, program, &self.frame, tree, version, kind, node)?
-            else {
-                return Err(CutFault::NotGood);
-            };
-            let below = shared(alloc, &cuts, self.frame.children(node))?;
-            let cut = ground_cut(alloc, &datum, tree.total(node), dual, &below)?;
+            let cut = self.node_cut(alloc, program, tree, kind, dual, node, &cuts)?;
             if (node as usize) < cuts.len() {
                 cuts[node as usize] = Some(cut);
             }
         }
         Ok(cuts)
+    }
+
+    /// The cut of a node that the dual and the cuts of its children make.
+    fn node_cut(
+        &self,
+        alloc: Global,
+        program: &Program,
+        tree: &Tree,
+        kind: Kind,
+        dual: &Values,
+        node: u32,
+        cuts: &[Option<SharedCut>],
+    ) -> Result<SharedCut, CutFault>
+        ensures { IfErr result (FailsToOpen (content program.now) self.now.frame tree.now) }
+    {
+        let version = self.versions.of(node);
+        let Some(datum) = datum_of(alloc, program, &self.frame, tree, version, kind, node)? else {
+            return Err(CutFault::NotGood);
+        };
+        let below = shared(alloc, cuts, self.frame.children(node))?;
+        ground_cut(alloc, &datum, tree.total(node), dual, &below)
     }
 
     /// Puts the cuts into the pools of the next run, and opens it.
@@ -124,19 +178,38 @@ impl State {
         alloc: Global,
         kind: Kind,
         cuts: Vec<Option<SharedCut>>,
-    ) -> Result<(), Memory> {
-        for place in &cuts {
-            if let Some(cut) = place {
-                if cut.cut().node() > 0 && !self.banks.ground(kind, cut.share()?)? {
-                    self.stuck();
-                }
-            }
-        }
+    ) -> Result<(), Memory>
+        ensures { (p : ProgramOf) (tree : TreeOf) → OnOk result (KeepsExplained p tree self.old self.new) }
+    {
+        self.put_all(kind, &cuts)?;
         self.kind = kind;
         self.lasts = Lasts::none(alloc, self.frame.nodes())?;
         self.ends.root = None;
         self.lasting = None;
         flight::open(&mut self.table);
+        Ok(())
+    }
+
+    /// Puts the cuts into the pools of a run of this kind.
+    fn put_all(&mut self, kind: Kind, cuts: &[Option<SharedCut>]) -> Result<(), Memory>
+        ensures { (p : ProgramOf) (tree : TreeOf) → OnOk result (KeepsExplained p tree self.old self.new) }
+    {
+        for place in cuts {
+            self.put(kind, place)?;
+        }
+        Ok(())
+    }
+
+    /// Puts a cut, where there is one, into the pool of its node in a run of this kind; the root has none.
+    fn put(&mut self, kind: Kind, place: &Option<SharedCut>) -> Result<(), Memory>
+        ensures { (p : ProgramOf) (tree : TreeOf) → OnOk result (KeepsExplained p tree self.old self.new) }
+    {
+        let Some(cut) = place else {
+            return Ok(());
+        };
+        if cut.cut().node() > 0 && !self.banks.ground(kind, cut.share()?)? {
+            self.stuck();
+        }
         Ok(())
     }
 }

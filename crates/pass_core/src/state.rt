@@ -1,6 +1,10 @@
 //! What is known of a program, and the next step.
-ghost use Rattle.std.specs.Prelude.{◌≡◌};
+ghost use Rattle.std.specs.Prelude.{◌≡◌, None, IfOk, IfSome, OnOk};
+ghost use Rattle.scen_defs.specs.Program.{content};
+ghost use Rattle.scen_defs.specs.Valid.{IsSmall};
+ghost use Rattle.run_data.specs.Frames.{frame_of};
 ghost use Rattle.pass_core.specs.Counting.{no_counts, raised, first_of, first_or};
+ghost use Rattle.pass_core.specs.Explained.{IsDatumOf, KeepsExplained};
 
 use crate::budget::Budget;
 use crate::ends::Ends;
@@ -86,11 +90,13 @@ pub(crate) struct Begun {
 
 impl State {
     /// The state before any solve. None where the program's nodes aren't numbered from the root on.
-    pub fn start(
-        alloc: Global,
-        program: &Program,
-        budget: Budget,
-    ) -> Result<Option<State>, Memory> {
+    pub fn start(alloc: Global, program: &Program, budget: Budget) -> Result<Option<State>, Memory>
+        ensures stop { IfOk result (λ all. IfSome all (λ s. s.stop ≡ None)) }
+        ensures lasting { IfOk result (λ all. IfSome all (λ s. s.lasting ≡ None)) }
+        ensures budget { IfOk result (λ all. IfSome all (λ s. s.budget ≡ budget)) }
+        ensures frame { let p = content program.now in
+            IsSmall p → IfOk result (λ all. IfSome all (λ s. s.frame ≡ frame_of p)) }
+    {
         let frame = Frame::of(alloc, program)?;
         let Some(table) = flight::start(alloc, &frame)? else {
             return Ok(None);
@@ -113,12 +119,10 @@ impl State {
     }
 
     /// The next step: where the run is closed the next one opens, else a node is solved. False where nothing can be done.
-    pub fn advance(
-        &mut self,
-        alloc: Global,
-        program: &Program,
-        tree: &Tree,
-    ) -> Result<bool, Memory> {
+    /// Where what stopped the method before is explained by the program and the tree, so is what stops it from then on.
+    pub fn advance(&mut self, alloc: Global, program: &Program, tree: &Tree) -> Result<bool, Memory>
+        ensures { OnOk result (KeepsExplained (content program.now) tree.now self.old self.new) }
+    {
         self.is_begun = true;
         if self.table.is_closed() && self.kind != Kind::Cost {
             self.open_next(alloc, program, tree)?;
@@ -140,7 +144,9 @@ impl State {
         program: &Program,
         tree: &Tree,
         node: u32,
-    ) -> Result<(), Memory> {
+    ) -> Result<(), Memory>
+        ensures { OnOk result (KeepsExplained (content program.now) tree.now self.old self.new) }
+    {
         let Some(begun) = self.begun(alloc, program, tree, node)? else {
             self.stuck();
             return Ok(());
@@ -160,7 +166,11 @@ impl State {
         program: &Program,
         tree: &Tree,
         node: u32,
-    ) -> Result<Option<Begun>, Memory> {
+    ) -> Result<Option<Begun>, Memory>
+        ensures datum { let p = content program.now in IfOk result (λ all. IfSome all (λ b.
+            IsDatumOf b.task.kind p self.now.frame tree.now b.task.datum)) }
+        ensures pivots { IfOk result (λ all. IfSome all (λ b. b.task.pivots ≡ self.now.budget.pivots)) }
+    {
         let version = self.versions.of(node);
         let Some(datum) = datum_of(alloc, program, &self.frame, tree, version, self.kind, node)?
         else {

@@ -9,6 +9,8 @@ loop-due-preserved c = record {
       c.loop-due-test.true c.due-item.is c.in_ok-sweep_for.ensures.banks
       ∙ c.loop-due.invariant.banks;
   versions = c.sweep_for.ensures.versions ∙ c.loop-due.invariant.versions;
+  frame = c.sweep_for.ensures.frame ∙ c.loop-due.invariant.frame;
+  budget = c.sweep_for.ensures.budget ∙ c.loop-due.invariant.budget;
 }
 
 pub returns-clause-banks : goal.returns-clause-banks

@@ -6,4 +6,6 @@ abbrev pub invariant-loop-due : goal.invariant-loop-due
 invariant-loop-due l = record {
   banks : swept_banks (drop l.due-index l.dues) l.self.banks ≡ swept_banks l.dues l.initial.self.banks;
   versions : l.self.versions ≡ l.initial.self.versions;
+  frame : l.self.frame ≡ l.initial.self.frame;
+  budget : l.self.budget ≡ l.initial.self.budget;
 }

@@ -7,5 +7,5 @@ invariant-loop-place l = record {
   touches : l.touches.items ++ next_touches (drop l.place-index l.touched) l.self.versions
       ≡ next_touches l.touched l.initial.self.versions;
   versions : next_versions (drop l.place-index l.touched) l.self.versions ≡ next_versions l.touched l.initial.self.versions;
-  banks : l.self.banks ≡ l.initial.self.banks;
+  others : l.self ≡ record l.initial.self { versions = l.self.versions };
 }

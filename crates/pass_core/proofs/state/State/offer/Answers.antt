@@ -1,0 +1,15 @@
+use Rattle.std.proofs.Common.{sym, subst, ◌∙◌}
+use Rattle.cut_defs.specs.Stored.{source_of}
+use Rattle.cut_banks.specs.Banks.{pools_of}
+use Rattle.pass_core.specs.declared.state.State.{State}
+use Rattle.pass_core.specs.Explained.{KeepsExplained}
+use Rattle.pass_core.proofs.Explaining.{offer_kept, offer_passes}
+use Rattle.pass_core.proofs.state.State.offer.Goals as goal
+
+pub returns-in-Some : goal.returns-in-Some
+returns-in-Some c = λ p tree g.
+    let s : State = record c.args.self.now { banks = c.offer.new.self } in
+    subst (λ (t : State). KeepsExplained p tree c.args.self.now t) (sym c.judged.ensures.state)
+    (offer_kept p tree s c.in-Some.offer
+    (offer_passes p c.args.self.now.frame tree c.args.self.now.budget.pivots c.args.trial.now c.args.cut (source_of c.args.cut).node
+    (pools_of c.args.self.now.kind c.args.self.now.banks) c.in-Some.offer g (sym c.in-Some.is ∙ c.in_ok-offer.ensures.answer)))
