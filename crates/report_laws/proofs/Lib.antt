@@ -1,0 +1,7 @@
+mod WordLemmas
+mod NumberLemmas
+mod FindingLemmas
+mod ListLemmas
+mod LineLemmas
+mod TableLemmas
+mod ReportLemmas
