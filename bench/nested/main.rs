@@ -254,8 +254,7 @@ fn compare(stages: usize, branches: usize, items: usize) {
 
 fn main() {
     let sizes = [
-        (2, 2, 1), (2, 3, 5), (2, 4, 10), (2, 4, 20), (3, 2, 2), (3, 3, 2), (3, 3, 5), (3, 4, 2), (4, 2, 2), (4, 2, 4), (4, 3, 1),
-        (5, 2, 1), (6, 2, 1),
+        (2, 2, 1), (3, 2, 2), (3, 3, 2), (4, 3, 1), (5, 2, 1), (2, 3, 5), (2, 4, 10), (6, 2, 1), (3, 4, 2), (4, 2, 2), (3, 3, 5), (4, 2, 4),
     ];
     for (stages, branches, items) in sizes {
         compare(stages, branches, items);
