@@ -10,8 +10,9 @@ use borrow.Author.Differences.{up, down}
 use native.Mathlib.Nat.{eq_of_mul-eq-mul_right, mul-mod_left}
 use native.Mathlib.Bridge.{le_prop}
 use Rattle.rationals.specs.Integers.{ringZ, fromZ, boundZ, reif, le_cancel_pos, nonneg_pos}
-use Rattle.rationals.specs.Ring.{CommRing, Ordered, Facts, Eqs, Reif, Reifs, all_zero, all_slack, problem, solve, claim, bound, times}
+use Rattle.rationals.specs.Ring.{CommRing, Ordered, Facts, Eqs, Reif, Reifs, problem, solve, claim, bound, times}
 use Rattle.rationals.specs.Ring.{Given, decide, linear, decide_same, both_ways, true_of}
+use Rattle.rationals.specs.Polynomials.{all_zero, all_slack}
 use Rattle.rationals.specs.Ring.Reif.{r_at, r_lit, r_nul, r_one, r_add, r_sub, r_mul, r_opp}
 use Rattle.rationals.specs.Ring.Reifs.{r_none, r_more}
 use lib.Signed.{≤ℤ_refl, clash_ℤ, le_z_yes, le_z}
