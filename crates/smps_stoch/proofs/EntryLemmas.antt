@@ -3,24 +3,9 @@ use Rattle.std.proofs.Common.{◌≡◌, ◌+◌, ◌∙◌, ◌++◌, ap, ℕ, 
 use Rattle.std.specs.List.{list_any, position, position_from}
 use Rattle.std.proofs.lemmas.Iterator.Adapters.{position_from-zero}
 use Rattle.smps_words.specs.declared.entry.Entry.{Entry}
-use Rattle.smps_words.specs.declared.entry.Entry.TheVariants.{Cost, Matrix, Rhs}
-use Rattle.smps_words.specs.contracts.entry.EntryPartialEq.TheImpl.{eq-value}
 use Rattle.stoch_defs.specs.Entries.{same_entry}
+use Rattle.scenario_paths.proofs.EntryLemmas.{derived, derived_is}
 use Rattle.stoch_defs.specs.Stated.{entry_from, place_of_entry}
-
-abbrev pub derived : Entry → Entry → Bool
-derived = eq-value.it
-
-pub derived_is : (one other : Entry) → derived one other ≡ same_entry one other
-derived_is (Cost a) (Cost b) = refl
-derived_is (Cost a) (Matrix r c) = refl
-derived_is (Cost a) (Rhs r) = refl
-derived_is (Matrix r c) (Cost a) = refl
-derived_is (Matrix r c) (Matrix s d) = refl
-derived_is (Matrix r c) (Rhs s) = refl
-derived_is (Rhs r) (Cost a) = refl
-derived_is (Rhs r) (Matrix s c) = refl
-derived_is (Rhs r) (Rhs s) = refl
 
 place_from_is : (start : ℕ) (entries : List Entry) (entry : Entry) → position_from (derived entry) start entries ≡ entry_from start entries entry
 place_from_is start [] entry = refl

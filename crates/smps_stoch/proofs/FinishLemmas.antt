@@ -1,6 +1,6 @@
 -- Sums of probabilities, and lists of cases.
 use Rattle.std.proofs.Common.{◌≡◌, ◌≢◌, ◌∙◌, ◌+◌, ◌<◌, ◌⊎◌, ◌∷◌, ◌++◌, [], inl, inr, refl, sym, ap, arith}
-use Rattle.std.proofs.Common.{ℕ, zero, suc, pos, nat_eq, Bool, true, false, if◌then◌else◌, Option, Some, None, Result, Ok}
+use Rattle.std.proofs.Common.{ℕ, zero, suc, pos, nat_eq, Bool, true, false, if◌then◌else◌, Some, None, Ok}
 use Rattle.std.proofs.Common.{List, Vec, length, map, get_or, drop, append_assoc, append-nil}
 use Rattle.std.proofs.Common.{get_or-set_same, get_or-set_other}
 use Rattle.std.proofs.Math.ListN.{set, length-set}

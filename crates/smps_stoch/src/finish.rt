@@ -5,17 +5,18 @@ ghost use Rattle.rationals.specs.Rational.{zero_ℚ, ◌÷◌};
 ghost use Rattle.stoch_defs.specs.Finish.{sum_from, is_near, divided_from, shared, stated_cases, chance_of, own_from, with_parts, block_of};
 ghost use Rattle.stoch_defs.specs.Finish.{blocks_from, stated_branch, branch_with, branches_with};
 ghost use Rattle.stoch_defs.specs.Random.{case_content, block_content, branch_content};
-ghost use Rattle.smps_stoch.specs.Paths.{node_content};
+ghost use Rattle.scenario_paths.specs.Paths.{node_stated};
 ghost use Rattle.smps_stoch.specs.View.{sets_in, cases_in, items_in, blocks_in, branches_in, Gives};
 
 use crate::draft::Draft;
-use crate::hand::Scenario;
 use crate::numbers::at_most;
 use crate::stop::Stop;
 use core_defs::Cause;
 use frac128::Frac;
+use scenario_paths::{Paths, Scenario};
 use smps_words::{Entry, Name, Names};
 use std::alloc::{AllocError, Global};
+use std::mem::replace;
 use stoch_defs::{Block, Branch, BranchHead, Case, CaseHead, Stoch};
 
 /// The sum, one after another.
@@ -238,7 +239,7 @@ fn branch_with(
     scenario: Scenario,
     part: Frac,
 ) -> Result<Branch, AllocError>
-    ensures { IfOk result (λ branch. branch_content branch ≡ branch_with name.now head (node_content scenario) part) }
+    ensures { IfOk result (λ branch. branch_content branch ≡ branch_with name.now head (node_stated scenario) part) }
 {
     let name = Name::new(alloc, name)?;
     let parent = small_parent(scenario.parent)?;
@@ -260,7 +261,7 @@ fn branches_with(
     parts: &[Frac],
     scenarios: Vec<Scenario>,
 ) -> Result<Vec<Branch>, AllocError>
-    ensures { IfOk result (λ done. branches_in done ≡ branches_with names.now heads.now (map node_content scenarios.items) parts.now) }
+    ensures { IfOk result (λ done. branches_in done ≡ branches_with names.now heads.now (map node_stated scenarios.items) parts.now) }
 {
     let mut number = 0;
     let mut rest_heads = heads;
@@ -301,38 +302,37 @@ impl Draft {
     ghost use Rattle.stoch_defs.specs.Random.{content};
     ghost use Rattle.smps_stoch.specs.View.{filed};
 
-    fn into_blocks(self) -> Result<Stoch, Stop>
-        ensures { Gives content result (blocks_of (filed self)) }
+    /// The blocks, which take the values of the cases.
+    fn take_blocks(&mut self) -> Result<Stoch, Stop>
+        ensures { Gives content result (blocks_of (filed self.old)) }
     {
         let alloc = self.alloc;
-        let heads = self.cases;
-        let stages = self.blocks;
-        let cases = stated_cases(alloc, &heads, self.case_sets)?;
-        let all = by_block(alloc, &heads, cases, &stages)?;
-        let blocks = blocks_from(alloc, &stages, all)?;
+        let sets = replace(&mut self.case_sets, Vec::new(alloc));
+        let cases = stated_cases(alloc, &self.cases, sets)?;
+        let all = by_block(alloc, &self.cases, cases, &self.blocks)?;
+        let blocks = blocks_from(alloc, &self.blocks, all)?;
         Ok(Stoch::Blocks(blocks))
     }
 
-    fn into_branches(self) -> Result<Stoch, Stop>
-        ensures { Gives content result (branches_of (filed self)) }
+    /// The scenarios, which take their values.
+    fn take_branches(&mut self) -> Result<Stoch, Stop>
+        ensures { Gives content result (branches_of (filed self.old)) }
     {
         let alloc = self.alloc;
-        let names = self.branch_names;
-        let heads = self.branches;
-        let scenarios = self.paths.into_scenarios();
-        let stated = branch_chances(alloc, &heads)?;
+        let scenarios = replace(&mut self.paths, Paths::empty(alloc)).into_scenarios();
+        let stated = branch_chances(alloc, &self.branches)?;
         let parts = shared(alloc, &stated)?;
-        let branches = branches_with(alloc, &names, &heads, &parts, scenarios)?;
+        let branches = branches_with(alloc, &self.branch_names, &self.branches, &parts, scenarios)?;
         Ok(Stoch::Scenarios(branches))
     }
 
-    /// What the lines mean: scenarios where there are any, or else blocks.
-    pub(crate) fn finish(self) -> Result<Stoch, Stop>
-        ensures { Gives content result (random_of (filed self)) }
+    /// What the lines mean: scenarios where there are any, or else blocks. It takes their values.
+    pub(crate) fn finish(&mut self) -> Result<Stoch, Stop>
+        ensures { Gives content result (random_of (filed self.old)) }
     {
         if self.branches.is_empty() {
-            return self.into_blocks();
+            return self.take_blocks();
         }
-        self.into_branches()
+        self.take_branches()
     }
 }

@@ -1,5 +1,5 @@
 -- The blocks from here on are those from the start.
-use Rattle.std.proofs.Common.{◌≡◌, [], drop, length, map}
+use Rattle.std.proofs.Common.{◌≡◌, [], map}
 use Rattle.stoch_defs.specs.Finish.{blocks_from}
 use Rattle.smps_stoch.specs.View.{cases_in, blocks_in}
 use Rattle.smps_stoch.proofs.finish.blocks_from.Given as goal

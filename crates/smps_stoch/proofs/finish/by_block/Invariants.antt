@@ -1,5 +1,5 @@
 -- What is left goes behind the cases that the blocks have.
-use Rattle.std.proofs.Common.{◌≡◌, ◌<◌, ◌++◌, ℕ, [], drop, get_or, length, map}
+use Rattle.std.proofs.Common.{◌≡◌, ◌<◌, ◌++◌, ℕ, [], get_or, length, map}
 use Rattle.stoch_defs.specs.Finish.{own}
 use Rattle.stoch_defs.specs.Random.{case_content}
 use Rattle.smps_stoch.specs.View.{cases_in}

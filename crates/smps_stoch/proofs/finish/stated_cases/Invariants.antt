@@ -1,5 +1,5 @@
 -- What is left makes the rest of the cases.
-use Rattle.std.proofs.Common.{◌≡◌, ◌++◌, drop, length, map}
+use Rattle.std.proofs.Common.{◌≡◌, ◌++◌, map}
 use Rattle.stoch_defs.specs.Finish.{stated_cases}
 use Rattle.smps_stoch.specs.View.{sets_in, cases_in}
 use Rattle.smps_stoch.proofs.finish.stated_cases.Given as goal

@@ -1,5 +1,5 @@
 -- What is left makes the rest of the cases.
-use Rattle.std.proofs.Common.{◌≡◌, ◌++◌, drop, length, map}
+use Rattle.std.proofs.Common.{◌≡◌, ◌++◌, map}
 use Rattle.stoch_defs.specs.Finish.{with_parts}
 use Rattle.stoch_defs.specs.Random.{case_content}
 use Rattle.smps_stoch.specs.View.{cases_in}

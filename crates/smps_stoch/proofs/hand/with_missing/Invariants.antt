@@ -1,9 +1,0 @@
--- What is missing of the values that are left is still to be added.
-use Rattle.std.proofs.Common.{◌≡◌, drop}
-use Rattle.smps_words.specs.declared.entry.Entry.{Entry}
-use Rattle.stoch_defs.specs.Stated.{value_set}
-use Rattle.smps_stoch.specs.Paths.{first_of}
-use Rattle.smps_stoch.proofs.hand.with_missing.Given as goal
-
-abbrev pub invariant-loop-set : goal.invariant-loop-set
-invariant-loop-set l = (e : Entry) → first_of (value_set l.values.entries e) (value_set (drop l.set-index l.sets) e) ≡ first_of (value_set l.fn.values.entries e) (value_set l.sets e)
