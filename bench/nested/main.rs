@@ -1,4 +1,6 @@
 // Measures `session` beside the same nested method in Rust, in one process.
+#[path = "../clock.rs"]
+mod clock;
 mod cuts;
 #[path = "../trees/fold.rs"]
 mod fold;
@@ -8,6 +10,8 @@ mod fraction;
 #[path = "../fractions/gcd.rs"]
 mod gcd;
 mod machine;
+#[path = "../mix.rs"]
+mod mix;
 #[path = "../reader/names.rs"]
 mod names;
 mod node;
@@ -30,11 +34,12 @@ mod tree;
 #[allow(dead_code)]
 mod wide;
 
+use clock::{require_same, spent};
 use fraction::Frac;
 use machine::{Report, Status, solve};
+use mix::with;
 use std::fmt::Write;
 use std::hint::black_box;
-use std::process::exit;
 use stoch::{Periods, read_stoch};
 use tree::{Program, build};
 
@@ -49,17 +54,7 @@ unsafe extern "C" {
         solves: u64,
         times: u64,
     ) -> u64;
-    fn clock_gettime(clock: i32, time: *mut Timespec) -> i32;
 }
-
-#[repr(C)]
-struct Timespec {
-    seconds: i64,
-    nanoseconds: i64,
-}
-
-/// The clock of the time that processors spent on this thread (Linux).
-const THREAD_TIME: i32 = 3;
 
 /// Nanoseconds for each comparison, and turns that it has at least.
 const TIME: f64 = 8e9;
@@ -67,12 +62,6 @@ const TURNS: usize = 3;
 
 /// As many solves as `solve` allows where the words don't say how many.
 const SOLVES: u64 = 100_000;
-
-fn spent() -> f64 {
-    let mut time = Timespec { seconds: 0, nanoseconds: 0 };
-    unsafe { clock_gettime(THREAD_TIME, &mut time) };
-    time.seconds as f64 * 1e9 + time.nanoseconds as f64
-}
 
 struct Texts {
     core: String,
@@ -152,12 +141,6 @@ fn program(texts: &Texts) -> Program {
     program
 }
 
-const KEY: u64 = 0x9e37_79b9_7f4a_7c15;
-
-fn with(sum: u64, number: u64) -> u64 {
-    (sum.rotate_left(5) ^ number).wrapping_mul(KEY)
-}
-
 fn with_value(sum: u64, value: Option<Frac>) -> u64 {
     match value {
         Some(value) => {
@@ -190,14 +173,6 @@ fn rust_solve(program: &Program, solves: u64, times: u64) -> u64 {
         let Ok(report) = solve(black_box(program), solves) else { panic!("a sum of the tree passes") };
         with(sum, of_report(black_box(&report)))
     })
-}
-
-/// Stops the benchmark where the two don't find the same.
-fn require_same(name: &str, ours: u64, theirs: u64) {
-    if ours != theirs {
-        println!("{name}: different answers, {ours:x} and {theirs:x}");
-        exit(1);
-    }
 }
 
 fn shown(value: Option<Frac>) -> String {

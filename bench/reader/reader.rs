@@ -385,7 +385,7 @@ pub fn is_blank(byte: u8) -> bool {
 
 /// The first six fields of a line, and how many there are.
 #[inline]
-pub fn fields_of(line: &[u8]) -> ([&[u8]; 6], usize) {
+fn fields_of(line: &[u8]) -> ([&[u8]; 6], usize) {
     let mut fields: [&[u8]; 6] = [&[]; 6];
     let mut count = 0;
     for field in line.split(|byte| is_blank(*byte)).filter(|field| !field.is_empty()) {
@@ -395,6 +395,40 @@ pub fn fields_of(line: &[u8]) -> ([&[u8]; 6], usize) {
         count += 1;
     }
     (fields, count)
+}
+
+/// A line that says something.
+pub struct Line<'a> {
+    pub number: u32,
+    pub bytes: &'a [u8],
+    fields: [&'a [u8]; 6],
+    /// How many fields it has.
+    pub count: usize,
+}
+
+impl<'a> Line<'a> {
+    /// The first six fields.
+    #[inline]
+    pub fn fields(&self) -> &[&'a [u8]] {
+        &self.fields[..self.count.min(6)]
+    }
+}
+
+/// The lines of a text, without comments and blank ones.
+#[inline]
+pub fn lines_of(text: &[u8]) -> impl Iterator<Item = Line<'_>> {
+    (1..).zip(text.split(|byte| *byte == b'\n')).filter_map(|(number, bytes)| {
+        if bytes.first() == Some(&b'*') {
+            return None;
+        }
+        let (fields, count) = fields_of(bytes);
+        (count > 0).then_some(Line { number, bytes, fields, count })
+    })
+}
+
+/// The number of the line behind the last one.
+pub fn line_behind(text: &[u8]) -> u32 {
+    text.split_inclusive(|byte| *byte == b'\n').count() as u32 + 1
 }
 
 /// The core, or the line at fault and the cause.
@@ -420,17 +454,8 @@ pub fn read_core(text: &[u8]) -> Result<Core, (u32, Fault)> {
         bound_set: Set::default(),
         bounds: Vec::new(),
     };
-    let mut number = 0;
-    for bytes in text.split(|byte| *byte == b'\n') {
-        number += 1;
-        if bytes.first() == Some(&b'*') {
-            continue;
-        }
-        let (fields, count) = fields_of(bytes);
-        if count == 0 {
-            continue;
-        }
-        draft.line(bytes, &fields[..count.min(6)], count > 6).map_err(|fault| (number, fault))?;
+    for line in lines_of(text) {
+        draft.line(line.bytes, line.fields(), line.count > 6).map_err(|fault| (line.number, fault))?;
         if draft.section == 7 {
             if draft.has_columns {
                 return Ok(draft.core());
@@ -438,6 +463,5 @@ pub fn read_core(text: &[u8]) -> Result<Core, (u32, Fault)> {
             break;
         }
     }
-    let lines = text.split_inclusive(|byte| *byte == b'\n').count() as u32;
-    Err((lines + 1, 12))
+    Err((line_behind(text), 12))
 }

@@ -1,13 +1,8 @@
 // Numbers that depend on all that was read or built, as those of the library.
 use crate::fraction::{Frac, Term};
+use crate::mix::with;
 use crate::stoch::{Entry, Sets, Stoch};
 use crate::tree::Program;
-
-const KEY: u64 = 0x9e37_79b9_7f4a_7c15;
-
-pub fn with(sum: u64, number: u64) -> u64 {
-    (sum.rotate_left(5) ^ number).wrapping_mul(KEY)
-}
 
 fn low(n: i128) -> u64 {
     n.unsigned_abs() as u64

@@ -1,4 +1,6 @@
 // Measures `read_stoch` and `build` beside the same reader and builder in Rust, in one process.
+#[path = "../clock.rs"]
+mod clock;
 mod digest;
 mod fold;
 #[path = "../fractions/fraction.rs"]
@@ -6,6 +8,8 @@ mod fold;
 mod fraction;
 #[path = "../fractions/gcd.rs"]
 mod gcd;
+#[path = "../mix.rs"]
+mod mix;
 #[path = "../reader/names.rs"]
 mod names;
 #[path = "../reader/number.rs"]
@@ -21,9 +25,10 @@ mod tree;
 #[path = "../fractions/wide.rs"]
 mod wide;
 
+use clock::{require_same, spent};
+use mix::with;
 use reader::{Core, read_core};
 use std::hint::black_box;
-use std::process::exit;
 use stoch::{Stoch, read_stoch};
 use texts::Texts;
 use tree::{BuildFault, Program, build};
@@ -63,33 +68,16 @@ unsafe extern "C" {
         stoch: *const u8,
         stoch_len: usize,
     ) -> u64;
-    fn clock_gettime(clock: i32, time: *mut Timespec) -> i32;
     fn malloc_trim(pad: usize) -> i32;
     fn mallopt(parameter: i32, value: i32) -> i32;
 }
-
-#[repr(C)]
-struct Timespec {
-    seconds: i64,
-    nanoseconds: i64,
-}
-
-/// The clock of the time that processors spent on this thread (Linux).
-const THREAD_TIME: i32 = 3;
 
 /// Nanoseconds for each comparison, and turns that it has at least.
 const TIME: f64 = 8e9;
 const TURNS: usize = 10;
 
-/// The nanoseconds that processors spent on this thread: what they do for others meanwhile doesn't count.
-fn spent() -> f64 {
-    let mut time = Timespec { seconds: 0, nanoseconds: 0 };
-    unsafe { clock_gettime(THREAD_TIME, &mut time) };
-    time.seconds as f64 * 1e9 + time.nanoseconds as f64
-}
-
 fn of_fail((line, cause): (u32, u32)) -> u64 {
-    digest::with(line as u64, cause as u64)
+    with(line as u64, cause as u64)
 }
 
 fn of_fault(fault: BuildFault) -> u64 {
@@ -117,7 +105,7 @@ fn rust_read(texts: &Texts, times: u64) -> u64 {
             Ok(Stoch::Scenarios(branches)) => branches.len() as u64,
             Err(fail) => of_fail(fail),
         };
-        digest::with(sum, number)
+        with(sum, number)
     })
 }
 
@@ -130,16 +118,8 @@ fn rust_build(texts: &Texts, times: u64) -> u64 {
             Ok(program) => program.nodes.len() as u64,
             Err(fault) => of_fault(fault),
         };
-        digest::with(sum, number)
+        with(sum, number)
     })
-}
-
-/// Stops the benchmark where the two don't have the same.
-fn require_same(name: &str, ours: u64, theirs: u64) {
-    if ours != theirs {
-        println!("{name}: different answers, {ours:x} and {theirs:x}");
-        exit(1);
-    }
 }
 
 fn count_of_values(stoch: &Stoch) -> usize {
