@@ -27,12 +27,12 @@ use Rattle.proved_report.specs.declared.open.Open.TheVariants as reason
 use Rattle.run_data.specs.Frames.{Frame}
 use Rattle.pass_core.specs.declared.budget.Budget.{Budget}
 use Rattle.pass_core.specs.declared.state.State.{State}
-use Rattle.pass_core.specs.Counting.{first_of, first_or, after_offer}
-use Rattle.pass_core.specs.Explained.{IsTask, ComesOfSolve, cut_given, GivesCut, PassesInOffer, FailsToOpen, PassesAt}
+use Rattle.pass_core.specs.Counting.{first_stop, first_or, after_answer}
+use Rattle.pass_core.specs.Explained.{IsTask, ComesOfSolve, cut_given, GivesCut, PassesInOffer, FailsToOpen, PassesInRun}
 use Rattle.pass_core.specs.Explained.{IsExplained, AreExplained, IsUnstopped, KeepsExplained}
 
 -- ---- the first of two reasons
-first_holds : (Q : Open → Type 0) (first : Option Open) (why : Open) → IfSome first Q → Q why → IfSome (first_of first why) Q
+first_holds : (Q : Open → Type 0) (first : Option Open) (why : Open) → IfSome first Q → Q why → IfSome (first_stop first why) Q
 first_holds Q None why h q = q
 first_holds Q (Some first) why h q = h
 
@@ -63,40 +63,40 @@ module _ (p : Program) (tree : Tree) where
   then_kept a b c x y = (y.0 ∙ x.0, y.1 ∙ x.1, λ h. y.2 (x.2 h))
 
   -- a reason that is explained stops the method
-  pub stop_kept : (old new : State) (why : Open) → new.frame ≡ old.frame → new.budget ≡ old.budget → new.stop ≡ first_of old.stop why → new.lasting ≡ old.lasting
+  pub stop_kept : (old new : State) (why : Open) → new.frame ≡ old.frame → new.budget ≡ old.budget → new.stop ≡ first_stop old.stop why → new.lasting ≡ old.lasting
       → IsExplained p old.frame tree old.budget why → KeepsExplained p tree old new
   stop_kept old new why f b s l e = (
     f,
     b,
     λ h. (
-      moved old.frame new.frame old.budget new.budget (first_of old.stop why) new.stop f b s (first_holds (IsExplained p old.frame tree old.budget) old.stop why h.0 e),
+      moved old.frame new.frame old.budget new.budget (first_stop old.stop why) new.stop f b s (first_holds (IsExplained p old.frame tree old.budget) old.stop why h.0 e),
       moved old.frame new.frame old.budget new.budget old.lasting new.lasting f b l h.1,
     ),
   )
 
   -- where the method is stuck, as many solves are told as are allowed
-  pub stuck_kept : (old new : State) → new ≡ record old { stop = first_of old.stop (reason.Solves old.budget.solves) } → KeepsExplained p tree old new
+  pub stuck_kept : (old new : State) → new ≡ record old { stop = first_stop old.stop (reason.Solves old.budget.solves) } → KeepsExplained p tree old new
   stuck_kept old new e = stop_kept old new (reason.Solves old.budget.solves)
       (ap (λ (s : State). s.frame) e) (ap (λ (s : State). s.budget) e) (ap (λ (s : State). s.stop) e) (ap (λ (s : State). s.lasting) e) refl
 
   -- a solve that leaves no last solve
-  pub left_kept : (old new : State) (why : Open) → new ≡ record old { stop = first_of old.stop why; table = new.table } → IsExplained p old.frame tree old.budget why
+  pub left_kept : (old new : State) (why : Open) → new ≡ record old { stop = first_stop old.stop why; table = new.table } → IsExplained p old.frame tree old.budget why
       → KeepsExplained p tree old new
   left_kept old new why e = stop_kept old new why
       (ap (λ (s : State). s.frame) e) (ap (λ (s : State). s.budget) e) (ap (λ (s : State). s.stop) e) (ap (λ (s : State). s.lasting) e)
 
   -- or the run
   pub run_stop_kept : (old new : State) (why : Open) → new.frame ≡ old.frame → new.budget ≡ old.budget
-      → new.stop ≡ first_or old.stop (first_of old.lasting why) → new.lasting ≡ first_of old.lasting why
+      → new.stop ≡ first_or old.stop (first_stop old.lasting why) → new.lasting ≡ first_stop old.lasting why
       → IsExplained p old.frame tree old.budget why → KeepsExplained p tree old new
   run_stop_kept old new why f b s l e = (
     f,
     b,
     λ h.
-        let k : IfSome (first_of old.lasting why) (IsExplained p old.frame tree old.budget) = first_holds (IsExplained p old.frame tree old.budget) old.lasting why h.1 e in (
-          moved old.frame new.frame old.budget new.budget (first_or old.stop (first_of old.lasting why)) new.stop f b s
-              (or_holds (IsExplained p old.frame tree old.budget) old.stop (first_of old.lasting why) h.0 k),
-          moved old.frame new.frame old.budget new.budget (first_of old.lasting why) new.lasting f b l k,
+        let k : IfSome (first_stop old.lasting why) (IsExplained p old.frame tree old.budget) = first_holds (IsExplained p old.frame tree old.budget) old.lasting why h.1 e in (
+          moved old.frame new.frame old.budget new.budget (first_or old.stop (first_stop old.lasting why)) new.stop f b s
+              (or_holds (IsExplained p old.frame tree old.budget) old.stop (first_stop old.lasting why) h.0 k),
+          moved old.frame new.frame old.budget new.budget (first_stop old.lasting why) new.lasting f b l k,
         ),
   )
 
@@ -133,12 +133,12 @@ module _ (p : Program) (tree : Tree) where
 
   -- what a pool answers
   pub offer_kept : (s : State) (answer : Offer) → ((o : Operation) → answer ≡ offer.Passed o → PassesInOffer p s.frame tree s.budget.pivots o)
-      → KeepsExplained p tree s (after_offer answer s)
+      → KeepsExplained p tree s (after_answer answer s)
   offer_kept s offer.Added h = same_reasons s s refl refl refl refl
   offer_kept s (offer.NotNeeded value) h = same_reasons s s refl refl refl refl
-  offer_kept s (offer.Stale node part seen known) h = stop_kept s (after_offer (offer.Stale node part seen known) s) (reason.Solves s.budget.solves) refl refl refl refl refl
+  offer_kept s (offer.Stale node part seen known) h = stop_kept s (after_answer (offer.Stale node part seen known) s) (reason.Solves s.budget.solves) refl refl refl refl refl
   offer_kept s (offer.Passed o) h =
-      run_stop_kept s (after_offer (offer.Passed o) s) (reason.Passed (Cut s.counts.all) o) refl refl refl refl (inr (h o refl))
+      run_stop_kept s (after_answer (offer.Passed o) s) (reason.Passed (Cut s.counts.all) o) refl refl refl refl (inr (h o refl))
 
 -- ---- what a solve gives
 pub point_gives : (p : Program) (frame : Frame) (tree : Tree) (pivots : ℕ) (t : Task) (x : List Entry) (value : ℚ) (cut : Option Stored)
@@ -148,7 +148,7 @@ point_gives p frame tree pivots t x value (Some cut) k e = record { task = t; is
 
 -- ---- an operation of a solve
 pub at_place : (p : Program) (frame : Frame) (tree : Tree) (pivots k : ℕ) (in_cut : Bool) (o : Operation) → ComesOfSolve p frame tree pivots (solved.Passed in_cut o)
-    → PassesAt p frame tree pivots (pick in_cut (Cut k) (Solve k)) o
+    → PassesInRun p frame tree pivots (pick in_cut (Cut k) (Solve k)) o
 at_place p frame tree pivots k true o h = inl h
 at_place p frame tree pivots k false o h = h
 

@@ -34,17 +34,17 @@ raises None value = true
 raises (Some best) value = below best.value value
 
 -- the greater of the lower end and a root value, the earlier where they are equal
-abbrev pub greater : Option Bounded → Bounded → Option Bounded
-greater best found = pick (raises best found.value) (Some found) best
+abbrev pub greater_end : Option Bounded → Bounded → Option Bounded
+greater_end best found = pick (raises best found.value) (Some found) best
 
 abbrev pub with_lower : Ends → Bounded → Ends
-with_lower e found = record e { lower = greater e.lower found }
+with_lower e found = record e { lower = greater_end e.lower found }
 
 -- after a root value: the cut is the root's last one; of a Cost run the value may be the lower end
 abbrev pub after_root : Kind → Ends → ℚ → Stored → Ends
 after_root Feasible e value cut = record e { root = Some cut }
 after_root Recession e value cut = record e { root = Some cut }
-after_root Cost e value cut = record e { root = Some cut; lower = greater e.lower (record { value = value; cut = cut }) }
+after_root Cost e value cut = record e { root = Some cut; lower = greater_end e.lower (record { value = value; cut = cut }) }
 
 -- after the joined policy of a complete state: of a Recession run it is the direction, else it may be the upper end
 abbrev pub after_policy : Kind → Ends → Priced → Ends

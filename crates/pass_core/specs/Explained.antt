@@ -107,13 +107,13 @@ FailsToOpen p frame tree fault.NotGood = Unit {0}
 FailsToOpen p frame tree fault.Memory = Unit {0}
 
 -- the first operation of this place that passes; none is told of a test
-abbrev pub PassesAt : Program → Frame → Tree → ℕ → Place → Operation → Type 0
-PassesAt p frame tree pivots (Solve k) o = ComesOfSolve p frame tree pivots (solved.Passed false o)
-PassesAt p frame tree pivots (Cut k) o = ComesOfSolve p frame tree pivots (solved.Passed true o) ⊎ PassesInOffer p frame tree pivots o
-PassesAt p frame tree pivots (Cost k) o = PassesInCost p tree o
-PassesAt p frame tree pivots Ground o = PassesInAssembly o ⊎ PassesInGround p frame tree o
-PassesAt p frame tree pivots Dual o = PassesInAssembly o
-PassesAt p frame tree pivots Check o = ⊥
+abbrev pub PassesInRun : Program → Frame → Tree → ℕ → Place → Operation → Type 0
+PassesInRun p frame tree pivots (Solve k) o = ComesOfSolve p frame tree pivots (solved.Passed false o)
+PassesInRun p frame tree pivots (Cut k) o = ComesOfSolve p frame tree pivots (solved.Passed true o) ⊎ PassesInOffer p frame tree pivots o
+PassesInRun p frame tree pivots (Cost k) o = PassesInCost p tree o
+PassesInRun p frame tree pivots Ground o = PassesInAssembly o ⊎ PassesInGround p frame tree o
+PassesInRun p frame tree pivots Dual o = PassesInAssembly o
+PassesInRun p frame tree pivots Check o = ⊥
 
 -- ---- reasons
 
@@ -122,7 +122,7 @@ PassesAt p frame tree pivots Check o = ⊥
 abbrev pub IsExplained : Program → Frame → Tree → Budget → Open → Type 0
 IsExplained p frame tree budget (reason.Solves n) = n ≡ budget.solves
 IsExplained p frame tree budget (reason.Pivots k) = ComesOfSolve p frame tree budget.pivots solved.PivotsEnded
-IsExplained p frame tree budget (reason.Passed place o) = PassesAt p frame tree budget.pivots place o
+IsExplained p frame tree budget (reason.Passed place o) = PassesInRun p frame tree budget.pivots place o
 
 -- each reason that a state keeps is explained: what stops the method, and what does so for the present run
 abbrev pub AreExplained : Program → Tree → State → Type 0

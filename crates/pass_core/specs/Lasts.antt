@@ -16,9 +16,9 @@ abbrev pub last_at : List (Option Last) → ℕ → Option Last
 last_at lasts n = slice_index_or lasts n None
 
 -- its own values
-abbrev pub point_of : Option Last → Option (List Entry)
-point_of None = None
-point_of (Some last) = Some last.point
+abbrev pub last_point : Option Last → Option (List Entry)
+last_point None = None
+last_point (Some last) = Some last.point
 
 -- its own values and those above it
 abbrev pub along_of : Option Last → List Entry
@@ -40,11 +40,11 @@ kept lasts n trial point =
     then_value (λ along. with_last lasts n (Some (record { point = point; along = along }))) (add_scaled_walk trial one_ℚ point)
 
 -- what is left is the walk's value, or the walk ends in the operation, or memory is wanting
-abbrev pub Keeps : Result (List (Option Last)) Operation → Result (Unit {0}) FormFault → List (Option Last) → Type 0
-Keeps walk (Ok done) new = walk ≡ Ok new
-Keeps walk (Err (Passed p)) new = walk ≡ Err p
-Keeps walk (Err Memory) new = ⊤
+abbrev pub KeepsPoint : Result (List (Option Last)) Operation → Result (Unit {0}) FormFault → List (Option Last) → Type 0
+KeepsPoint walk (Ok done) new = walk ≡ Ok new
+KeepsPoint walk (Err (Passed p)) new = walk ≡ Err p
+KeepsPoint walk (Err Memory) new = ⊤
 
 -- the points of all nodes by node and column
-abbrev pub joined : List (Option Last) → List At
-joined lasts = numbers_by_node 0 (map point_entries (map point_of lasts))
+abbrev pub joined_points : List (Option Last) → List At
+joined_points lasts = numbers_by_node 0 (map point_entries (map last_point lasts))

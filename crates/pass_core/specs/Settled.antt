@@ -41,13 +41,13 @@ abbrev pub ended : Option Open → ℕ → ℕ → Option Settled
 ended (Some why) counted allowed = Some Stopped
 ended None counted allowed = where_so (leb allowed counted) Spent
 
-abbrev pub or_else : Option Settled → Option Settled → Option Settled
-or_else (Some case) other = Some case
-or_else None other = other
+abbrev pub or_case : Option Settled → Option Settled → Option Settled
+or_case (Some case) other = Some case
+or_case None other = other
 
 -- the first case that holds: what the run shows, then what ends it
 abbrev pub settled : Kind → Bool → Ends → Option Open → ℕ → ℕ → Option Settled
-settled kind is_closed e stop counted allowed = or_else (shown kind is_closed e) (ended stop counted allowed)
+settled kind is_closed e stop counted allowed = or_case (shown kind is_closed e) (ended stop counted allowed)
 
 -- why a report is open, if it is: the method's stop, or that so many solves were allowed
 abbrev pub why_open : Option Open → ℕ → Open

@@ -15,6 +15,7 @@ ghost use Rattle.scen_tree.specs.Trees.{Tree};
 ghost use Rattle.pass_core.specs.Counting.{after_report};
 ghost use Rattle.pass_core.specs.Explained.{IsExplained, AreExplained, KeepsExplained};
 
+use crate::budget::Budget;
 use crate::ends::{Bounded, Ends, Priced};
 use crate::state::State;
 use cut_proof::SharedCut;
@@ -61,6 +62,13 @@ fn where_so(holds: bool, case: Settled) -> Option<Settled>
 }
 
 impl State {
+    /// What a report may take.
+    pub fn budget(&self) -> Budget
+        ensures { result ≡ self.now.budget }
+    {
+        self.budget
+    }
+
     /// How many solves there were.
     pub fn commits(&self) -> u64
         ensures { result ≡ self.now.counts.all }

@@ -5,9 +5,9 @@ ghost use Rattle.scen_defs.specs.Lists.{pick};
 ghost use Rattle.scen_defs.specs.Program.{content, Program as ProgramOf};
 ghost use Rattle.scen_tree.specs.Trees.{Tree as TreeOf};
 ghost use Rattle.node_lp.specs.Told.{node_solved};
-ghost use Rattle.pass_core.specs.Lasts.{kept, joined};
+ghost use Rattle.pass_core.specs.Lasts.{kept, joined_points};
 ghost use Rattle.pass_core.specs.Ends.{with_lower, cheaper, after_root, after_policy};
-ghost use Rattle.pass_core.specs.Counting.{first_of, is_added, after_offer};
+ghost use Rattle.pass_core.specs.Counting.{first_stop, is_added, after_answer};
 ghost use Rattle.pass_core.specs.Explained.{IsTask, GivesCut, KeepsExplained};
 
 use crate::cost::cost;
@@ -74,7 +74,7 @@ impl State {
 
     /// A solve that leaves no last solve.
     fn left_open(&mut self, stop: Open)
-        ensures { self.new ≡ record self.old { stop = first_of self.old.stop stop; table = self.new.table } }
+        ensures { self.new ≡ record self.old { stop = first_stop self.old.stop stop; table = self.new.table } }
     {
         self.stop_at(stop);
         flight::forget(&mut self.table);
@@ -83,7 +83,7 @@ impl State {
     /// A solve that ended as none does.
     fn left_stuck(&mut self)
         ensures { self.new ≡ record self.old {
-          stop = first_of self.old.stop (Open.Solves self.old.budget.solves);
+          stop = first_stop self.old.stop (Open.Solves self.old.budget.solves);
           table = self.new.table;
         } }
     {
@@ -165,7 +165,7 @@ impl State {
         ensures others { result ≡ Ok true → self.new ≡ record self.old { lasts = self.new.lasts } }
         ensures passed { result ≡ Ok false → (p : Operation) × (kept self.old.lasts.nodes.items node trial.now point ≡ Err p) }
         ensures stuck { result ≡ Ok false → self.new ≡ record self.old {
-          stop = first_of self.old.stop (Open.Solves self.old.budget.solves);
+          stop = first_stop self.old.stop (Open.Solves self.old.budget.solves);
           table = self.new.table;
         } }
         ensures explained { (p : ProgramOf) (tree : TreeOf) → OnOk result (KeepsExplained p tree self.old self.new) }
@@ -226,7 +226,7 @@ impl State {
     /// Whether a pool's answer says that the cut was added.
     fn judged(&mut self, offer: Offer) -> bool
         ensures added { result ≡ is_added offer }
-        ensures state { self.new ≡ after_offer offer self.old }
+        ensures state { self.new ≡ after_answer offer self.old }
     {
         match offer {
             Offer::Added => true,
@@ -283,7 +283,7 @@ impl State {
     fn take_policy(&mut self, alloc: Global, cost: Frac) -> Result<(), Memory>
         ensures ok { OnOk result (self.new ≡ record self.old {
           ends = after_policy self.old.kind self.old.ends
-              (record { cost = cost; policy = joined self.old.lasts.nodes.items });
+              (record { cost = cost; policy = joined_points self.old.lasts.nodes.items });
         }) }
         ensures err { OnErr result (self.new ≡ self.old) }
     {
@@ -297,7 +297,7 @@ impl State {
     fn take_direction(&mut self, alloc: Global, cost: Frac) -> Result<(), Memory>
         ensures ok { OnOk result (self.new ≡ record self.old {
           ends = record self.old.ends {
-            direction = Some (record { cost = cost; policy = joined self.old.lasts.nodes.items });
+            direction = Some (record { cost = cost; policy = joined_points self.old.lasts.nodes.items });
           };
         }) }
         ensures err { OnErr result (self.new ≡ self.old) }
@@ -311,7 +311,7 @@ impl State {
     fn take_upper(&mut self, alloc: Global, cost: Frac) -> Result<(), Memory>
         ensures ok { OnOk result (self.new ≡ record self.old {
           ends = record self.old.ends {
-            upper = cheaper self.old.ends.upper (record { cost = cost; policy = joined self.old.lasts.nodes.items });
+            upper = cheaper self.old.ends.upper (record { cost = cost; policy = joined_points self.old.lasts.nodes.items });
           };
         }) }
         ensures err { OnErr result (self.new ≡ self.old) }
@@ -325,7 +325,7 @@ impl State {
 
     /// The points of all nodes.
     fn joined(&self, alloc: Global) -> Result<Values, Memory>
-        ensures { IfOk result (λ policy. policy ≡ joined self.now.lasts.nodes.items) }
+        ensures { IfOk result (λ policy. policy ≡ joined_points self.now.lasts.nodes.items) }
     {
         let points = self.lasts.points(alloc)?;
         join_policy(alloc, &points)

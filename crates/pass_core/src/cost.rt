@@ -1,7 +1,7 @@
 //! What the joined points of a run cost.
 ghost use Rattle.std.specs.Prelude.{◌≡◌, option_copied};
 ghost use Rattle.scen_defs.specs.Program.{content, place_content};
-ghost use Rattle.pass_core.specs.Costs.{part, number_of, joined_cost};
+ghost use Rattle.pass_core.specs.Costs.{part, node_number, joined_cost};
 
 use crate::last::Lasts;
 use frac128::{Form, Frac, Passed};
@@ -25,8 +25,8 @@ fn add_part(
 }
 
 /// The number of the node at a place. There are fewer than 2^32 of them.
-fn number_of(place: usize) -> u32
-    ensures { result ≡ number_of place }
+fn node_number(place: usize) -> u32
+    ensures { result ≡ node_number place }
 {
     if place < u32::MAX as usize {
         place as u32
@@ -42,7 +42,7 @@ pub(crate) fn cost(program: &Program, tree: &Tree, lasts: &Lasts) -> Result<Frac
 {
     let mut sum = Frac::zero();
     for (place, node) in program.nodes.iter().enumerate() {
-        let total = tree.total(number_of(place));
+        let total = tree.total(node_number(place));
         sum = add_part(total, node, lasts.point(place), sum)?;
     }
     Ok(sum)

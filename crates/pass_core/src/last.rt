@@ -3,7 +3,7 @@ ghost use Rattle.std.specs.Prelude.{◌≡◌, [], None, Some, IfOk, OnErr, map,
 ghost use Rattle.frac128.specs.Faults.{IfNotMemory};
 ghost use Rattle.rationals.specs.Forms.{add_scaled_walk};
 ghost use Rattle.rationals.specs.Rational.{one_ℚ};
-ghost use Rattle.pass_core.specs.Lasts.{last_at, point_of, along_of, trial_of, with_last, kept, Keeps};
+ghost use Rattle.pass_core.specs.Lasts.{last_at, last_point, along_of, trial_of, with_last, kept, KeepsPoint};
 
 use frac128::{Form, FormFault, Frac, Memory};
 use std::alloc::Global;
@@ -57,7 +57,7 @@ impl Lasts {
 
     /// Keeps a point of a node that was solved at this trial.
     pub(crate) fn keep(&mut self, node: u32, trial: &Form, point: Form) -> Result<(), FormFault>
-        ensures walk { Keeps (kept self.old.nodes.items node trial.now point) result self.new.nodes.items }
+        ensures walk { KeepsPoint (kept self.old.nodes.items node trial.now point) result self.new.nodes.items }
         ensures err { OnErr result (self.new ≡ self.old) }
     {
         match along_with(trial, &point) {
@@ -87,7 +87,7 @@ impl Lasts {
 
     /// The own values of a node's last solve.
     pub(crate) fn point(&self, node: usize) -> Option<&Form>
-        ensures { option_copied result ≡ point_of (last_at self.now.nodes.items node) }
+        ensures { option_copied result ≡ last_point (last_at self.now.nodes.items node) }
     {
         match self.nodes.get(node) {
             Some(Some(last)) => Some(&last.point),
@@ -97,19 +97,19 @@ impl Lasts {
 
     /// The points of all nodes, by number.
     pub(crate) fn points(&self, alloc: Global) -> Result<Vec<Option<Form>>, Memory>
-        ensures { IfOk result (λ all. all.items ≡ map point_of self.now.nodes.items) }
+        ensures { IfOk result (λ all. all.items ≡ map last_point self.now.nodes.items) }
     {
         let mut all = Vec::new(alloc);
         for place in &self.nodes {
-            all.push(point_of(alloc, place)?)?;
+            all.push(last_point(alloc, place)?)?;
         }
         Ok(all)
     }
 }
 
 /// The own values of a last solve.
-fn point_of(alloc: Global, place: &Option<Last>) -> Result<Option<Form>, Memory>
-    ensures { IfOk result (λ point. point ≡ point_of place.now) }
+fn last_point(alloc: Global, place: &Option<Last>) -> Result<Option<Form>, Memory>
+    ensures { IfOk result (λ point. point ≡ last_point place.now) }
 {
     match place {
         Some(last) => Ok(Some(last.point.copy(alloc)?)),

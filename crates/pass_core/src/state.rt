@@ -3,7 +3,7 @@ ghost use Rattle.std.specs.Prelude.{◌≡◌, None, IfOk, IfSome, OnOk};
 ghost use Rattle.scen_defs.specs.Program.{content};
 ghost use Rattle.scen_defs.specs.Valid.{IsSmall};
 ghost use Rattle.run_data.specs.Frames.{frame_of};
-ghost use Rattle.pass_core.specs.Counting.{no_counts, raised, first_of, first_or};
+ghost use Rattle.pass_core.specs.Counting.{no_commits, with_commit, first_stop, first_or};
 ghost use Rattle.pass_core.specs.Explained.{IsDatumOf, KeepsExplained};
 
 use crate::budget::Budget;
@@ -62,7 +62,7 @@ pub(crate) struct Counts {
 
 impl Counts {
     fn none() -> Counts
-        ensures { result ≡ no_counts }
+        ensures { result ≡ no_commits }
     {
         Counts {
             all: 0,
@@ -73,7 +73,7 @@ impl Counts {
 
     /// One more solve.
     pub(crate) fn raise(&mut self)
-        ensures { self.new ≡ raised self.old }
+        ensures { self.new ≡ with_commit self.old }
     {
         self.all = self.all.saturating_add(1);
         self.since_report = self.since_report.saturating_add(1);
@@ -193,7 +193,7 @@ impl State {
 
     /// Keeps the first reason why the method can't go on.
     pub(crate) fn stop_at(&mut self, stop: Open)
-        ensures { self.new ≡ record self.old { stop = first_of self.old.stop stop } }
+        ensures { self.new ≡ record self.old { stop = first_stop self.old.stop stop } }
     {
         if self.stop.is_none() {
             self.stop = Some(stop);
@@ -202,7 +202,7 @@ impl State {
 
     /// Keeps a reason that lasts for the present run.
     pub(crate) fn stop_for_run(&mut self, stop: Open)
-        ensures { let lasting = first_of self.old.lasting stop in
+        ensures { let lasting = first_stop self.old.lasting stop in
             self.new ≡ record self.old { stop = first_or self.old.stop lasting; lasting = lasting } }
     {
         if self.lasting.is_none() {
@@ -215,7 +215,7 @@ impl State {
 
     /// Stops in a case that never comes of a correct solve. Nothing is claimed of it.
     pub(crate) fn stuck(&mut self)
-        ensures { self.new ≡ record self.old { stop = first_of self.old.stop (Open.Solves self.old.budget.solves) } }
+        ensures { self.new ≡ record self.old { stop = first_stop self.old.stop (Open.Solves self.old.budget.solves) } }
     {
         self.stop_at(Open::Solves(self.budget.solves));
     }

@@ -1,9 +1,9 @@
 use Rattle.std.proofs.Common.{◌≡◌, drop}
 use Rattle.scen_defs.specs.Program.{content, nodes_content}
-use Rattle.pass_core.specs.Costs.{parts_from, joined_cost}
+use Rattle.pass_core.specs.Costs.{node_costs_from, joined_cost}
 use Rattle.pass_core.proofs.cost.cost.Given as goal
 
 abbrev pub invariant-loop-place : goal.invariant-loop-place
 invariant-loop-place l =
-    parts_from l.tree.chances.totals l.lasts.nodes.items l.place l.sum (nodes_content (drop l.place l.program.nodes.items))
+    node_costs_from l.tree.chances.totals l.lasts.nodes.items l.place l.sum (nodes_content (drop l.place l.program.nodes.items))
     ≡ joined_cost (content l.program).nodes l.tree.chances.totals l.lasts.nodes.items

@@ -3,7 +3,7 @@ use Rattle.scen_defs.specs.Program.{content}
 use Rattle.scen_defs.specs.declared.report.Place.{Place}
 use Rattle.node_lp.specs.declared.solved.Solved.TheVariants as solved
 use Rattle.proved_report.specs.declared.open.Open.TheVariants as reason
-use Rattle.pass_core.specs.Explained.{ComesOfSolve, cut_given, PassesAt, KeepsExplained}
+use Rattle.pass_core.specs.Explained.{ComesOfSolve, cut_given, PassesInRun, KeepsExplained}
 use Rattle.pass_core.proofs.Explaining.{then_kept, left_kept, point_gives, at_place, on_ok}
 use Rattle.pass_core.proofs.state.State.commit.Goals as goal
 
@@ -37,5 +37,5 @@ returns-in-Passed c = λ t e.
     record { task = c.args.begun.now.task; is_task = t; comes = e ∙ c.in-Passed.is } in
     left_kept p tree (record c.args.self.now { counts = c.raise.new.self }) c.left_open-in-Passed.new.self
     (reason.Passed c.solve_place-place.result c.in-Passed.passed) c.left_open-in-Passed.ensures
-    (subst (λ (place : Place). PassesAt p old.frame tree old.budget.pivots place c.in-Passed.passed) (sym c.solve_place-place.ensures)
+    (subst (λ (place : Place). PassesInRun p old.frame tree old.budget.pivots place c.in-Passed.passed) (sym c.solve_place-place.ensures)
     (at_place p old.frame tree old.budget.pivots c.raise.new.self.all c.in-Passed.in_cut c.in-Passed.passed made))
