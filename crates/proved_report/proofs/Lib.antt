@@ -4,3 +4,4 @@ pub mod PassLemmas
 pub mod ReportLemmas
 pub mod CountLemmas
 pub mod ClaimLemmas
+pub mod PassingLemmas

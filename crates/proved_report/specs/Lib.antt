@@ -1,3 +1,4 @@
 pub mod Open
 pub mod Tested
 pub mod Reports
+pub mod Passing

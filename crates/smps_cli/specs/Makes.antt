@@ -48,16 +48,16 @@ size_line program report =
 abbrev pub summary_text : Plan → Program → Report → List ℕ
 summary_text plan program report = plan_line plan ++ size_line program report ++ outcome_text report ++ codes "END\n"
 
--- so many solves are allowed for the report of a workload
-abbrev pub make_solves : ℕ
-make_solves = 100000
+-- so many solves are allowed for the report of a workload, and so many pivots in each
+abbrev pub make_limit : ℕ
+make_limit = 100000
 
 -- The output is the summary of the workload and of a report that is true of its program.
 pub record PrintsSummary (plan : Plan) (status : Status) (output : List ℕ) : Type 0 where
   pub program : Program
   pub means : MeansProgram (texts_of (workload plan)) (content program)
   pub report : Report
-  pub truth : IsTrue (seen program) (told_reasons make_solves) report
+  pub truth : IsTrue (seen program) (told_reasons program (record { solves = make_limit; pivots = make_limit })) report
   pub counts : HasCounts (seen program) report
   pub text : output ≡ summary_text plan program report
   pub told : status ≡ command_status report.finding

@@ -31,7 +31,7 @@ pub record PrintsReports (budget : Budget) (texts : Texts) (status : Status) (ou
   pub script : MeansScript texts program items
   -- the reports, all of them
   pub tolds : List Told
-  pub told : AreTold budget.solves 1 program items tolds
+  pub told : AreTold (record { solves = budget.solves; pivots = budget.pivots }) 1 program items tolds
   pub text : output ≡ flat_map told_text tolds
   pub ends : status ≡ open_status (any_open tolds)
 

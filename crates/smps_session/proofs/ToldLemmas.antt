@@ -1,10 +1,10 @@
 -- What is told of one report, and how the reports of a script go on and end.
-use Rattle.std.proofs.Common.{◌≡◌, ◌⊎◌, ◌<◌, ◌≤◌, ◌+◌, ◌-◌, ◌++◌, ℕ, List, [], ◌∷◌, length}
+use Rattle.std.proofs.Common.{◌≡◌, ◌<◌, ◌≤◌, ◌+◌, ◌-◌, ◌++◌, ℕ, List, [], ◌∷◌, length}
 use Rattle.std.proofs.Common.{get_or, take, drop}
-use Rattle.std.proofs.Common.{Result, Ok, Err, IfOk, OnOk, inl, inr, refl, sym, ap₂, subst, append_assoc, arith}
+use Rattle.std.proofs.Common.{Result, Ok, Err, OnOk, refl, sym, ap₂, subst, append_assoc, arith}
 use Rattle.std.proofs.lemmas.Grind.{common_steps}
 use Rattle.std.proofs.lemmas.List.{append-nil}
-use Rattle.scen_defs.specs.Program.{Program, View, content, view_of}
+use Rattle.scen_defs.specs.Program.{Program, content, view_of}
 use Rattle.scen_defs.specs.declared.program.Program.{Program as ProgramOf}
 use Rattle.scen_defs.specs.declared.report.Report.{Report}
 use Rattle.edit_defs.specs.declared.edit.Act.{Act}
@@ -14,22 +14,23 @@ use Rattle.edit_defs.specs.declared.edit.Item.{Item}
 use Rattle.edit_defs.specs.After.{after}
 use Rattle.edit_script.specs.Allowed.{AreAllowed, IsAllowed}
 use Rattle.report_defs.specs.Truth.{IsTrue, HasCounts}
-use Rattle.report_defs.proofs.ReasonLemmas.{true_for}
 use Rattle.report_text.specs.Text.{report_text}
-use Rattle.proved_report.specs.declared.open.Open.{Open}
-use Rattle.proved_report.specs.declared.open.Open.TheVariants.{Solves}
-use Rattle.proved_report.specs.Open.{given}
+use Rattle.pass_core.specs.declared.budget.Budget.{Budget}
 use Rattle.smps_session.specs.Reasons.{told_reasons}
 use Rattle.smps_session.specs.declared.told.Told.{Told}
 use Rattle.smps_session.specs.Told.{IsTold, AreTold}
 use Rattle.smps_session.specs.Courses.{Course, course_at, TellsOne, IsBehind}
 
+pub on_ok : {X E : Type 0} (r : Result X E) (A : Type 0) → A → OnOk r A
+on_ok (Ok x) A a = a
+on_ok (Err e) A a = tt
+
 -- what is told of a report
-pub is_told : (solves number : ℕ) (program : ProgramOf) (report : Report) (told : Told)
+pub is_told : (budget : Budget) (number : ℕ) (program : ProgramOf) (report : Report) (told : Told)
     → report.number ≡ number → told.text.items ≡ report_text program report → told.finding ≡ report.finding
-    → HasCounts (view_of (content program)) report → IsTrue (view_of (content program)) (told_reasons solves) report
-    → IsTold solves number (content program) told
-is_told solves number program report told n t f counts truth = record {
+    → HasCounts (view_of (content program)) report → IsTrue (view_of (content program)) (told_reasons program budget) report
+    → IsTold budget number (content program) told
+is_told budget number program report told n t f counts truth = record {
   program = program;
   content_is = refl;
   report = report;
@@ -69,91 +70,76 @@ item_allowed p item items some first h =
     (subst (λ (xs : List Item). AreAllowed p xs) (taken_apart items item some first) h)
 
 -- an item that is an edit
-is_changed : (solves : ℕ) (e : Edit) (p q : Program) (number next : ℕ) (tolds : List Told)
-    → q ≡ after p e → next ≡ number → IsBehind solves (Change e) (course_at p number tolds) (course_at q next tolds)
-is_changed solves e p q number next tolds h n = ap₂ (λ (r : Program) (k : ℕ). course_at r k tolds) h n
+is_changed : (budget : Budget) (e : Edit) (p q : Program) (number next : ℕ) (tolds : List Told)
+    → q ≡ after p e → next ≡ number → IsBehind budget (Change e) (course_at p number tolds) (course_at q next tolds)
+is_changed budget e p q number next tolds h n = ap₂ (λ (r : Program) (k : ℕ). course_at r k tolds) h n
 
-changed : {A E : Type 0} (result : Result A E) (solves : ℕ) (e : Edit) (p q : Program) (number next : ℕ) (tolds : List Told)
+changed : {A E : Type 0} (result : Result A E) (budget : Budget) (e : Edit) (p q : Program) (number next : ℕ) (tolds : List Told)
     → OnOk result (q ≡ after p e) → next ≡ number
-    → OnOk result (IsBehind solves (Change e) (course_at p number tolds) (course_at q next tolds))
-changed (Ok x) solves e p q number next tolds h n = is_changed solves e p q number next tolds h n
-changed (Err x) solves e p q number next tolds h n = tt
+    → OnOk result (IsBehind budget (Change e) (course_at p number tolds) (course_at q next tolds))
+changed (Ok x) budget e p q number next tolds h n = is_changed budget e p q number next tolds h n
+changed (Err x) budget e p q number next tolds h n = tt
 
-pub is_behind_edit : {A E : Type 0} (result : Result A E) (solves : ℕ) (act : Act) (e : Edit) (p q : Program) (number next : ℕ)
+pub is_behind_edit : {A E : Type 0} (result : Result A E) (budget : Budget) (act : Act) (e : Edit) (p q : Program) (number next : ℕ)
     (tolds : List Told)
     → act ≡ Change e → OnOk result (q ≡ after p e) → next ≡ number
-    → OnOk result (IsBehind solves act (course_at p number tolds) (course_at q next tolds))
-is_behind_edit result solves act e p q number next tolds a h n =
-    subst (λ (x : Act). OnOk result (IsBehind solves x (course_at p number tolds) (course_at q next tolds))) (sym a)
-    (changed result solves e p q number next tolds h n)
+    → OnOk result (IsBehind budget act (course_at p number tolds) (course_at q next tolds))
+is_behind_edit result budget act e p q number next tolds a h n =
+    subst (λ (x : Act). OnOk result (IsBehind budget x (course_at p number tolds) (course_at q next tolds))) (sym a)
+    (changed result budget e p q number next tolds h n)
 
 -- and one that is a SOLVE
-pub is_behind_solve : {A E : Type 0} (result : Result A E) (solves : ℕ) (act : Act) (s t : Course)
-    → act ≡ Solve → OnOk result (TellsOne solves s t) → OnOk result (IsBehind solves act s t)
-is_behind_solve result solves act s t a h = subst (λ (x : Act). OnOk result (IsBehind solves x s t)) (sym a) h
+pub is_behind_solve : {A E : Type 0} (result : Result A E) (budget : Budget) (act : Act) (s t : Course)
+    → act ≡ Solve → OnOk result (TellsOne budget s t) → OnOk result (IsBehind budget act s t)
+is_behind_solve result budget act s t a h = subst (λ (x : Act). OnOk result (IsBehind budget x s t)) (sym a) h
 
-pub tells_one : (solves number next : ℕ) (p : Program) (told : Told) (tolds pushed : List Told)
-    → IsTold solves number p told → next ≡ number + 1 → pushed ≡ tolds ++ told ∷ []
-    → TellsOne solves (course_at p number tolds) (course_at p next pushed)
-tells_one solves number next p told tolds pushed h n e = record {
+pub tells_one : (budget : Budget) (number next : ℕ) (p : Program) (told : Told) (tolds pushed : List Told)
+    → IsTold budget number p told → next ≡ number + 1 → pushed ≡ tolds ++ told ∷ []
+    → TellsOne budget (course_at p number tolds) (course_at p next pushed)
+tells_one budget number next p told tolds pushed h n e = record {
   told = told;
   is_told = h;
   course = ap₂ (course_at p) n e;
 }
 
 -- the items that are left are allowed, and what is told of them is told behind what was told
-abbrev pub IsOnCourse : ℕ → Program → List Item → List Item → Course → Type 0
-IsOnCourse solves start all items s = AreAllowed s.program items
-    × ((later : List Told) → AreTold solves s.number s.program items later → AreTold solves 1 start all (s.tolds ++ later))
+abbrev pub IsOnCourse : Budget → Program → List Item → List Item → Course → Type 0
+IsOnCourse budget start all items s = AreAllowed s.program items
+    × ((later : List Told) → AreTold budget s.number s.program items later → AreTold budget 1 start all (s.tolds ++ later))
 
 -- nothing is told before the first item
-pub begins_course : (solves : ℕ) (p : Program) (items rest : List Item) (tolds : List Told)
+pub begins_course : (budget : Budget) (p : Program) (items rest : List Item) (tolds : List Told)
     → rest ≡ items → tolds ≡ [] → AreAllowed p items
-    → IsOnCourse solves p items rest (course_at p 1 tolds)
-begins_course solves p items rest tolds e t h =
-    subst (λ (xs : List Item). IsOnCourse solves p items xs (course_at p 1 tolds)) (sym e)
-    (subst (λ (ts : List Told). IsOnCourse solves p items items (course_at p 1 ts)) (sym t) (h, λ later told. told))
+    → IsOnCourse budget p items rest (course_at p 1 tolds)
+begins_course budget p items rest tolds e t h =
+    subst (λ (xs : List Item). IsOnCourse budget p items xs (course_at p 1 tolds)) (sym e)
+    (subst (λ (ts : List Told). IsOnCourse budget p items items (course_at p 1 ts)) (sym t) (h, λ later told. told))
 
 -- one item, and then the others
-behind_one : (solves : ℕ) (start : Program) (all items : List Item) (act : Act) (work : ℕ) (s t : Course)
-    → IsOnCourse solves start all (record { work = work; act = act } ∷ items) s → IsBehind solves act s t
-    → IsOnCourse solves start all items t
-behind_one solves start all items (Change e) work s t g h =
-    subst (λ (u : Course). IsOnCourse solves start all items u) (sym h) (g.0.1, g.1)
-behind_one solves start all items Solve work s t g h =
-    subst (λ (u : Course). IsOnCourse solves start all items u) (sym h.course) (
+behind_one : (budget : Budget) (start : Program) (all items : List Item) (act : Act) (work : ℕ) (s t : Course)
+    → IsOnCourse budget start all (record { work = work; act = act } ∷ items) s → IsBehind budget act s t
+    → IsOnCourse budget start all items t
+behind_one budget start all items (Change e) work s t g h =
+    subst (λ (u : Course). IsOnCourse budget start all items u) (sym h) (g.0.1, g.1)
+behind_one budget start all items Solve work s t g h =
+    subst (λ (u : Course). IsOnCourse budget start all items u) (sym h.course) (
       g.0,
-      λ later rest. subst (λ (ts : List Told). AreTold solves 1 start all ts) (sym (append_assoc s.tolds (h.told ∷ []) later))
+      λ later rest. subst (λ (ts : List Told). AreTold budget 1 start all ts) (sym (append_assoc s.tolds (h.told ∷ []) later))
           (g.1 (h.told ∷ later) (h.is_told, rest)),
     )
 
-pub stays_on_course : (solves : ℕ) (start : Program) (all items : List Item) (item : Item) (s t : Course)
-    → 1 ≤ length items → item ≡ get_or items 0 item → IsOnCourse solves start all items s → IsBehind solves item.act s t
-    → IsOnCourse solves start all (take (length items - 1) (drop 1 items)) t
-stays_on_course solves start all items item s t some first g h =
-    behind_one solves start all (take (length items - 1) (drop 1 items)) item.act item.work s t
-    (subst (λ (xs : List Item). IsOnCourse solves start all xs s) (taken_apart items item some first) g) h
+pub stays_on_course : (budget : Budget) (start : Program) (all items : List Item) (item : Item) (s t : Course)
+    → 1 ≤ length items → item ≡ get_or items 0 item → IsOnCourse budget start all items s → IsBehind budget item.act s t
+    → IsOnCourse budget start all (take (length items - 1) (drop 1 items)) t
+stays_on_course budget start all items item s t some first g h =
+    behind_one budget start all (take (length items - 1) (drop 1 items)) item.act item.work s t
+    (subst (λ (xs : List Item). IsOnCourse budget start all xs s) (taken_apart items item some first) g) h
 
 -- all items are told
-pub all_told : (solves : ℕ) (start : Program) (all items : List Item) (s : Course) → length items < 1
-    → IsOnCourse solves start all items s
-    → AreTold solves 1 start all s.tolds
-all_told solves start all items s none g =
+pub all_told : (budget : Budget) (start : Program) (all items : List Item) (s : Course) → length items < 1
+    → IsOnCourse budget start all items s
+    → AreTold budget 1 start all s.tolds
+all_told budget start all items s none g =
     let e : items ≡ [] = none_left items none in
-    subst (λ (tolds : List Told). AreTold solves 1 start all tolds) (append-nil s.tolds)
-    (g.1 [] (subst (λ (xs : List Item). AreTold solves s.number s.program xs []) (sym e) refl))
-
--- a report that is true for the reason that the method gives is true for those that are told
-pub true_told : {E : Type 0} (v : View) (why : Open) (solves : ℕ) (result : Result Report E)
-    → ((n : ℕ) → why ≡ Solves n → n ≡ solves)
-    → IfOk result (IsTrue v (given why solves)) → IfOk result (IsTrue v (told_reasons solves))
-true_told v why solves (Ok report) h t = true_for v (given why solves) (told_reasons solves) report (record {
-  passes = λ place p e. e;
-  pivots = λ k e. tt;
-  solves = λ n e. solves_told n e;
-}) t
-  where
-    solves_told : (n : ℕ) → ((why ≡ Solves n) ⊎ (n ≡ solves)) → n ≡ solves
-    solves_told n (inl e) = h n e
-    solves_told n (inr e) = e
-true_told v why solves (Err e) h t = tt
+    subst (λ (tolds : List Told). AreTold budget 1 start all tolds) (append-nil s.tolds)
+    (g.1 [] (subst (λ (xs : List Item). AreTold budget s.number s.program xs []) (sym e) refl))

@@ -4,6 +4,7 @@ use Rattle.scen_defs.specs.Program.{Program}
 use Rattle.edit_defs.specs.declared.edit.Act.{Act}
 use Rattle.edit_defs.specs.declared.edit.Act.TheVariants.{Change, Solve}
 use Rattle.edit_defs.specs.After.{after}
+use Rattle.pass_core.specs.declared.budget.Budget.{Budget}
 use Rattle.smps_session.specs.declared.told.Told.{Told}
 use Rattle.smps_session.specs.Told.{IsTold}
 
@@ -17,12 +18,12 @@ abbrev pub course_at : Program → ℕ → List Told → Course
 course_at p number tolds = record { program = p; number = number; tolds = tolds }
 
 -- a report of the program is told behind the others
-pub record TellsOne (solves : ℕ) (s t : Course) : Type 0 where
+pub record TellsOne (budget : Budget) (s t : Course) : Type 0 where
   pub told : Told
-  pub is_told : IsTold solves s.number s.program told
+  pub is_told : IsTold budget s.number s.program told
   pub course : t ≡ record s { number = s.number + 1; tolds = s.tolds ++ told ∷ [] }
 
 -- behind an item: an edit changes the program, and of a SOLVE a report is told
-abbrev pub IsBehind : ℕ → Act → Course → Course → Type 0
-IsBehind solves (Change e) s t = t ≡ record s { program = after s.program e }
-IsBehind solves Solve s t = TellsOne solves s t
+abbrev pub IsBehind : Budget → Act → Course → Course → Type 0
+IsBehind budget (Change e) s t = t ≡ record s { program = after s.program e }
+IsBehind budget Solve s t = TellsOne budget s t

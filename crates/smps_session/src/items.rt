@@ -5,11 +5,14 @@ ghost use Rattle.scen_defs.specs.Valid.{IsProgram};
 ghost use Rattle.edit_defs.specs.After.{after};
 ghost use Rattle.edit_defs.specs.Limits.{counts};
 ghost use Rattle.edit_script.specs.Allowed.{AreAllowed, IsAllowed};
+ghost use Rattle.pass_core.specs.declared.budget.Budget.{Budget as BudgetOf};
+ghost use Rattle.tree_method.specs.Stands.{StandsOn};
 ghost use Rattle.smps_session.specs.Courses.{course_at, TellsOne, IsBehind};
 
 use crate::told::{Told, told_one};
 use edit_defs::{Act, Counts, Edit, Item};
 use frac128::Memory;
+use pass_core::Budget;
 use scen_defs::Program;
 use std::alloc::Global;
 use tree_method::Method;
@@ -41,6 +44,8 @@ impl Progress {
         ensures keeps { OnOk result (IsProgram (content program.new)) }
         ensures counted { OnOk result (self.new.counted ≡ counts (content program.new).nodes) }
         ensures number { self.new.number ≡ self.old.number }
+        ensures stands { (budget : BudgetOf) → StandsOn (content program.old) budget self.old.method
+            → OnOk result (StandsOn (content program.new) budget self.new.method) }
     {
         self.method.work(alloc, program, work)?;
         self.method.edit(alloc, program, &mut self.counted, edit)
@@ -51,15 +56,17 @@ impl Progress {
         &mut self,
         alloc: Global,
         program: &Program,
-        solves: u64,
+        budget: Budget,
         tolds: &mut Vec<Told>,
     ) -> Result<(), Memory>
-        requires { IsProgram (content program.now) }
+        requires program { IsProgram (content program.now) }
+        requires stands { StandsOn (content program.now) budget self.old.method }
         ensures counted { self.new.counted ≡ self.old.counted }
-        ensures told { OnOk result (TellsOne solves (course_at (content program.now) self.old.number tolds.old.items)
+        ensures stands { OnOk result (StandsOn (content program.now) budget self.new.method) }
+        ensures told { OnOk result (TellsOne budget (course_at (content program.now) self.old.number tolds.old.items)
             (course_at (content program.now) self.new.number tolds.new.items)) }
     {
-        let told = told_one(alloc, program, &mut self.method, self.number, solves)?;
+        let told = told_one(alloc, program, &mut self.method, self.number, budget)?;
         let next = self.number.checked_add(1).ok_or(Memory)?;
         tolds.push(told)?;
         self.number = next;
@@ -72,20 +79,22 @@ impl Progress {
         alloc: Global,
         program: &mut Program,
         item: &Item,
-        solves: u64,
+        budget: Budget,
         tolds: &mut Vec<Told>,
     ) -> Result<(), Memory>
         requires program { IsProgram (content program.old) }
         requires allowed { AreAllowed (content program.old) (item.now ∷ []) }
         requires counted { self.old.counted ≡ counts (content program.old).nodes }
+        requires stands { StandsOn (content program.old) budget self.old.method }
         ensures keeps { OnOk result (IsProgram (content program.new)) }
         ensures counted { OnOk result (self.new.counted ≡ counts (content program.new).nodes) }
-        ensures course { OnOk result (IsBehind solves item.now.act (course_at (content program.old) self.old.number tolds.old.items)
+        ensures stands { OnOk result (StandsOn (content program.new) budget self.new.method) }
+        ensures course { OnOk result (IsBehind budget item.now.act (course_at (content program.old) self.old.number tolds.old.items)
             (course_at (content program.new) self.new.number tolds.new.items)) }
     {
         match &item.act {
             Act::Change(edit) => self.change(alloc, program, edit, item.work),
-            Act::Solve => self.tell(alloc, program, solves, tolds),
+            Act::Solve => self.tell(alloc, program, budget, tolds),
         }
     }
 }

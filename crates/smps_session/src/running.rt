@@ -1,14 +1,15 @@
 //! The report of a program on a tree.
-ghost use Rattle.std.specs.Prelude.{◌≡◌, ℕ, IfOk};
+ghost use Rattle.std.specs.Prelude.{◌≡◌, IfOk, OnOk};
 ghost use Rattle.scen_defs.specs.Fits.{ListsHaveNames};
 ghost use Rattle.scen_defs.specs.Program.{IsTree, content, view_of};
 ghost use Rattle.scen_defs.specs.Valid.{IsSmall};
 ghost use Rattle.report_defs.specs.Truth.{IsTrue, HasCounts};
+ghost use Rattle.tree_method.specs.Stands.{StandsOn};
 ghost use Rattle.smps_session.specs.Reasons.{told_reasons};
 
 use frac128::Memory;
 use pass_core::Budget;
-use proved_report::{Open, report};
+use proved_report::report;
 use scen_defs::{Program, Report};
 use std::alloc::Global;
 use tree_method::Method;
@@ -22,10 +23,12 @@ pub fn session(alloc: Global, program: &Program, solves: u64, pivots: u64) -> Re
     ensures number { IfOk result (λ report. report.number ≡ 1) }
     ensures counts { IsSmall (content program.now) → IfOk result (HasCounts (view_of (content program.now))) }
     ensures names { IfOk result (ListsHaveNames program.now) }
-    ensures truth { IsTree (view_of (content program.now)) → IfOk result (IsTrue (view_of (content program.now)) (told_reasons solves)) }
+    ensures truth { let p = content program.now in IsSmall p → IsTree (view_of p)
+        → IfOk result (IsTrue (view_of p) (told_reasons program.now (record { solves = solves; pivots = pivots }))) }
 {
-    let mut method = Method::begin(alloc, program, Budget { solves, pivots })?;
-    reported(alloc, program, &mut method, 1, solves)
+    let budget = Budget { solves, pivots };
+    let mut method = Method::begin(alloc, program, budget)?;
+    reported(alloc, program, &mut method, 1, budget)
 }
 
 /// The report of what the method finds of the program, where nothing is left to find.
@@ -34,32 +37,23 @@ pub(crate) fn reported(
     program: &Program,
     method: &mut Method,
     number: u32,
-    solves: u64,
+    budget: Budget,
 ) -> Result<Report, Memory>
     ensures number { IfOk result (λ report. report.number ≡ number) }
     ensures counts { IsSmall (content program.now) → IfOk result (HasCounts (view_of (content program.now))) }
     ensures names { IfOk result (ListsHaveNames program.now) }
-    ensures truth { IsTree (view_of (content program.now)) → IfOk result (IsTrue (view_of (content program.now)) (told_reasons solves)) }
+    ensures truth { let p = content program.now in StandsOn p budget method.old → IsTree (view_of p)
+        → IfOk result (IsTrue (view_of p) (told_reasons program.now budget)) }
+    ensures stands { let p = content program.now in StandsOn p budget method.old → OnOk result (StandsOn p budget method.new) }
 {
     let found = method.find(alloc, program)?;
-    let why = told(found.why, solves);
     report(
         alloc,
         program,
         number,
         found.claim,
         found.place,
-        why,
-        solves,
+        found.why,
+        budget.solves,
     )
-}
-
-/// Why the report is open, with the number of solves that were allowed.
-pub(crate) fn told(why: Open, solves: u64) -> Open
-    ensures { (n : ℕ) → result ≡ Open.Solves n → n ≡ solves }
-{
-    match why {
-        Open::Solves(_) => Open::Solves(solves),
-        Open::Pivots(_) | Open::Passed(_, _) => why,
-    }
 }

@@ -3,6 +3,7 @@ ghost use Rattle.std.specs.Prelude.{IfOk};
 ghost use Rattle.scen_defs.specs.Program.{content};
 ghost use Rattle.scen_defs.specs.Valid.{IsProgram};
 ghost use Rattle.edit_script.specs.Allowed.{AreAllowed};
+ghost use Rattle.pass_core.specs.declared.budget.Budget.{Budget as BudgetOf};
 ghost use Rattle.smps_session.specs.Told.{AreTold};
 
 use crate::items::Progress;
@@ -27,11 +28,13 @@ pub fn scripted(
 ) -> Result<Vec<Told>, Memory>
     requires program { IsProgram (content program.old) }
     requires allowed { AreAllowed (content program.old) script.now.items.items }
-    ensures { IfOk result (λ tolds. AreTold solves 1 (content program.old) script.now.items.items tolds.items) }
+    ensures { let budget : BudgetOf = record { solves = solves; pivots = pivots } in
+        IfOk result (λ tolds. AreTold budget 1 (content program.old) script.now.items.items tolds.items) }
 {
     let mut tolds = Vec::new(alloc);
     let counted = count(&program.nodes)?;
-    let method = Method::begin(alloc, program, Budget { solves, pivots })?;
+    let budget = Budget { solves, pivots };
+    let method = Method::begin(alloc, program, budget)?;
     let mut progress = Progress {
         counted,
         method,
@@ -39,7 +42,7 @@ pub fn scripted(
     };
     let mut rest = script.items.as_slice();
     while let [item, behind @ ..] = rest {
-        progress.take(alloc, program, item, solves, &mut tolds)?;
+        progress.take(alloc, program, item, budget, &mut tolds)?;
         rest = behind;
     }
     Ok(tolds)

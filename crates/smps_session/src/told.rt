@@ -1,11 +1,13 @@
 //! A report as it is told.
-ghost use Rattle.std.specs.Prelude.{IfOk};
+ghost use Rattle.std.specs.Prelude.{IfOk, OnOk};
 ghost use Rattle.scen_defs.specs.Program.{content};
 ghost use Rattle.scen_defs.specs.Valid.{IsProgram};
+ghost use Rattle.tree_method.specs.Stands.{StandsOn};
 ghost use Rattle.smps_session.specs.Told.{IsTold};
 
 use crate::running::reported;
 use frac128::Memory;
+use pass_core::Budget;
 use report_text::print_report;
 use scen_defs::{Finding, Program};
 use std::alloc::Global;
@@ -25,12 +27,14 @@ pub(crate) fn told_one(
     program: &Program,
     method: &mut Method,
     number: u32,
-    solves: u64,
+    budget: Budget,
 ) -> Result<Told, Memory>
-    requires { IsProgram (content program.now) }
-    ensures { IfOk result (IsTold solves number (content program.now)) }
+    requires program { IsProgram (content program.now) }
+    requires stands { StandsOn (content program.now) budget method.old }
+    ensures told { IfOk result (IsTold budget number (content program.now)) }
+    ensures stands { OnOk result (StandsOn (content program.now) budget method.new) }
 {
-    let report = reported(alloc, program, method, number, solves)?;
+    let report = reported(alloc, program, method, number, budget)?;
     let mut text = Vec::new(alloc);
     print_report(alloc, program, &report, &mut text)?;
     Ok(Told {

@@ -1,2 +1,3 @@
 pub mod EditLemmas
 pub mod Standing
+pub mod StandLemmas

@@ -17,14 +17,14 @@ use Rattle.edit_retire.specs.Dues.{dues, rows_version}
 use Rattle.edit_retire.specs.Shifted.{shift_of}
 use Rattle.run_data.specs.declared.versions.Version.{Version}
 use Rattle.run_data.specs.Counts.{grown}
+use Rattle.run_data.specs.Frames.{frame_of}
 use Rattle.proved_report.specs.declared.open.Open.{Open}
 use Rattle.proved_report.specs.declared.open.Open.TheVariants.{Passed}
 use Rattle.cut_banks.specs.declared.banks.Banks.{Banks}
 use Rattle.cut_banks.specs.Banks.{edited_banks}
 use Rattle.pass_core.specs.Versions.{next_touches, next_versions}
+use Rattle.pass_core.specs.Explained.{IsUnstopped}
 use Rattle.tree_method.specs.declared.method.Working.{Working}
-use Rattle.tree_method.specs.declared.method.Method.{Method}
-use Rattle.tree_method.specs.declared.method.Method.TheVariants.{Working as AtWork, Idle}
 
 -- whether nodes come or go with an edit
 abbrev pub is_grown : Edit → Bool
@@ -59,9 +59,12 @@ fit_versions grows nodes versions = pick grows (grown (length nodes) versions) v
 abbrev pub raised_versions : Program → Edit → List Version → List Version
 raised_versions p e versions = fit_versions (is_grown e) (after p e).nodes (next_versions (touches p e) versions)
 
--- The method at work behind an edit of the program on which it was at work.
+-- The method at work behind an edit of the program on which it was at work. Its frame is made anew where nodes came or went.
 pub record IsEdited (p : Program) (e : Edit) (old new : Working) : Type 0 where
   pub tree : tree_walk (after p e) ≡ Ok new.tree
+  pub frame : new.state.frame ≡ pick (is_grown e) (frame_of (after p e)) old.state.frame
+  pub budget : new.state.budget ≡ old.state.budget
+  pub reasons : IsUnstopped new.state
   pub versions : new.state.versions ≡ raised_versions p e old.state.versions
   pub pools : new.state.banks ≡ retired p e old.state.versions old.state.banks
 
@@ -75,10 +78,3 @@ pub record HasNoTree (p : Program) (why : Open) : Type 0 where
   pub operation : Operation
   pub passes : tree_walk p ≡ Err operation
   pub why_is : why ≡ Passed Dual operation
-
--- A method behind an edit of its program: one at work goes on, unless the program after the edit has no tree; an idle one stays so.
-abbrev pub GoesOn : Program → Edit → Method → Method → Type 0
-GoesOn p e (AtWork old) (AtWork new) = IsEdited p e old new
-GoesOn p e (AtWork old) (Idle why) = HasNoTree (after p e) why
-GoesOn p e (Idle why) (AtWork new) = ⊥
-GoesOn p e (Idle why) (Idle next) = next ≡ why

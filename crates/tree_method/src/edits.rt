@@ -8,7 +8,12 @@ ghost use Rattle.edit_defs.specs.Touches.{touches};
 ghost use Rattle.edit_script.specs.Allowed.{IsAllowed};
 ghost use Rattle.cut_banks.specs.Banks.{edited_banks};
 ghost use Rattle.pass_core.specs.Versions.{next_versions};
-ghost use Rattle.tree_method.specs.Edited.{is_grown, dues_of, fit_versions, IsEdited, HasNoTree, GoesOn};
+ghost use Rattle.pass_core.specs.declared.budget.Budget.{Budget as BudgetOf};
+ghost use Rattle.pass_core.specs.Explained.{IsUnstopped};
+ghost use Rattle.run_data.specs.Frames.{frame_of};
+ghost use Rattle.scen_defs.specs.Lists.{pick};
+ghost use Rattle.tree_method.specs.Edited.{is_grown, dues_of, fit_versions, IsEdited, HasNoTree};
+ghost use Rattle.tree_method.specs.Stands.{StandsOn, GoesOn};
 
 use crate::method::{Method, Working, treeless};
 use cut_defs::Due;
@@ -39,7 +44,7 @@ impl Working {
         ensures dues { IfOk result (λ dues. dues.items ≡ dues_of (content program.now) edit.now self.old.state.versions) }
         ensures versions { OnOk result (self.new.state.versions
             ≡ next_versions (touches (content program.now) edit.now) self.old.state.versions) }
-        ensures banks { OnOk result (self.new.state.banks ≡ self.old.state.banks) }
+        ensures others { OnOk result (self.new ≡ record self.old { state = record self.old.state { versions = self.new.state.versions } }) }
     {
         let touched = touches(alloc, program, edit)?;
         let raised = self.state.touch(alloc, &touched)?;
@@ -59,6 +64,9 @@ impl Working {
     ) -> Result<(), Memory>
         requires { IsProgram (content program.now) }
         ensures tree { OnOk result (self.new.tree ≡ tree) }
+        ensures frame { OnOk result (self.new.state.frame ≡ pick is_grown (frame_of (content program.now)) self.old.state.frame) }
+        ensures budget { self.new.state.budget ≡ self.old.state.budget }
+        ensures reasons { OnOk result (IsUnstopped self.new.state) }
         ensures versions { OnOk result (self.new.state.versions
             ≡ fit_versions is_grown (content program.now).nodes self.old.state.versions) }
         ensures banks { OnOk result (self.new.state.banks
@@ -100,7 +108,7 @@ impl Working {
 impl Method {
     /// Edits the program in place, and goes on with the program after it. `counted` has what the program's nodes have, before and
     /// after. The pools are swept for what the edit touches: cuts that don't rest on it are kept, cuts that it shifts are repaired,
-    /// and the others go.
+    /// and the others go. A method that couldn't go on begins with the program after it.
     pub fn edit(
         &mut self,
         alloc: Global,
@@ -115,16 +123,24 @@ impl Method {
         ensures keeps { OnOk result (IsProgram (content program.new)) }
         ensures counted { OnOk result (counted.new ≡ counts (content program.new).nodes) }
         ensures method { OnOk result (GoesOn (content program.old) edit.now self.old self.new) }
+        // what stands on the program before the edit stands on the program after it
+        ensures stands { (budget : BudgetOf) → StandsOn (content program.old) budget self.old
+            → OnOk result (StandsOn (content program.new) budget self.new) }
     {
         match self {
-            Method::Working(working) => match working.edit(alloc, program, counted, edit)? {
-                None => Ok(()),
-                Some(why) => {
-                    *self = Method::Idle(why);
-                    Ok(())
+            Method::Working(working) => {
+                let budget = working.state.budget();
+                if let Some(why) = working.edit(alloc, program, counted, edit)? {
+                    *self = Method::Idle(why, budget);
                 }
-            },
-            Method::Idle(_) => applied(alloc, program, counted, edit),
+                Ok(())
+            }
+            Method::Idle(_, budget) => {
+                let budget = *budget;
+                applied(alloc, program, counted, edit)?;
+                *self = Method::begin(alloc, program, budget)?;
+                Ok(())
+            }
         }
     }
 }

@@ -1,4 +1,5 @@
 //! What is found of a program.
+ghost use Rattle.std.specs.Prelude.{◌≡◌};
 
 use proved_report::{Claim, Open};
 use scen_defs::Place;
@@ -13,13 +14,16 @@ pub struct Found {
 }
 
 /// Nothing is claimed.
-pub(crate) fn nothing(why: Open) -> Found {
+pub(crate) fn nothing(why: Open) -> Found
+    ensures why { result.why ≡ why }
+    ensures place { result.place ≡ Place.Cost 0 }
+{
     Found {
         claim: Claim::Ends {
             policy: None,
             dual: None,
         },
         why,
-        place: Place::Dual,
+        place: Place::Cost(0),
     }
 }

@@ -1,6 +1,10 @@
 //! The nested method at work on a program.
-ghost use Rattle.std.specs.Prelude.{IfOk};
+ghost use Rattle.std.specs.Prelude.{◌≡◌, IfOk, OnOk};
+ghost use Rattle.scen_defs.specs.Program.{content};
+ghost use Rattle.scen_defs.specs.Valid.{IsSmall};
+ghost use Rattle.pass_core.specs.declared.budget.Budget.{Budget as BudgetOf};
 ghost use Rattle.tree_method.specs.Edited.{IsTreeless};
+ghost use Rattle.tree_method.specs.Stands.{WorksOn, StandsOn, TellsWhy};
 
 use crate::found::{Found, nothing};
 use frac128::Memory;
@@ -27,8 +31,8 @@ pub struct Working {
 #[derive(Drop)]
 pub enum Method {
     Working(Working),
-    /// It can't begin or go on, which never comes of a program that was built.
-    Idle(Open),
+    /// It can't begin or go on, which never comes of a program that was built: why, and the budget with which it would.
+    Idle(Open, Budget),
 }
 
 /// Why there is no tree: its totals or shares don't fit, which never comes of a program that was built.
@@ -43,7 +47,10 @@ pub(crate) fn treeless(fault: TreeFault) -> Result<Open, Memory>
 
 impl Working {
     /// Takes steps until so many solves were committed since the last item, or nothing is left to find.
-    fn run(&mut self, alloc: Global, program: &Program, work: u64) -> Result<(), Memory> {
+    fn run(&mut self, alloc: Global, program: &Program, work: u64) -> Result<(), Memory>
+        ensures { let p = content program.now in (budget : BudgetOf)
+            → WorksOn p budget self.old → OnOk result (WorksOn p budget self.new) }
+    {
         for _ in 0..u64::MAX {
             if self.state.is_ripe(work) || !self.state.advance(alloc, program, &self.tree)? {
                 break;
@@ -53,7 +60,12 @@ impl Working {
     }
 
     /// What is found where nothing is left to find.
-    fn find(&mut self, alloc: Global, program: &Program) -> Result<Found, Memory> {
+    fn find(&mut self, alloc: Global, program: &Program) -> Result<Found, Memory>
+        ensures why { let p = content program.now in (budget : BudgetOf)
+            → WorksOn p budget self.old → IfOk result (TellsWhy p budget) }
+        ensures stays { let p = content program.now in (budget : BudgetOf)
+            → WorksOn p budget self.old → OnOk result (WorksOn p budget self.new) }
+    {
         self.run(alloc, program, ENDLESS)?;
         let place = Place::Cost(self.state.commits());
         let closed = self.state.close(alloc)?;
@@ -67,33 +79,43 @@ impl Working {
 
 impl Method {
     /// The method before any solve.
-    pub fn begin(alloc: Global, program: &Program, budget: Budget) -> Result<Method, Memory> {
+    pub fn begin(alloc: Global, program: &Program, budget: Budget) -> Result<Method, Memory>
+        ensures { let p = content program.now in IsSmall p → IfOk result (StandsOn p budget) }
+    {
         if program.nodes.len() >= MANY {
-            return Ok(Method::Idle(Open::Solves(budget.solves)));
+            return Ok(Method::Idle(Open::Solves(budget.solves), budget));
         }
         let tree = match Tree::of(alloc, program) {
             Ok(tree) => tree,
-            Err(fault) => return Ok(Method::Idle(treeless(fault)?)),
+            Err(fault) => return Ok(Method::Idle(treeless(fault)?, budget)),
         };
         match State::start(alloc, program, budget)? {
             Some(state) => Ok(Method::Working(Working { state, tree })),
-            None => Ok(Method::Idle(Open::Solves(budget.solves))),
+            None => Ok(Method::Idle(Open::Solves(budget.solves), budget)),
         }
     }
 
     /// Works on the program until so many solves were committed since the last item, or nothing is left to find.
-    pub fn work(&mut self, alloc: Global, program: &Program, work: u64) -> Result<(), Memory> {
+    pub fn work(&mut self, alloc: Global, program: &Program, work: u64) -> Result<(), Memory>
+        ensures { let p = content program.now in (budget : BudgetOf)
+            → StandsOn p budget self.old → OnOk result (StandsOn p budget self.new) }
+    {
         match self {
             Method::Working(working) => working.run(alloc, program, work),
-            Method::Idle(_) => Ok(()),
+            Method::Idle(_, _) => Ok(()),
         }
     }
 
-    /// What it finds of the program.
-    pub fn find(&mut self, alloc: Global, program: &Program) -> Result<Found, Memory> {
+    /// What it finds of the program, and why a report of that is left open.
+    pub fn find(&mut self, alloc: Global, program: &Program) -> Result<Found, Memory>
+        ensures why { let p = content program.now in (budget : BudgetOf)
+            → StandsOn p budget self.old → IfOk result (TellsWhy p budget) }
+        ensures stays { let p = content program.now in (budget : BudgetOf)
+            → StandsOn p budget self.old → OnOk result (StandsOn p budget self.new) }
+    {
         match self {
             Method::Working(working) => working.find(alloc, program),
-            Method::Idle(why) => Ok(nothing(*why)),
+            Method::Idle(why, _) => Ok(nothing(*why)),
         }
     }
 }

@@ -6,7 +6,7 @@ use Rattle.input_files.specs.Unfetched.{texts_view}
 use Rattle.program_files.specs.declared.reading.Unread.{Unread}
 use Rattle.program_files.specs.Views.{GivesScript}
 use Rattle.program_files.proofs.EditedLemmas.{stops_edits}
-use Rattle.program_files.proofs.edited.read_edits.Goals as goal
+use Rattle.program_files.proofs.edited.read_list.Goals as goal
 
 pub returns-in-Err-clause-script : goal.returns-in-Err-clause-script
 returns-in-Err-clause-script c =

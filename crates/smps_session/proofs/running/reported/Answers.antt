@@ -1,5 +1,7 @@
-use Rattle.scen_defs.specs.Program.{content, view_of}
-use Rattle.smps_session.proofs.ToldLemmas.{true_told}
+use Rattle.scen_defs.specs.Program.{content}
+use Rattle.tree_method.specs.Stands.{StandsOn}
+use Rattle.smps_session.proofs.ReasonLemmas.{true_told}
+use Rattle.smps_session.proofs.ToldLemmas.{on_ok}
 use Rattle.smps_session.proofs.running.reported.Goals as goal
 
 pub returns-clause-number : goal.returns-clause-number
@@ -12,5 +14,9 @@ pub returns-clause-names : goal.returns-clause-names
 returns-clause-names c = c.report.ensures.names
 
 pub returns-clause-truth : goal.returns-clause-truth
-returns-clause-truth c = λ tree. true_told (view_of (content c.args.program.now)) c.told-why.result c.args.solves c.report.result
-    c.told-why.ensures (c.report.ensures.truth tree)
+returns-clause-truth c = λ stands tree. true_told c.args.program.now c.args.budget c.in_ok-found.found c.args.number c.report.result
+    (c.in_ok-found.ensures.why c.args.budget stands) c.report.ensures.exact (c.report.ensures.truth tree)
+
+pub returns-clause-stands : goal.returns-clause-stands
+returns-clause-stands c = λ stands. on_ok c.report.result (StandsOn (content c.args.program.now) c.args.budget c.find.new.self)
+    (c.in_ok-found.ensures.stays c.args.budget stands)

@@ -10,4 +10,4 @@ pub returns-clause-names : goal.returns-clause-names
 returns-clause-names c = c.reported.ensures.names
 
 pub returns-clause-truth : goal.returns-clause-truth
-returns-clause-truth c = c.reported.ensures.truth
+returns-clause-truth c = λ small tree. c.reported.ensures.truth (c.in_ok-method.ensures small) tree

@@ -4,13 +4,15 @@ use Rattle.scen_defs.specs.Valid.{IsProgram}
 use Rattle.edit_defs.specs.Limits.{counts}
 use Rattle.smps_session.specs.Courses.{course_at}
 use Rattle.smps_session.proofs.ToldLemmas.{IsOnCourse}
+use Rattle.tree_method.specs.Stands.{StandsOn}
 use Rattle.smps_session.proofs.scripts.scripted.Given as goal
 
 abbrev pub invariant-loop-rest : goal.invariant-loop-rest
 invariant-loop-rest l = record {
   program : IsProgram (content l.program);
   counted : l.progress.counted ≡ counts (content l.program).nodes;
-  course : IsOnCourse l.solves (content l.fn.program) l.script.items.items l.rest
+  stands : StandsOn (content l.program) (record { solves = l.solves; pivots = l.pivots }) l.progress.method;
+  course : IsOnCourse (record { solves = l.solves; pivots = l.pivots }) (content l.fn.program) l.script.items.items l.rest
       (course_at (content l.program) l.progress.number l.tolds.items);
 }
 

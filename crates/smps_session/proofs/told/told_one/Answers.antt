@@ -4,8 +4,11 @@ use Rattle.scen_defs.specs.Program.{content}
 use Rattle.smps_session.proofs.ToldLemmas.{is_told}
 use Rattle.smps_session.proofs.told.told_one.Goals as goal
 
-pub returns : goal.returns
-returns c = is_told c.args.solves c.args.number c.args.program.now c.in_ok-report.report _
+pub returns-clause-told : goal.returns-clause-told
+returns-clause-told c = is_told c.args.budget c.args.number c.args.program.now c.in_ok-report.report _
     c.in_ok-report.ensures.number (rw c.new-text.ensures.items at c.in_ok-print_report.ensures.ok) refl
-    (c.in_ok-report.ensures.counts c.requires.small)
-    (c.in_ok-report.ensures.truth (programs_are_trees (content c.args.program.now) c.requires).0)
+    (c.in_ok-report.ensures.counts c.requires.program.small)
+    (c.in_ok-report.ensures.truth c.requires.stands (programs_are_trees (content c.args.program.now) c.requires.program).0)
+
+pub returns-clause-stands : goal.returns-clause-stands
+returns-clause-stands c = c.in_ok-report.ensures.stands c.requires.stands

@@ -1,0 +1,139 @@
+-- What stands on a program stands, behind an edit, on the program after it.
+use Rattle.std.proofs.Common.{◌≡◌, ℕ, zero, suc, Bool, true, false, List, [], ◌∷◌, map, length, Option, Some, None}
+use Rattle.std.proofs.Common.{refl, sym, ap, subst, ◌∙◌, inl, inr, Ok}
+use Rattle.rationals.specs.Rational.{ℚ}
+use Rattle.smps_words.specs.declared.entry.Entry.{Entry}
+use Rattle.smps_words.specs.declared.entry.Entry.TheVariants.{Cost, Matrix, Rhs}
+use Rattle.scen_defs.specs.Lists.{pick}
+use Rattle.scen_defs.specs.Program.{Node, Program, Scenario, view_of}
+use Rattle.scen_tree.specs.Trees.{Tree, children_from, position_of}
+use Rattle.scen_tree.specs.declared.position.Position.{Position}
+use Rattle.cut_defs.specs.Data.{bounds_of}
+use Rattle.cut_defs.specs.declared.datum.ColumnBounds.{ColumnBounds}
+use Rattle.edit_defs.specs.declared.edit.Edit.{Edit}
+use Rattle.edit_defs.specs.declared.edit.Edit.TheVariants.{Set, Prob, Drop, Add}
+use Rattle.edit_defs.specs.After.{after, change_node, with_value, home_of}
+use Rattle.proved_report.specs.declared.open.Open.{Open}
+use Rattle.proved_report.specs.declared.open.Open.TheVariants.{Solves, Pivots, Passed}
+use Rattle.node_lp.specs.declared.solved.Solved.TheVariants.{PivotsEnded}
+use Rattle.scen_defs.specs.declared.report.Place.TheVariants.{Cost as AtCost}
+use Rattle.run_data.specs.Frames.{Frame, parent_of, stage_of, columns_from, frame_of}
+use Rattle.pass_core.specs.declared.budget.Budget.{Budget}
+use Rattle.pass_core.specs.Explained.{ComesOfSolve, PassesInRun, IsExplained, AreExplained, KeepsExplained}
+use Rattle.pass_core.proofs.Explaining.{unstopped_is_explained}
+use Rattle.tree_method.specs.declared.found.Found.{Found}
+use Rattle.tree_method.specs.declared.method.Working.{Working}
+use Rattle.tree_method.specs.declared.method.Method.{Method}
+use Rattle.tree_method.specs.declared.method.Method.TheVariants.{Working as AtWork}
+use Rattle.tree_method.specs.Edited.{is_grown, IsEdited, HasNoTree}
+use Rattle.tree_method.specs.Stands.{LeavesOpen, TellsWhy, WorksOn, StandsOn}
+
+-- ---- the frame
+-- what a change of a node leaves of it, node by node
+map_changed : {A : Type 0} (g : Option Node → A) (f : Node → Node) → ((x : Node) → g (Some (f x)) ≡ g (Some x)) → (n : ℕ) (nodes : List (Option Node))
+    → map g (change_node n f nodes) ≡ map g nodes
+map_changed g f h n [] = refl
+map_changed g f h zero (None ∷ nodes) = refl
+map_changed g f h zero (Some x ∷ nodes) = ap (λ first. first ∷ map g nodes) (h x)
+map_changed g f h (suc n) (place ∷ nodes) = ap (λ rest. g place ∷ rest) (map_changed g f h n nodes)
+
+parent_stays : (p : Program) (entry : Entry) (v : ℚ) (x : Node) → parent_of (Some (with_value p entry v x)) ≡ parent_of (Some x)
+parent_stays p (Cost j) v x = refl
+parent_stays p (Matrix i j) v x = refl
+parent_stays p (Rhs i) v x = refl
+
+position_stays : (p : Program) (entry : Entry) (v : ℚ) (x : Node) → position_of (Some (with_value p entry v x)) ≡ position_of (Some x)
+position_stays p (Cost j) v x = refl
+position_stays p (Matrix i j) v x = refl
+position_stays p (Rhs i) v x = refl
+
+stage_stays : (p : Program) (entry : Entry) (v : ℚ) (x : Node) → stage_of (Some (with_value p entry v x)) ≡ stage_of (Some x)
+stage_stays p (Cost j) v x = refl
+stage_stays p (Matrix i j) v x = refl
+stage_stays p (Rhs i) v x = refl
+
+-- columns and their bounds don't depend on nodes and scenarios
+columns_stay : (p : Program) (nodes : List (Option Node)) (scenarios : List Scenario) (s count : ℕ)
+    → columns_from (view_of (record p { nodes = nodes; scenarios = scenarios })) s count ≡ columns_from (view_of p) s count
+columns_stay p nodes scenarios s zero = refl
+columns_stay p nodes scenarios s (suc count) =
+    ap (λ (rest : List (List ColumnBounds)). map (bounds_of (view_of p)) ((view_of p).columns s) ∷ rest) (columns_stay p nodes scenarios (suc s) count)
+
+abbrev frame_by : List ℕ → List Position → List ℕ → List (List ColumnBounds) → Frame
+frame_by parents positions stages columns =
+    record { parents = parents; children = children_from positions 0 positions; stages = stages; columns = columns }
+
+same_frame : (a b : List ℕ) (c d : List Position) (e f : List ℕ) (g h : List (List ColumnBounds)) → a ≡ b → c ≡ d → e ≡ f → g ≡ h
+    → frame_by a c e g ≡ frame_by b d f h
+same_frame a b c d e f g h i j k l = cc
+
+-- where no node comes or goes, the frame stays
+frame_stays : (p : Program) (e : Edit) → is_grown e ≡ false → frame_of (after p e) ≡ frame_of p
+frame_stays p (Set name entry v) g =
+    let nodes : List (Option Node) = change_node (home_of p name entry) (with_value p entry v) p.nodes in
+    same_frame (map parent_of nodes) (map parent_of p.nodes) (map position_of nodes) (map position_of p.nodes)
+    (map stage_of nodes) (map stage_of p.nodes)
+    (columns_from (view_of (after p (Set name entry v))) 0 (length p.periods)) (columns_from (view_of p) 0 (length p.periods))
+    (map_changed parent_of (with_value p entry v) (parent_stays p entry v) (home_of p name entry) p.nodes)
+    (map_changed position_of (with_value p entry v) (position_stays p entry v) (home_of p name entry) p.nodes)
+    (map_changed stage_of (with_value p entry v) (stage_stays p entry v) (home_of p name entry) p.nodes)
+    (columns_stay p nodes p.scenarios 0 (length p.periods))
+frame_stays p (Prob name q) g = ap
+    (frame_by (map parent_of p.nodes) (map position_of p.nodes) (map stage_of p.nodes))
+    (columns_stay p p.nodes (after p (Prob name q)).scenarios 0 (length p.periods))
+frame_stays p (Drop name) g = absurd (cc)
+frame_stays p (Add name parent q t) g = absurd (cc)
+
+frame_behind : (p : Program) (e : Edit) (grown : Bool) → is_grown e ≡ grown → (f : Frame) → f ≡ frame_of p → pick grown (frame_of (after p e)) f ≡ frame_of (after p e)
+frame_behind p e true g f h = refl
+frame_behind p e false g f h = h ∙ sym (frame_stays p e g)
+
+-- ---- the method
+-- a step of its state
+pub works_still : (p : Program) (budget : Budget) (old new : Working) → new.tree ≡ old.tree → KeepsExplained p old.tree old.state new.state
+    → WorksOn p budget old → WorksOn p budget new
+works_still p budget old new t k w = record {
+  tree = w.tree ∙ ap Ok (sym t);
+  frame = k.0 ∙ w.frame;
+  budget_is = k.1 ∙ w.budget_is;
+  explained = subst (λ (tree : Tree). AreExplained p tree new.state) (sym t) (k.2 w.explained);
+}
+
+-- an edit
+works_behind : (p : Program) (e : Edit) (budget : Budget) (old new : Working) → WorksOn p budget old → IsEdited p e old new → WorksOn (after p e) budget new
+works_behind p e budget old new w h = record {
+  tree = h.tree;
+  frame = h.frame ∙ frame_behind p e (is_grown e) refl old.state.frame w.frame;
+  budget_is = h.budget ∙ w.budget_is;
+  explained = unstopped_is_explained (after p e) new.tree new.state h.reasons;
+}
+
+pub works_on : (p q : Program) (e : Edit) (old : Method) (w new : Working) → old ≡ AtWork w → q ≡ after p e → IsEdited p e w new
+    → (budget : Budget) → StandsOn p budget old → WorksOn q budget new
+works_on p q e old w new is a h budget s =
+    subst (λ (r : Program). WorksOn r budget new) (sym a) (works_behind p e budget w new (subst (StandsOn p budget) is s) h)
+
+pub treeless_leaves_open : (p : Program) (budget : Budget) (why : Open) → HasNoTree p why → LeavesOpen p budget why
+treeless_leaves_open p budget why h =
+    subst (LeavesOpen p budget) (sym h.why_is) (inl (record { operation = h.operation; passes = h.passes; why_is = refl }))
+
+-- ---- what is found
+leaves_open : (p : Program) (budget : Budget) (w : Working) (why : Open) → WorksOn p budget w
+    → IsExplained p w.state.frame w.tree w.state.budget why → LeavesOpen p budget why
+leaves_open p budget w (Solves n) h e = e ∙ ap (λ (b : Budget). b.solves) h.budget_is
+leaves_open p budget w (Pivots k) h e = record {
+  tree = w.tree;
+  is = h.tree;
+  holds = subst (λ (f : Frame). ComesOfSolve p f w.tree budget.pivots PivotsEnded) h.frame
+      (subst (λ (b : Budget). ComesOfSolve p w.state.frame w.tree b.pivots PivotsEnded) h.budget_is e);
+}
+leaves_open p budget w (Passed place o) h e = inr (record {
+  tree = w.tree;
+  is = h.tree;
+  holds = subst (λ (f : Frame). PassesInRun p f w.tree budget.pivots place o) h.frame
+      (subst (λ (b : Budget). PassesInRun p w.state.frame w.tree b.pivots place o) h.budget_is e);
+})
+
+pub tells_why : (p : Program) (budget : Budget) (w : Working) (found : Found) (commits : ℕ) → WorksOn p budget w
+    → IsExplained p w.state.frame w.tree w.state.budget found.why → found.place ≡ AtCost commits → TellsWhy p budget found
+tells_why p budget w found commits h e at = record { why = leaves_open p budget w found.why h e; commits = commits; place = at }

@@ -1,0 +1,67 @@
+-- On which program the method stands, why it leaves a report of it open, and how it goes on behind an edit.
+use Rattle.std.specs.Prelude.{◌≡◌, ◌⊎◌, ℕ, Ok}
+use Rattle.rationals.specs.Passes.{Operation}
+use Rattle.scen_defs.specs.Program.{Program}
+use Rattle.scen_defs.specs.declared.report.Place.{Place}
+use Rattle.scen_defs.specs.declared.report.Place.TheVariants.{Cost}
+use Rattle.scen_tree.specs.Trees.{Tree, tree_walk}
+use Rattle.node_lp.specs.declared.solved.Solved.TheVariants.{PivotsEnded}
+use Rattle.proved_report.specs.declared.open.Open.{Open}
+use Rattle.proved_report.specs.declared.open.Open.TheVariants.{Solves, Pivots, Passed}
+use Rattle.run_data.specs.Frames.{frame_of}
+use Rattle.pass_core.specs.declared.budget.Budget.{Budget}
+use Rattle.pass_core.specs.Explained.{ComesOfSolve, PassesInRun, AreExplained}
+use Rattle.tree_method.specs.declared.found.Found.{Found}
+use Rattle.tree_method.specs.declared.method.Working.{Working}
+use Rattle.tree_method.specs.declared.method.Method.{Method}
+use Rattle.tree_method.specs.declared.method.Method.TheVariants.{Working as AtWork, Idle}
+use Rattle.edit_defs.specs.declared.edit.Edit.{Edit}
+use Rattle.edit_defs.specs.After.{after}
+use Rattle.tree_method.specs.Edited.{IsEdited, HasNoTree}
+
+-- ---- why a report is left open
+-- the program has a tree, of which this holds
+pub record HasTree (p : Program) (Holds : Tree → Type 0) : Type 0 where
+  pub tree : Tree
+  pub is : tree_walk p ≡ Ok tree
+  pub holds : Holds tree
+
+-- the operation passes where the tree of the program is made, or it is the first of its place that does so in a run
+abbrev pub PassesInMethod : Program → ℕ → Place → Operation → Type 0
+PassesInMethod p pivots place o = HasNoTree p (Passed place o) ⊎ HasTree p (λ tree. PassesInRun p (frame_of p) tree pivots place o)
+
+-- a solve of the program of a node comes to the end of so many pivots
+abbrev pub EndsPivots : Program → ℕ → Type 0
+EndsPivots p pivots = HasTree p (λ tree. ComesOfSolve p (frame_of p) tree pivots PivotsEnded)
+
+-- this is why a report of the program is left open, with this budget
+abbrev pub LeavesOpen : Program → Budget → Open → Type 0
+LeavesOpen p budget (Solves n) = n ≡ budget.solves
+LeavesOpen p budget (Pivots k) = EndsPivots p budget.pivots
+LeavesOpen p budget (Passed place o) = PassesInMethod p budget.pivots place o
+
+-- what is found tells why, and a test of points is told of a cost
+pub record TellsWhy (p : Program) (budget : Budget) (found : Found) : Type 0 where
+  pub why : LeavesOpen p budget found.why
+  pub commits : ℕ
+  pub place : found.place ≡ Cost commits
+
+-- ---- the method
+-- at work on a program with this budget: the tree and the frame are the program's, and each reason that is kept is explained
+pub record WorksOn (p : Program) (budget : Budget) (w : Working) : Type 0 where
+  pub tree : tree_walk p ≡ Ok w.tree
+  pub frame : w.state.frame ≡ frame_of p
+  pub budget_is : w.state.budget ≡ budget
+  pub explained : AreExplained p w.tree w.state
+
+-- it is at work on the program, or tells why it can't be
+abbrev pub StandsOn : Program → Budget → Method → Type 0
+StandsOn p budget (AtWork w) = WorksOn p budget w
+StandsOn p budget (Idle why own) = (own ≡ budget) × LeavesOpen p budget why
+
+-- A method behind an edit of its program: one at work goes on, unless the program after the edit has no tree; one that couldn't go on
+-- begins with the program after the edit.
+abbrev pub GoesOn : Program → Edit → Method → Method → Type 0
+GoesOn p e (AtWork old) (AtWork new) = IsEdited p e old new
+GoesOn p e (AtWork old) (Idle why own) = (own ≡ old.state.budget) × HasNoTree (after p e) why
+GoesOn p e (Idle why own) new = StandsOn (after p e) own new
