@@ -11,11 +11,11 @@ use Rattle.report_defs.specs.Findings.{IsOptimal, IsUnbounded, IsInfeasible, has
 
 -- The reasons for which a method leaves a report open: each method says for itself what they mean.
 pub record Reasons : Type 1 where
-  -- the operation stands in what is computed at this place, and passes 128 bits
+  -- at this place the operation passes 128 bits
   pub passes : Place → Operation → Type 0
-  -- the solve of this number came to the end of its pivots
+  -- a solve came to the end of its pivots; the number is that of the report
   pub pivots_end : ℕ → Type 0
-  -- so many solves were made, and no more were allowed
+  -- no more solves than so many were allowed
   pub solves_end : ℕ → Type 0
 
 -- What a finding says: OPTIMAL, UNBOUNDED and INFEASIBLE of the program, OPEN by the reasons of the method.
