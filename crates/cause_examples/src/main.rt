@@ -63,7 +63,7 @@ fn main(rt: HostRuntime) -> ExitCode {
 
 /// The text of the document.
 fn document(rt: &HostRuntime, alloc: Global) -> Option<String> {
-    match RealShelf::new().fetch(rt, alloc, "CAUSES.md", LIMIT) {
+    match RealShelf::new(alloc).fetch(rt, alloc, "CAUSES.md", LIMIT) {
         Ok(bytes) => String::from_utf8(bytes).ok(),
         Err(_) => None,
     }
@@ -174,6 +174,12 @@ fn is_answered<R: Runtime>(
         ),
     ]?;
     let mut sink = MemorySink::new(alloc, 4096, Vec::new(alloc));
-    let _ = run(rt, alloc, &words, &mut NeverFails::new(files), &mut sink);
+    let _ = run(
+        rt,
+        alloc,
+        &words,
+        &mut NeverFails::new(alloc, files),
+        &mut sink,
+    );
     Ok(sink.bytes() == expected)
 }

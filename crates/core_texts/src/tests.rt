@@ -44,7 +44,13 @@ fn solved(rt: &impl Runtime, alloc: Global, text: &[u8]) -> Result<(Status, Vec<
     let bytes = text.to_vec(alloc)?;
     let files = vec![in alloc; (String::from_str(alloc, "F")?, bytes)]?;
     let mut sink = MemorySink::new(alloc, 4096, Vec::new(alloc));
-    let status = run(rt, alloc, &words, &mut NeverFails::new(files), &mut sink);
+    let status = run(
+        rt,
+        alloc,
+        &words,
+        &mut NeverFails::new(alloc, files),
+        &mut sink,
+    );
     if status == Status::Memory {
         return Err("no memory")?;
     }

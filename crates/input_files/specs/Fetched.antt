@@ -1,5 +1,6 @@
 -- The texts of the files that the words name.
-use Rattle.std.specs.Prelude.{◌≡◌, ◌<◌, ◌≤◌, ◌+◌, ◌⊎◌, ⊤, ℕ, List, length, Option, Some, None, IfSome}
+use Rattle.std.specs.Prelude.{◌≡◌, ◌<◌, ◌≤◌, ⊤, ℕ, List, ◌∷◌, ◌++◌, length, Option, Some, None, IfSome}
+use Rattle.std.specs.Option.{option_to_list}
 use Rattle.smps_io.specs.Files.{Files, bytes_of}
 use Rattle.command_words.specs.Commands.{FileNames}
 use Rattle.input_files.specs.declared.kind.FileKind.{FileKind}
@@ -55,10 +56,7 @@ abbrev pub IsLong : Option Files → FileNames → FileKind → Type 0
 IsLong content names kind =
     (name : List ℕ) × (name_of names kind ≡ Some name) × IfSome content (λ files. file_limit < length (bytes_of files name))
 
-abbrev pub count_of : Option (List ℕ) → ℕ
-count_of None = 0
-count_of (Some name) = 1
-
--- how many files are named
-abbrev pub file_count : FileNames → ℕ
-file_count names = 1 + count_of names.time + count_of names.stoch + count_of names.edits + count_of names.report
+-- the names of the files that are named, in the order core, time, stoch, edits, report
+abbrev pub names_in_order : FileNames → List (List ℕ)
+names_in_order names = names.core ∷ option_to_list names.time ++ option_to_list names.stoch ++ option_to_list names.edits
+    ++ option_to_list names.report

@@ -1,8 +1,10 @@
 //! The files that the words name, fetched in their order.
-ghost use Rattle.std.specs.Prelude.{◌≡◌, ◌<◌, ◌≤◌, Err, IfOk, IfErr, OnOk};
-ghost use Rattle.smps_io.specs.Faults.{Rose, RoseBy};
+ghost use Rattle.std.specs.Prelude.{◌≡◌, ◌<◌, ◌≤◌, ◌++◌, ◌∷◌, [], Err, IfOk, IfErr, OnOk};
+ghost use Rattle.std.specs.Option.{option_to_list};
+ghost use Rattle.smps_io.specs.Faults.{Rose};
+ghost use Rattle.smps_io.specs.Fetches.{FetchesPrefix};
 ghost use Rattle.command_words.specs.Views.{sources_view, name_given};
-ghost use Rattle.input_files.specs.Fetched.{IsGiven, IsGivenIf, AreGiven, file_limit, file_count, count_of};
+ghost use Rattle.input_files.specs.Fetched.{IsGiven, IsGivenIf, AreGiven, file_limit, names_in_order};
 ghost use Rattle.input_files.specs.declared.kind.FileKind.{FileKind};
 ghost use Rattle.input_files.specs.Unfetched.{texts_view, given_bytes, IsCause, IsCauseOf, IsCauseIf};
 
@@ -49,7 +51,8 @@ fn fetched<R: Runtime, H: Shelf>(
     ensures failed { result ≡ Err (Unfetched.Failed kind) → Rose (H.faults shelf.old) (H.faults shelf.new) }
     ensures long { result ≡ Err (Unfetched.TooLong kind) → file_limit < H.given shelf.new }
     ensures later { H.faults shelf.old ≤ H.faults shelf.new }
-    ensures counts { RoseBy (H.fetches shelf.old) 1 (H.fetches shelf.new) }
+    ensures names { OnOk result (H.fetches shelf.new ≡ H.fetches shelf.old ++ name.now ∷ []) }
+    ensures once { FetchesPrefix (H.fetches shelf.old) (name.now ∷ []) (H.fetches shelf.new) }
     ensures same { H.content shelf.new ≡ H.content shelf.old }
 {
     match shelf.fetch(rt, alloc, name, FILE_LIMIT) {
@@ -73,7 +76,8 @@ fn fetched_if<R: Runtime, H: Shelf>(
     ensures failed { result ≡ Err (Unfetched.Failed kind) → Rose (H.faults shelf.old) (H.faults shelf.new) }
     ensures long { result ≡ Err (Unfetched.TooLong kind) → file_limit < H.given shelf.new }
     ensures later { H.faults shelf.old ≤ H.faults shelf.new }
-    ensures counts { OnOk result (RoseBy (H.fetches shelf.old) (count_of (name_given name.entry)) (H.fetches shelf.new)) }
+    ensures names { OnOk result (H.fetches shelf.new ≡ H.fetches shelf.old ++ option_to_list (name_given name.entry)) }
+    ensures once { FetchesPrefix (H.fetches shelf.old) (option_to_list (name_given name.entry)) (H.fetches shelf.new) }
     ensures same { H.content shelf.new ≡ H.content shelf.old }
 {
     match name {
@@ -85,8 +89,8 @@ fn fetched_if<R: Runtime, H: Shelf>(
     }
 }
 
-/// The bytes of all files that are named, in the order core, time, stoch, edits, report: each is fetched once, up to the first that
-/// isn't given.
+/// The bytes of all files that are named. They are fetched in the order core, time, stoch, edits, report, each once, up to the first
+/// that isn't given.
 pub fn fetched_texts<R: Runtime, H: Shelf>(
     rt: &R,
     alloc: Global,
@@ -97,7 +101,8 @@ pub fn fetched_texts<R: Runtime, H: Shelf>(
     ensures cause { IfErr result (IsCause (H.content shelf.old) (sources_view sources.now)) }
     ensures failed { (kind : FileKind) → result ≡ Err (Unfetched.Failed kind) → Rose (H.faults shelf.old) (H.faults shelf.new) }
     ensures long { (kind : FileKind) → result ≡ Err (Unfetched.TooLong kind) → file_limit < H.given shelf.new }
-    ensures counts { OnOk result (RoseBy (H.fetches shelf.old) (file_count (sources_view sources.now)) (H.fetches shelf.new)) }
+    ensures names { OnOk result (H.fetches shelf.new ≡ H.fetches shelf.old ++ names_in_order (sources_view sources.now)) }
+    ensures once { FetchesPrefix (H.fetches shelf.old) (names_in_order (sources_view sources.now)) (H.fetches shelf.new) }
 {
     let core = match fetched(rt, alloc, shelf, FileKind::Core, sources.core) {
         Ok(bytes) => bytes,

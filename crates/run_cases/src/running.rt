@@ -44,7 +44,7 @@ pub fn written<R: Runtime>(
     closed: u64,
 ) -> Result<(Status, Vec<u8>), Memory> {
     let words = words_of(alloc, words)?;
-    let mut shelf = MemoryShelf::new(files_of(alloc, files)?, Vec::new(alloc));
+    let mut shelf = MemoryShelf::new(alloc, files_of(alloc, files)?, Vec::new(alloc));
     let mut sink = MemorySink::new(alloc, 1_000_000, closed_at(alloc, closed)?);
     let status = run(rt, alloc, &words, &mut shelf, &mut sink);
     if status == Status::Memory {

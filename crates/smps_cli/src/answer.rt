@@ -1,15 +1,16 @@
 //! What a run comes to before anything is written.
-ghost use Rattle.std.specs.Prelude.{◌≡◌, ◌≢◌, ◌<◌, None, Some, IfOk, OnOk, map, string_bytes};
-ghost use Rattle.smps_io.specs.Faults.{Rose, RoseBy};
-ghost use Rattle.command_words.specs.Commands.{Asked, command_of};
+ghost use Rattle.std.specs.Prelude.{◌≡◌, ◌≢◌, ◌<◌, ◌++◌, None, IfOk, map, string_bytes};
+ghost use Rattle.smps_io.specs.Faults.{Rose};
+ghost use Rattle.smps_io.specs.Fetches.{FetchesPrefix};
+ghost use Rattle.command_words.specs.Commands.{command_of};
 ghost use Rattle.command_words.specs.Views.{asked, sources_view};
-ghost use Rattle.input_files.specs.Fetched.{AreGiven, file_limit, file_count};
+ghost use Rattle.input_files.specs.Fetched.{AreGiven, file_limit, names_in_order};
 ghost use Rattle.input_files.specs.Unfetched.{texts_view};
 ghost use Rattle.input_files.specs.declared.kind.FileKind.{FileKind};
 ghost use Rattle.program_files.specs.Meant.{AreWithin};
 ghost use Rattle.smps_cli.specs.Answers.{MayAnswer, MayAnswerFor, MayAnswerTask, MayCome, HasTexts};
 ghost use Rattle.smps_cli.specs.Makes.{MakesPlan};
-ghost use Rattle.smps_cli.specs.Sources.{fetch_count};
+ghost use Rattle.smps_cli.specs.Sources.{fetch_order};
 ghost use Rattle.smps_cli.specs.Lines.{line_with, status_line};
 
 use crate::check::checked;
@@ -69,7 +70,8 @@ fn on_files<R: Runtime, H: Shelf>(
         (kind : FileKind) → answer.status ≡ Status.ReadFault kind → Rose (H.faults shelf.old) (H.faults shelf.new)) }
     ensures long { IfOk result (λ answer. (kind : FileKind) → answer.status ≡ Status.TooLong kind → file_limit < H.given shelf.new) }
     ensures fetched { IfOk result (λ answer. HasTexts answer.status
-        → RoseBy (H.fetches shelf.old) (file_count (sources_view sources.now)) (H.fetches shelf.new)) }
+        → H.fetches shelf.new ≡ H.fetches shelf.old ++ names_in_order (sources_view sources.now)) }
+    ensures once { FetchesPrefix (H.fetches shelf.old) (names_in_order (sources_view sources.now)) (H.fetches shelf.new) }
 {
     match fetched_texts(rt, alloc, shelf, sources) {
         Ok(texts) => come(alloc, sources, task, &texts),
@@ -93,9 +95,10 @@ pub(crate) fn answered<R: Runtime, H: Shelf>(
     ensures read { IfOk result (λ answer.
         (kind : FileKind) → answer.status ≡ Status.ReadFault kind → Rose (H.faults shelf.old) (H.faults shelf.new)) }
     ensures long { IfOk result (λ answer. (kind : FileKind) → answer.status ≡ Status.TooLong kind → file_limit < H.given shelf.new) }
-    ensures fetched { IfOk result (λ answer. HasTexts answer.status → (command : Asked)
-        → command_of (map string_bytes words.now) ≡ Some command
-        → RoseBy (H.fetches shelf.old) (fetch_count command) (H.fetches shelf.new)) }
+    ensures fetched { IfOk result (λ answer. HasTexts answer.status
+        → H.fetches shelf.new ≡ H.fetches shelf.old ++ fetch_order (command_of (map string_bytes words.now))) }
+    ensures once { FetchesPrefix (H.fetches shelf.old) (fetch_order (command_of (map string_bytes words.now)))
+        (H.fetches shelf.new) }
     ensures none_fetched { command_of (map string_bytes words.now) ≡ None → H.fetches shelf.new ≡ H.fetches shelf.old }
 {
     match read_words(alloc, words)? {

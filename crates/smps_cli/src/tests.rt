@@ -356,14 +356,20 @@ fn check(
     let files = vec![in alloc; (String::from_str(alloc, "F")?, bytes)]?;
     let mut sink = MemorySink::new(alloc, 7, failing(alloc, case.faults, "put")?);
     let status = if case.faults == "sure" {
-        run(rt, alloc, &words, &mut NeverFails::new(files), &mut sink)
+        run(
+            rt,
+            alloc,
+            &words,
+            &mut NeverFails::new(alloc, files),
+            &mut sink,
+        )
     } else {
         let fails = failing(alloc, case.faults, "fetch")?;
         run(
             rt,
             alloc,
             &words,
-            &mut MemoryShelf::new(files, fails),
+            &mut MemoryShelf::new(alloc, files, fails),
             &mut sink,
         )
     };

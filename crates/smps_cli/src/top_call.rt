@@ -1,9 +1,10 @@
 //! The top call.
-ghost use Rattle.std.specs.Prelude.{◌≡◌, ◌<◌, ℕ, List, None, Some, map, string_bytes};
-ghost use Rattle.smps_io.specs.Faults.{Rose, RoseBy};
+ghost use Rattle.std.specs.Prelude.{◌≡◌, ◌<◌, ◌++◌, ℕ, List, None, map, string_bytes};
+ghost use Rattle.smps_io.specs.Faults.{Rose};
+ghost use Rattle.smps_io.specs.Fetches.{FetchesPrefix};
 ghost use Rattle.input_files.specs.Fetched.{file_limit};
-ghost use Rattle.command_words.specs.Commands.{Asked, command_of};
-ghost use Rattle.smps_cli.specs.Sources.{fetch_count};
+ghost use Rattle.command_words.specs.Commands.{command_of};
+ghost use Rattle.smps_cli.specs.Sources.{fetch_order};
 ghost use Rattle.smps_cli.specs.Answers.{Answers, HasTexts};
 ghost use Rattle.smps_cli.specs.Completes.{AsksForReport, EndsOrWantsMemory};
 ghost use Rattle.input_files.specs.declared.kind.FileKind.{FileKind};
@@ -33,8 +34,10 @@ pub fn run<R: Runtime, H: Shelf, K: Sink>(
     ensures read { (kind : FileKind) → result ≡ Status.ReadFault kind → Rose (H.faults shelf.old) (H.faults shelf.new) }
     ensures long { (kind : FileKind) → result ≡ Status.TooLong kind → file_limit < H.given shelf.new }
     ensures none_fetched { command_of (map string_bytes words.now) ≡ None → H.fetches shelf.new ≡ H.fetches shelf.old }
-    ensures fetched { HasTexts result → (command : Asked) → command_of (map string_bytes words.now) ≡ Some command
-        → RoseBy (H.fetches shelf.old) (fetch_count command) (H.fetches shelf.new) }
+    ensures fetched { HasTexts result
+        → H.fetches shelf.new ≡ H.fetches shelf.old ++ fetch_order (command_of (map string_bytes words.now)) }
+    ensures once { FetchesPrefix (H.fetches shelf.old) (fetch_order (command_of (map string_bytes words.now)))
+        (H.fetches shelf.new) }
     ensures write { result ≡ Status.WriteFault → Rose (K.faults sink.old) (K.faults sink.new) }
     ensures completes { AsksForReport (H.content shelf.old) (map string_bytes words.now)
         → (¬ Rose (H.faults shelf.old) (H.faults shelf.new))

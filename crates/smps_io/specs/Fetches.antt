@@ -1,5 +1,5 @@
--- What a fetch answers.
-use Rattle.std.specs.Prelude.{◌≡◌, ◌<◌, ◌≤◌, ◌↔◌, ℕ, List, length, Option, Result, IfSome, IfOk, IsErrOf, Vec}
+-- What a fetch answers, and what it leaves.
+use Rattle.std.specs.Prelude.{◌≡◌, ◌<◌, ◌≤◌, ◌↔◌, ℕ, List, ◌++◌, take, length, Option, Result, IfSome, IfOk, IsErrOf, Vec}
 use Rattle.std.specs.declared.alloc.Global.{Global}
 use Rattle.smps_io.specs.Faults.{Rose}
 use Rattle.smps_io.specs.Files.{Files, bytes_of}
@@ -19,3 +19,7 @@ IsTooLong limit given result = IsErrOf result TooLong ↔ (limit < given)
 pub record FetchHasCause (before now : ℕ) (result : Result (Vec ℕ Global) ShelfFault) : Type 0 where
   pub later : before ≤ now
   pub failed : IsErrOf result Failed → Rose before now
+
+-- behind those before, the first of these names were fetched, or all, in their order
+abbrev pub FetchesPrefix : List (List ℕ) → List (List ℕ) → List (List ℕ) → Type 0
+FetchesPrefix before names now = (k : ℕ) × (now ≡ before ++ take k names)

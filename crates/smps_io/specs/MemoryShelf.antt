@@ -1,12 +1,19 @@
 -- New shelves in memory.
-use Rattle.std.specs.Prelude.{ℕ, List, String, Vec}
+use Rattle.std.specs.Prelude.{◌≡◌, ℕ, List, [], String, Vec}
 use Rattle.std.specs.declared.alloc.Global.{Global}
 use Rattle.smps_io.specs.declared.memory_shelf.MemoryShelf.{MemoryShelf}
 use Rattle.smps_io.specs.declared.memory_shelf.NeverFails.{NeverFails}
 
--- no fetch was made
-abbrev pub new_shelf : Vec (String Global × Vec ℕ Global) Global → Vec ℕ Global → MemoryShelf
-new_shelf files fails = record { files = files; fails = fails; calls = 0; faults = 0; given = 0 }
+-- a shelf of these files, of whose fetches these fail, before the first fetch
+pub record IsNewShelf (files : Vec (String Global × Vec ℕ Global) Global) (fails : Vec ℕ Global) (shelf : MemoryShelf) : Type 0 where
+  pub holds : shelf.files ≡ files
+  pub failing : shelf.fails ≡ fails
+  pub unfetched : shelf.fetches.items ≡ []
+  pub unfailed : shelf.faults ≡ 0
+  pub ungiven : shelf.given ≡ 0
 
-abbrev pub sure_shelf : Vec (String Global × Vec ℕ Global) Global → NeverFails
-sure_shelf files = record { files = files; calls = 0; given = 0 }
+-- the same of a shelf that never fails
+pub record IsSureShelf (files : Vec (String Global × Vec ℕ Global) Global) (shelf : NeverFails) : Type 0 where
+  pub holds : shelf.files ≡ files
+  pub unfetched : shelf.fetches.items ≡ []
+  pub ungiven : shelf.given ≡ 0

@@ -1,7 +1,11 @@
--- What the system's edges show: how often they failed.
-use Rattle.std.specs.Prelude.{ℕ}
+-- What the system's edges show: which files were fetched, and how often they failed.
+use Rattle.std.specs.Prelude.{ℕ, List, map, string_bytes}
 use Rattle.smps_io.specs.declared.real.RealShelf.{RealShelf}
 use Rattle.smps_io.specs.declared.real.RealSink.{RealSink}
+
+-- the names of all fetches, in their order
+abbrev pub fetched_names : RealShelf → List (List ℕ)
+fetched_names shelf = map string_bytes shelf.fetches.items
 
 abbrev pub fetch_faults : RealShelf → ℕ
 fetch_faults shelf = shelf.faults

@@ -1,38 +1,36 @@
 //! Shelves in memory.
-ghost use Rattle.std.specs.Prelude.{◌≡◌, ◌≤◌, ◌+◌, ◌↔◌, Some, IfOk, IfNone, IfSome, IsErrOf, length};
+ghost use Rattle.std.specs.Prelude.{◌≡◌, ◌≤◌, ◌↔◌, ◌++◌, ◌∷◌, [], Some, IfOk, IfNone, IfSome, IsErrOf, length, map, string_bytes};
 ghost use Rattle.smps_io.specs.Files.{bytes_of, file_of};
-ghost use Rattle.smps_io.specs.Faults.{counted, RoseBy};
 ghost use Rattle.smps_io.specs.Memory.{files_of, Fails};
-ghost use Rattle.smps_io.specs.Fetches.{GivesFile, FetchHasCause, IsTooLong};
-ghost use Rattle.smps_io.specs.declared.shelf.ShelfFault.TheVariants.{Failed};
+ghost use Rattle.smps_io.specs.Fetches.{GivesFile, FetchHasCause, FetchesPrefix, IsTooLong};
+ghost use Rattle.smps_io.specs.declared.shelf.ShelfFault.TheVariants.{Failed, Memory};
 
-use crate::shelf::{Shelf, ShelfFault};
+use crate::shelf::{Shelf, ShelfFault, keep_name};
 use std::alloc::{AllocError, Global};
 use std::rt::Runtime;
 
 /// Files in memory. The fetches numbered in `fails`, counted from 1, fail, and so does a fetch of a
-/// name that it doesn't hold.
+/// name that it doesn't hold, unless memory is wanting.
 #[derive(Drop)]
 pub struct MemoryShelf {
     files: Vec<(String, Vec<u8>)>,
     fails: Vec<u64>,
-    calls: u64,
+    fetches: Vec<String>,
     faults: u64,
     given: u64,
 }
 
 impl MemoryShelf {
-    ghost use Rattle.std.specs.Prelude.{◌≡◌};
-    ghost use Rattle.smps_io.specs.MemoryShelf.{new_shelf};
+    ghost use Rattle.smps_io.specs.MemoryShelf.{IsNewShelf};
 
-    /// A shelf that was never asked.
-    pub fn new(files: Vec<(String, Vec<u8>)>, fails: Vec<u64>) -> MemoryShelf
-        ensures { result ≡ new_shelf files fails }
+    /// A shelf from which nothing was fetched.
+    pub fn new(alloc: Global, files: Vec<(String, Vec<u8>)>, fails: Vec<u64>) -> MemoryShelf
+        ensures { IsNewShelf files fails result }
     {
         MemoryShelf {
             files,
             fails,
-            calls: 0,
+            fetches: Vec::new(alloc),
             faults: 0,
             given: 0,
         }
@@ -44,7 +42,7 @@ impl Shelf for MemoryShelf {
 
     ghost faults = { λ s. s.faults };
 
-    ghost fetches = { λ s. s.calls };
+    ghost fetches = { λ s. map string_bytes s.fetches.items };
 
     ghost given = { λ s. s.given };
 
@@ -59,17 +57,22 @@ impl Shelf for MemoryShelf {
         ensures within { IfOk result (λ bytes. length bytes.items ≤ limit) }
         ensures too_long { IsTooLong limit self.new.given result }
         ensures bytes { IfOk result (λ bytes. length bytes.items ≡ self.new.given) }
-        ensures counts { RoseBy self.old.calls 1 self.new.calls }
-        ensures calls { self.new.calls ≡ counted self.old.calls 1 }
+        ensures names { ¬ IsErrOf result Memory
+            → map string_bytes self.new.fetches.items ≡ map string_bytes self.old.fetches.items ++ name.now ∷ [] }
+        ensures once { FetchesPrefix (map string_bytes self.old.fetches.items) (name.now ∷ [])
+            (map string_bytes self.new.fetches.items) }
         ensures same { Some (files_of self.new.files.items) ≡ Some (files_of self.old.files.items) }
         ensures cause { FetchHasCause self.old.faults self.new.faults result }
-        ensures failed { IsErrOf result Failed ↔ Fails (files_of self.old.files.items) self.old.fails.items
-            (counted self.old.calls 1) name.now }
+        ensures failed { ¬ IsErrOf result Memory → (IsErrOf result Failed
+            ↔ Fails (files_of self.old.files.items) self.old.fails.items (length self.new.fetches.items) name.now) }
         ensures stays { self.new.fails.items ≡ self.old.fails.items }
     {
-        self.calls = self.calls.saturating_add(1);
         self.given = 0;
-        if self.fails.contains(&self.calls) {
+        if keep_name(alloc, &mut self.fetches, name).is_err() {
+            return Err(ShelfFault::Memory);
+        }
+        let number = self.fetches.len() as u64;
+        if self.fails.contains(&number) {
             self.faults = self.faults.saturating_add(1);
             return Err(ShelfFault::Failed);
         }
@@ -86,21 +89,20 @@ impl Shelf for MemoryShelf {
 #[derive(Drop)]
 pub struct NeverFails {
     files: Vec<(String, Vec<u8>)>,
-    calls: u64,
+    fetches: Vec<String>,
     given: u64,
 }
 
 impl NeverFails {
-    ghost use Rattle.std.specs.Prelude.{◌≡◌};
-    ghost use Rattle.smps_io.specs.MemoryShelf.{sure_shelf};
+    ghost use Rattle.smps_io.specs.MemoryShelf.{IsSureShelf};
 
-    /// A shelf of these files.
-    pub fn new(files: Vec<(String, Vec<u8>)>) -> NeverFails
-        ensures { result ≡ sure_shelf files }
+    /// A shelf of these files, from which nothing was fetched.
+    pub fn new(alloc: Global, files: Vec<(String, Vec<u8>)>) -> NeverFails
+        ensures { IsSureShelf files result }
     {
         NeverFails {
             files,
-            calls: 0,
+            fetches: Vec::new(alloc),
             given: 0,
         }
     }
@@ -111,7 +113,7 @@ impl Shelf for NeverFails {
 
     ghost faults = { λ s. 0 };
 
-    ghost fetches = { λ s. s.calls };
+    ghost fetches = { λ s. map string_bytes s.fetches.items };
 
     ghost given = { λ s. s.given };
 
@@ -122,7 +124,10 @@ impl Shelf for NeverFails {
         name: &str,
         limit: u64,
     ) -> Result<Vec<u8>, ShelfFault> {
-        self.calls = self.calls.saturating_add(1);
+        self.given = 0;
+        if keep_name(alloc, &mut self.fetches, name).is_err() {
+            return Err(ShelfFault::Memory);
+        }
         let bytes = found_or_empty(&self.files, name);
         self.given = bytes.len() as u64;
         copied(alloc, bytes, limit)

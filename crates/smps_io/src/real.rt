@@ -1,7 +1,7 @@
 //! The files of the system, and standard output: the edges that no clause can see behind.
-ghost use Rattle.std.specs.Prelude.{◌≡◌, None};
+ghost use Rattle.std.specs.Prelude.{◌≡◌, None, map, string_bytes};
 
-use crate::shelf::{Shelf, ShelfFault};
+use crate::shelf::{Shelf, ShelfFault, keep_name};
 use crate::sink::{Sink, SinkFault};
 use std::alloc::Global;
 use std::fs;
@@ -12,21 +12,22 @@ use std::rt::Runtime;
 #[derive(Drop)]
 pub struct RealShelf {
     faults: u64,
-    fetches: u64,
+    fetches: Vec<String>,
     given: u64,
 }
 
 impl RealShelf {
-    ghost use Rattle.std.specs.Prelude.{◌≡◌};
-    ghost use Rattle.smps_io.specs.Real.{fetch_faults};
+    ghost use Rattle.std.specs.Prelude.{◌≡◌, []};
+    ghost use Rattle.smps_io.specs.Real.{fetch_faults, fetched_names};
 
-    /// With a count of faults of 0.
-    pub fn new() -> RealShelf
-        ensures { fetch_faults result ≡ 0 }
+    /// Before the first fetch, with a count of faults of 0.
+    pub fn new(alloc: Global) -> RealShelf
+        ensures unfailed { fetch_faults result ≡ 0 }
+        ensures unfetched { fetched_names result ≡ [] }
     {
         RealShelf {
             faults: 0,
-            fetches: 0,
+            fetches: Vec::new(alloc),
             given: 0,
         }
     }
@@ -37,7 +38,7 @@ impl Shelf for RealShelf {
 
     ghost faults = { λ s. s.faults };
 
-    ghost fetches = { λ s. s.fetches };
+    ghost fetches = { λ s. map string_bytes s.fetches.items };
 
     ghost given = { λ s. s.given };
 
@@ -48,8 +49,10 @@ impl Shelf for RealShelf {
         name: &str,
         limit: u64,
     ) -> Result<Vec<u8>, ShelfFault> {
-        self.fetches = self.fetches.saturating_add(1);
         self.given = 0;
+        if keep_name(alloc, &mut self.fetches, name).is_err() {
+            return Err(ShelfFault::Memory);
+        }
         let Ok(mut file) = fs::open(rt, name) else {
             self.faults = self.faults.saturating_add(1);
             return Err(ShelfFault::Failed);

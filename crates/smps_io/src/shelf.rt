@@ -1,10 +1,9 @@
-//! A shelf of files, and how often a fetch from it has failed.
-ghost use Rattle.std.specs.Prelude.{◌≡◌, ◌≤◌, ℕ, Option, IfOk, length};
-ghost use Rattle.smps_io.specs.Faults.{RoseBy};
+//! A shelf of files, which were fetched from it, and how often a fetch has failed.
+ghost use Rattle.std.specs.Prelude.{◌≡◌, ◌≤◌, ◌++◌, ◌∷◌, [], ℕ, List, Option, IfOk, OnOk, OnErr, IsErrOf, length, map, string_bytes};
 ghost use Rattle.smps_io.specs.Files.{Files};
-ghost use Rattle.smps_io.specs.Fetches.{GivesFile, FetchHasCause, IsTooLong};
+ghost use Rattle.smps_io.specs.Fetches.{GivesFile, FetchHasCause, FetchesPrefix, IsTooLong};
 
-use std::alloc::Global;
+use std::alloc::{AllocError, Global};
 use std::rt::Runtime;
 use thiserror::Error;
 
@@ -30,14 +29,14 @@ pub trait Shelf {
     /// How often it has failed. The count never falls; at 2^64 - 1 it stays.
     ghost faults: { Self → ℕ };
 
-    /// How many fetches there were. At 2^64 - 1 the count stays.
-    ghost fetches: { Self → ℕ };
+    /// The names of all fetches, in their order.
+    ghost fetches: { Self → List (List ℕ) };
 
     /// How many bytes the source gave at the last fetch.
     ghost given: { Self → ℕ };
 
     /// The bytes of a name, at most `limit` of them. A shelf that tells what it holds gives no bytes
-    /// for a name that it doesn't hold, or fails.
+    /// for a name that it doesn't hold, or fails. A fetch for whose name memory is wanting isn't made.
     fn fetch<R: Runtime>(
         &mut self,
         rt: &R,
@@ -49,7 +48,22 @@ pub trait Shelf {
         ensures within { IfOk result (λ bytes. length bytes.items ≤ limit) }
         ensures too_long { IsTooLong limit (given self.new) result }
         ensures bytes { IfOk result (λ bytes. length bytes.items ≡ given self.new) }
-        ensures counts { RoseBy (fetches self.old) 1 (fetches self.new) }
+        ensures names { ¬ IsErrOf result ShelfFault.Memory → fetches self.new ≡ fetches self.old ++ name.now ∷ [] }
+        ensures once { FetchesPrefix (fetches self.old) (name.now ∷ []) (fetches self.new) }
         ensures same { content self.new ≡ content self.old }
         ensures cause { FetchHasCause (faults self.old) (faults self.new) result };
+}
+
+/// Puts a name behind those before. Where memory is wanting, these stay alone.
+pub(crate) fn keep_name(
+    alloc: Global,
+    names: &mut Vec<String>,
+    name: &str,
+) -> Result<(), AllocError>
+    ensures kept { OnOk result (map string_bytes names.new.items ≡ map string_bytes names.old.items ++ name.now ∷ []) }
+    ensures same { OnErr result (names.new.items ≡ names.old.items) }
+{
+    let name = String::from_str(alloc, name)?;
+    names.push(name)?;
+    Ok(())
 }

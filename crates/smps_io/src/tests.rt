@@ -13,16 +13,16 @@ fn files(alloc: Global) -> Result<Vec<(String, Vec<u8>)>, AllocError> {
 #[test]
 fn shelves_give_fail_and_refuse(rt: HostRuntime) -> Result<(), Fail> {
     let alloc = rt.alloc();
-    let mut shelf = MemoryShelf::new(files(alloc)?, vec![in alloc; 2u64]?);
+    let mut shelf = MemoryShelf::new(alloc, files(alloc)?, vec![in alloc; 2u64]?);
     let first = shelf.fetch(&rt, alloc, "a", 5)?;
     assert!(rt; first.as_slice() == b"bytes".as_slice());
     assert!(rt; shelf.fetch(&rt, alloc, "a", 5).err() == Some(ShelfFault::Failed));
     assert!(rt; shelf.fetch(&rt, alloc, "b", 5).err() == Some(ShelfFault::Failed));
     assert!(rt; shelf.fetch(&rt, alloc, "a", 4).err() == Some(ShelfFault::TooLong));
-    let mut sure = NeverFails::new(files(alloc)?);
+    let mut sure = NeverFails::new(alloc, files(alloc)?);
     assert!(rt; sure.fetch(&rt, alloc, "b", 0)?.is_empty());
     fs::write(&rt, "shelf.txt", "a line\n")?;
-    let mut real = RealShelf::new();
+    let mut real = RealShelf::new(alloc);
     let text = real.fetch(&rt, alloc, "shelf.txt", 7)?;
     assert!(rt; text.as_slice() == b"a line\n".as_slice());
     assert!(rt; real.fetch(&rt, alloc, "shelf.txt", 6).err() == Some(ShelfFault::TooLong));

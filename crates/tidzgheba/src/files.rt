@@ -25,7 +25,11 @@ pub fn name_of<'a>(sources: &Sources<'a>, file: FileKind) -> Option<&'a str> {
 /// The bytes of a file that was read before. None where it can't be read again: a pipe gives its bytes only once.
 pub fn read_again<R: Runtime>(rt: &R, alloc: Global, name: &str) -> Option<Vec<u8>> {
     match fs::metadata(rt, name) {
-        Ok(found) if found.is_file() => { RealShelf::new().fetch(rt, alloc, name, FILE_LIMIT).ok() }
+        Ok(found) if found.is_file() => {
+            RealShelf::new(alloc)
+                .fetch(rt, alloc, name, FILE_LIMIT)
+                .ok()
+        }
         _ => None,
     }
 }

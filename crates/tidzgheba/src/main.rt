@@ -84,7 +84,13 @@ fn status_of(rt: &HostRuntime, words: &[String]) -> (Status, Opens)
     ensures { IsStatusOf (map string_bytes words.now) result.0 }
 {
     let mut sink = Watched::over(RealSink::new());
-    let status = run(rt, rt.alloc(), words, &mut RealShelf::new(), &mut sink);
+    let status = run(
+        rt,
+        rt.alloc(),
+        words,
+        &mut RealShelf::new(rt.alloc()),
+        &mut sink,
+    );
     (status, sink.opens())
 }
 

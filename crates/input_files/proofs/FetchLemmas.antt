@@ -1,0 +1,85 @@
+-- Names that were fetched, some behind others.
+use Rattle.std.proofs.Common.{◌≡◌, ℕ, ◌+◌, ◌≤◌, List, [], ◌∷◌, ◌++◌, take, length, min, sym, ap, ◌∙◌, append_assoc, arith}
+use Rattle.std.specs.Option.{option_to_list}
+use Rattle.std.proofs.lemmas.List.{append-nil, take-append-le, take_min}
+use Rattle.std.proofs.Math.Seq.{take-append-add}
+use Rattle.smps_io.specs.Fetches.{FetchesPrefix}
+use Rattle.command_words.specs.Commands.{FileNames}
+use Rattle.input_files.specs.Fetched.{names_in_order}
+
+-- none of them
+pub none_fetched : (before names now : List (List ℕ)) → now ≡ before → FetchesPrefix before names now
+none_fetched before names now e = (0, e ∙ sym (append-nil before))
+
+-- names behind names
+pub names_behind : (before first more mid now : List (List ℕ)) → mid ≡ before ++ first → now ≡ mid ++ more → now ≡ before ++ (first ++ more)
+names_behind before first more mid now e h = h ∙ ap (λ (list : List (List ℕ)). list ++ more) e ∙ append_assoc before first more
+
+-- all of the first names, and some of those behind them
+fetched_behind : (before first more mid now : List (List ℕ)) → mid ≡ before ++ first → FetchesPrefix mid more now
+    → FetchesPrefix before (first ++ more) now
+fetched_behind before first more mid now e h = (
+  length first + h.0,
+  names_behind before first (take h.0 more) mid now e h.1
+      ∙ sym (ap (λ (list : List (List ℕ)). before ++ list) (take-append-add first more h.0)),
+)
+
+-- some of the first names, and none of those behind them
+with_more : (before first more now : List (List ℕ)) → FetchesPrefix before first now → FetchesPrefix before (first ++ more) now
+with_more before first more now h =
+    let short : min h.0 (length first) ≤ length first = omega arith in (
+      min h.0 (length first),
+      h.1 ∙ ap (λ (list : List (List ℕ)). before ++ list)
+          (sym (take-append-le (min h.0 (length first)) first more short ∙ take_min h.0 first)),
+    )
+
+-- a prefix of the names up to a file is one of all names
+module _ (names : FileNames) (before now : List (List ℕ)) where
+  up_to_edits : FetchesPrefix before (names.core ∷ option_to_list names.time ++ option_to_list names.stoch ++ option_to_list names.edits) now
+      → FetchesPrefix before (names_in_order names) now
+  up_to_edits h = with_more before (names.core ∷ option_to_list names.time ++ option_to_list names.stoch ++ option_to_list names.edits)
+      (option_to_list names.report) now h
+
+  up_to_stoch : FetchesPrefix before (names.core ∷ option_to_list names.time ++ option_to_list names.stoch) now
+      → FetchesPrefix before (names_in_order names) now
+  up_to_stoch h = up_to_edits (with_more before (names.core ∷ option_to_list names.time ++ option_to_list names.stoch)
+      (option_to_list names.edits) now h)
+
+  up_to_time : FetchesPrefix before (names.core ∷ option_to_list names.time) now → FetchesPrefix before (names_in_order names) now
+  up_to_time h = up_to_stoch (with_more before (names.core ∷ option_to_list names.time) (option_to_list names.stoch) now h)
+
+  pub in_core : FetchesPrefix before (names.core ∷ []) now → FetchesPrefix before (names_in_order names) now
+  in_core h = up_to_time (with_more before (names.core ∷ []) (option_to_list names.time) now h)
+
+  pub in_time : (mid : List (List ℕ)) → mid ≡ before ++ names.core ∷ [] → FetchesPrefix mid (option_to_list names.time) now
+      → FetchesPrefix before (names_in_order names) now
+  in_time mid e h = up_to_time (fetched_behind before (names.core ∷ []) (option_to_list names.time) mid now e h)
+
+  pub in_stoch : (mid : List (List ℕ)) → mid ≡ before ++ (names.core ∷ option_to_list names.time)
+      → FetchesPrefix mid (option_to_list names.stoch) now → FetchesPrefix before (names_in_order names) now
+  in_stoch mid e h = up_to_stoch
+      (fetched_behind before (names.core ∷ option_to_list names.time) (option_to_list names.stoch) mid now e h)
+
+  pub in_edits : (mid : List (List ℕ)) → mid ≡ before ++ (names.core ∷ option_to_list names.time ++ option_to_list names.stoch)
+      → FetchesPrefix mid (option_to_list names.edits) now → FetchesPrefix before (names_in_order names) now
+  in_edits mid e h = up_to_edits
+      (fetched_behind before (names.core ∷ option_to_list names.time ++ option_to_list names.stoch) (option_to_list names.edits) mid now e h)
+
+  pub in_report : (mid : List (List ℕ))
+      → mid ≡ before ++ (names.core ∷ option_to_list names.time ++ option_to_list names.stoch ++ option_to_list names.edits)
+      → FetchesPrefix mid (option_to_list names.report) now → FetchesPrefix before (names_in_order names) now
+  in_report mid e h = fetched_behind before
+      (names.core ∷ option_to_list names.time ++ option_to_list names.stoch ++ option_to_list names.edits) (option_to_list names.report) mid now e h
+
+-- the names that were fetched up to a file
+module _ (names : FileNames) (before one two : List (List ℕ)) where
+  pub to_time : one ≡ before ++ names.core ∷ [] → two ≡ one ++ option_to_list names.time → two ≡ before ++ (names.core ∷ option_to_list names.time)
+  to_time e f = names_behind before (names.core ∷ []) (option_to_list names.time) one two e f
+
+  pub to_stoch : one ≡ before ++ (names.core ∷ option_to_list names.time) → two ≡ one ++ option_to_list names.stoch
+      → two ≡ before ++ (names.core ∷ option_to_list names.time ++ option_to_list names.stoch)
+  to_stoch e f = names_behind before (names.core ∷ option_to_list names.time) (option_to_list names.stoch) one two e f
+
+  pub to_edits : one ≡ before ++ (names.core ∷ option_to_list names.time ++ option_to_list names.stoch) → two ≡ one ++ option_to_list names.edits
+      → two ≡ before ++ (names.core ∷ option_to_list names.time ++ option_to_list names.stoch ++ option_to_list names.edits)
+  to_edits e f = names_behind before (names.core ∷ option_to_list names.time ++ option_to_list names.stoch) (option_to_list names.edits) one two e f
