@@ -16,7 +16,7 @@ use Rattle.slack_form.specs.declared.limits.Limit.{Limit}
 use Rattle.slack_form.specs.declared.limits.Limits.{Limits}
 use Rattle.slack_form.specs.Standard.{standard_of, equations, next_slack}
 use Rattle.scen_defs.specs.declared.program.NodeRow.{NodeRow}
-use Rattle.one_period.specs.declared.part.Part.{Part}
+use Rattle.interval_form.specs.declared.part.Part.{Part}
 use Rattle.one_period.specs.declared.found.Found.{Found}
 use Rattle.one_period.specs.Found.{best_walk, endless_walk, end_walk}
 

@@ -1,27 +1,28 @@
 -- The lists of values that are printed.
-use Rattle.std.proofs.Common.{◌≡◌, ℕ, zero, suc, ◌+◌, ◌<◌, ◌≤◌, Bool, true, false, List, [], ◌∷◌, ◌++◌, Ok, length, take, pos, refl, sym, ap, ◌∙◌, append_assoc, append-nil, arith}
+use Rattle.std.proofs.Common.{◌≡◌, ℕ, zero, suc, ◌+◌, ◌<◌, ◌≤◌, Bool, true, false, List, [], ◌∷◌, ◌++◌, Ok, length, pos, refl, sym, ap, ◌∙◌, append_assoc, append-nil, arith}
 use Rattle.std.proofs.lemmas.Bool.{eq-eqb, ne_eqb}
 use Rattle.std.specs.Cmp.{signed_Decides}
-use Rattle.rationals.specs.Rational.{ℚ, zero_ℚ, neg_ℚ, zero_add_ℚ}
+use Rattle.rationals.specs.Rational.{ℚ, zero_ℚ, neg_ℚ}
 use Rattle.rationals.specs.declared.Op.TheVariants.{Add}
 use Rattle.rationals.specs.Forms.{is_zero}
-use Rattle.rationals.specs.Totals.{sum_walk}
 use Rattle.rationals.proofs.Lowest.{zero_from_num}
-use Rattle.rationals.proofs.WalkLaws.{walk_value, sum_from_is}
+use Rattle.rationals.proofs.WalkLaws.{walk_value}
 use Rattle.lp_defs.specs.Walks.{after_ok, sub_walk_is}
 use Rattle.scen_defs.specs.Lists.{pick}
 use Rattle.scen_defs.specs.Values.{At, at}
 use Rattle.scen_defs.specs.Fits.{HaveNames}
 use Rattle.scen_defs.specs.declared.program.NodeRow.{NodeRow}
-use Rattle.one_period.specs.declared.part.Part.{Part}
-use Rattle.one_period.specs.declared.part.Part.TheVariants.{Above, Below, Free}
-use Rattle.one_period.specs.declared.part.Vector.{Vector}
-use Rattle.one_period.specs.declared.part.Vector.TheVariants.{Point, Direction}
-use Rattle.one_period.specs.Parts.{part_at, value_of, move_of, value_walk}
+use Rattle.interval_form.specs.declared.part.Part.{Part}
+use Rattle.interval_form.specs.declared.part.Part.TheVariants.{Above, Below, Free}
+use Rattle.interval_form.specs.declared.part.Vector.{Vector}
+use Rattle.interval_form.specs.declared.part.Vector.TheVariants.{Point, Direction}
+use Rattle.interval_form.specs.Parts.{part_at, value_of, move_of, value_walk}
+use Rattle.interval_form.specs.Rows.{row_sums, row_numbers}
+use Rattle.interval_form.proofs.OwnForms.{HaveValues}
+use Rattle.interval_form.proofs.RowLemmas.{ok_same}
+use Rattle.interval_form.proofs.SpanLists.{sums_length}
+use Rattle.one_period.specs.Node.{AreOwnRows}
 use Rattle.one_period.specs.Lists.{at_root, value_at_root, values_from, columns_from, columns_walk}
-use Rattle.one_period.specs.Rows.{limit_count, own_from, own_walk}
-use Rattle.one_period.proofs.RowLemmas.{ok_same}
-use Rattle.one_period.proofs.Sides.{own_sum, behind_row, own_sums, Agree}
 
 -- ---- the values of columns
 
@@ -52,21 +53,12 @@ columns_are v z made j (p ∷ ps) all e =
 pub columns_is : (v : Vector) (z : ℕ → ℚ) (ps : List Part) (all : List At) → columns_walk v z ps ≡ Ok all → all ≡ values_from 0 (numbers v z ps)
 columns_is v z ps all e = columns_are v z [] 0 ps all e
 
--- ---- the multipliers of rows
-
-own_are : (made : List ℚ) (rows : List NodeRow) (w all : List ℚ) → own_from made rows w ≡ Ok all → all ≡ made ++ own_sums rows w
-own_are made [] w all e = sym (ok_same made all e) ∙ sym (append-nil made)
-own_are made (r ∷ rs) w all e =
-    let a = after_ok (sum_walk (take (limit_count r.low r.high) w)) (λ y. own_from (made ++ y ∷ []) rs (behind_row r w)) all e in
-    let s : a.0 ≡ own_sum r w = sum_from_is zero_ℚ (take (limit_count r.low r.high) w) a.0 a.1 ∙ zero_add_ℚ (own_sum r w) in
-    own_are (made ++ a.0 ∷ []) rs (behind_row r w) all a.2
-    ∙ ap (λ (q : ℚ). (made ++ q ∷ []) ++ own_sums rs (behind_row r w)) s
-    ∙ append_assoc made (own_sum r w ∷ []) (own_sums rs (behind_row r w))
-
-pub own_is : (rows : List NodeRow) (w all : List ℚ) → own_walk rows w ≡ Ok all → all ≡ own_sums rows w
-own_is rows w all e = own_are [] rows w all e
-
 -- ---- numbers by their places
+
+-- y has these numbers at k, k + 1 and so on
+abbrev pub Agree : (ℕ → ℚ) → ℕ → List ℚ → Type 0
+Agree y k [] = Unit {0}
+Agree y k (d ∷ ds) = (y k ≡ d) × Agree y (suc k) ds
 
 agree_map : (y z : ℕ → ℚ) (k : ℕ) (ds : List ℚ) → ((i : ℕ) → k ≤ i → z i ≡ y i) → Agree y k ds → Agree z k ds
 agree_map y z k [] e h = tt
@@ -80,7 +72,7 @@ early k i (d ∷ ds) h = go (early (suc k) i ds (omega (arith, h))) (is_zero d)
     go rest true = rest
     go rest false = ap (λ b. pick b d (at (values_from (suc k) ds) 0 i)) (ne_eqb k i (λ e. absurd (omega (arith, e, h)))) ∙ rest
 
-pub agrees : (k : ℕ) (ds : List ℚ) → Agree (λ i. at (values_from k ds) 0 i) k ds
+agrees : (k : ℕ) (ds : List ℚ) → Agree (λ i. at (values_from k ds) 0 i) k ds
 agrees k [] = tt
 agrees k (d ∷ ds) = (go (is_zero d) refl, agree_map (λ i. at (values_from (suc k) ds) 0 i) (λ i. at (values_from k (d ∷ ds)) 0 i) (suc k) ds (λ i p. later (is_zero d) i p) (agrees (suc k) ds))
   where
@@ -103,6 +95,16 @@ column_is v z ps all j e h =
     ap (λ (l : List At). at l 0 j) (columns_is v z ps all e)
     ∙ number_at (λ i. at (values_from 0 (numbers v z ps)) 0 i) v z 0 j j ps (omega arith) (agrees 0 (numbers v z ps)) h
 
+-- numbers by the places of rows are numbers by the rows' own numbers
+by_row : (y : ℕ → ℚ) (n k : ℕ) (rows : List NodeRow) (ds : List ℚ) → AreOwnRows n k rows → length ds ≡ length rows → Agree y k ds → HaveValues y (row_numbers rows) ds
+by_row y n k [] ds a e h = tt
+by_row y n k (r ∷ rs) [] a e h = absurd (omega (arith, e))
+by_row y n k (r ∷ rs) (d ∷ ds) a e h = (ap y a.0.number ∙ h.0, by_row y n (suc k) rs ds a.1 (omega (arith, e)) h.1)
+
+-- the multipliers of rows in their list
+pub rows_have : (n : ℕ) (rows : List NodeRow) (w : List ℚ) → AreOwnRows n 0 rows → HaveValues (at (values_from 0 (row_sums rows w)) 0) (row_numbers rows) (row_sums rows w)
+rows_have n rows w a = by_row (at (values_from 0 (row_sums rows w)) 0) n 0 rows (row_sums rows w) a (sums_length rows w) (agrees 0 (row_sums rows w))
+
 -- ---- names
 
 have_names : (k n : ℕ) (ds : List ℚ) → k + length ds ≤ n → HaveNames n (values_from k ds)
@@ -120,12 +122,8 @@ numbers_length : (v : Vector) (z : ℕ → ℚ) (ps : List Part) → length (num
 numbers_length v z [] = refl
 numbers_length v z (p ∷ ps) = ap suc (numbers_length v z ps)
 
-sums_length : (rows : List NodeRow) (w : List ℚ) → length (own_sums rows w) ≡ length rows
-sums_length [] w = refl
-sums_length (r ∷ rs) w = ap suc (sums_length rs (behind_row r w))
-
 pub columns_have_names : (v : Vector) (z : ℕ → ℚ) (ps : List Part) → HaveNames (length ps) (values_from 0 (numbers v z ps))
 columns_have_names v z ps = let e : length (numbers v z ps) ≡ length ps = numbers_length v z ps in have_names 0 (length ps) (numbers v z ps) (omega arith)
 
-pub rows_have_names : (rows : List NodeRow) (w : List ℚ) → HaveNames (length rows) (values_from 0 (own_sums rows w))
-rows_have_names rows w = let e : length (own_sums rows w) ≡ length rows = sums_length rows w in have_names 0 (length rows) (own_sums rows w) (omega arith)
+pub rows_have_names : (rows : List NodeRow) (w : List ℚ) → HaveNames (length rows) (values_from 0 (row_sums rows w))
+rows_have_names rows w = let e : length (row_sums rows w) ≡ length rows = sums_length rows w in have_names 0 (length rows) (row_sums rows w) (omega arith)

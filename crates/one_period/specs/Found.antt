@@ -1,6 +1,6 @@
 -- What is found for a program of one period, operation by operation: its limits, the path of their standard form, and what
 -- is made of its end.
-use Rattle.std.specs.Prelude.{◌≡◌, ℕ, List, Ok, Err}
+use Rattle.std.specs.Prelude.{◌≡◌, ℕ, suc, List, [], ◌∷◌, Ok, Err}
 use Rattle.rationals.specs.Rational.{ℚ}
 use Rattle.rationals.specs.Passes.{then_walk}
 use Rattle.lp_defs.specs.Walks.{Walk}
@@ -15,19 +15,36 @@ use Rattle.farkas_ray.specs.declared.halted.Halted.{Halted}
 use Rattle.farkas_ray.specs.declared.halted.Halted.TheVariants as halted
 use Rattle.scen_defs.specs.Values.{At}
 use Rattle.scen_defs.specs.declared.program.Program.{Program}
+use Rattle.scen_defs.specs.declared.program.Column.{Column}
 use Rattle.scen_defs.specs.declared.program.Node.{Node}
 use Rattle.scen_defs.specs.declared.program.NodeRow.{NodeRow}
-use Rattle.one_period.specs.declared.part.Part.{Part}
-use Rattle.one_period.specs.declared.part.Vector.TheVariants.{Point, Direction}
+use Rattle.cut_defs.specs.declared.datum.ColumnBounds.{ColumnBounds}
+use Rattle.interval_form.specs.declared.part.Part.{Part}
+use Rattle.interval_form.specs.declared.part.Vector.TheVariants.{Point, Direction}
+use Rattle.interval_form.specs.Parts.{parts_from, behind_all, spread_form}
+use Rattle.interval_form.specs.Rows.{own_limits_from, bound_limits_from, own_walk}
 use Rattle.one_period.specs.declared.found.Found.{Found}
 use Rattle.one_period.specs.declared.found.Found.TheVariants as found_end
-use Rattle.one_period.specs.Parts.{parts_from, behind_all, spread_form}
-use Rattle.one_period.specs.Rows.{rows_walk, own_walk}
 use Rattle.one_period.specs.Lists.{values_from, columns_walk}
+
+-- ---- the rows
+
+-- columns j, j + 1 and so on, with their bounds
+abbrev pub bounded_from : ℕ → List Column → List ColumnBounds
+bounded_from j [] = []
+bounded_from j (c ∷ cs) = record { column = j; lower = c.lower; upper = c.upper } ∷ bounded_from (suc j) cs
+
+-- the columns of the program with their bounds
+abbrev pub program_bounds : Program → List ColumnBounds
+program_bounds program = bounded_from 0 program.columns.items
 
 -- the parts of the program's columns
 abbrev pub parts_of : Program → List Part
-parts_of program = parts_from 0 program.columns.items
+parts_of program = parts_from 0 (program_bounds program)
+
+-- the rows over the new columns of these columns: the own ones, where no column has a value from elsewhere, then the bounds
+abbrev pub rows_walk : List ColumnBounds → List NodeRow → Walk (List Limit)
+rows_walk bs rows = then_walk (own_limits_from bs (parts_from 0 bs) [] [] rows) (λ own. bound_limits_from 0 own bs)
 
 -- the standard form of the program, where these are its limits
 abbrev pub standard_seen : Program → Node → List Limit → lp.Program
@@ -72,8 +89,7 @@ path_walk program node pivots limits = end_walk (parts_of program) node.rows.ite
     (solution (standard_seen program node limits) pivots)
 
 abbrev pub found_walk : Program → Node → ℕ → Walk Found
-found_walk program node pivots =
-    then_walk (rows_walk (parts_of program) node.rows.items program.columns.items) (path_walk program node pivots)
+found_walk program node pivots = then_walk (rows_walk (program_bounds program) node.rows.items) (path_walk program node pivots)
 
 -- what a walk finds, or the operation in which it ends
 abbrev pub or_passed : Walk Found → Found

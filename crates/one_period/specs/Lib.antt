@@ -1,6 +1,4 @@
 pub mod Node
-pub mod Parts
-pub mod Rows
 pub mod Lists
 pub mod Found
 pub mod Solved

@@ -6,9 +6,9 @@ use Rattle.rationals.specs.Passes.{then_walk}
 use Rattle.lp_defs.specs.Walks.{Walk}
 use Rattle.scen_defs.specs.Lists.{pick}
 use Rattle.scen_defs.specs.Values.{At}
-use Rattle.one_period.specs.declared.part.Part.{Part}
-use Rattle.one_period.specs.declared.part.Vector.{Vector}
-use Rattle.one_period.specs.Parts.{value_walk}
+use Rattle.interval_form.specs.declared.part.Part.{Part}
+use Rattle.interval_form.specs.declared.part.Vector.{Vector}
+use Rattle.interval_form.specs.Parts.{value_walk}
 
 -- the number of a column or a row at node 0
 abbrev pub at_root : ℕ → ℚ → At

@@ -10,12 +10,11 @@ ghost use Rattle.one_period.specs.Found.{multipliers_walk, best_walk, tested_wal
 ghost use Rattle.one_period.specs.Found.{found_walk, found, IsFaultOf, StoppedBy};
 ghost use Rattle.one_period.specs.Solved.{IsSound};
 
-use crate::limits::limits;
 use crate::lists::{column_values, row_values};
-use crate::own::own_duals;
-use crate::part::{Part, Vector, parts};
+use crate::rows::{bounds, limits};
 use farkas_ray::{Halted, ray};
 use frac128::{Form, FormFault, Frac, Memory, Passed};
+use interval_form::{Part, Vector, own_duals, parts};
 use scen_defs::{Node, NodeRow, Program, Values};
 use simplex_core::{Outcome, Standard, solve};
 use slack_form::{Limits, own_duals as limit_duals, standard};
@@ -147,13 +146,15 @@ fn ended(
 }
 
 /// Follows the path of the program's standard form.
+#[tactic(auto, using(crate::proofs::Plain::bounds_length, crate::proofs::Plain::bounds_rise, crate::proofs::Plain::have_forms))]
 fn followed(alloc: Global, program: &Program, node: &Node, pivots: u64) -> Result<Found, FormFault>
     requires { IsOneNode program.now node.now }
     ensures exact { IfNotMemory result (found_walk program.now node.now pivots) }
     ensures sound { IfOk result (IsSound program.now) }
 {
-    let parts = parts(alloc, &program.columns)?;
-    let limits = limits(alloc, &parts, &program.columns, node)?;
+    let bounds = bounds(alloc, &program.columns)?;
+    let parts = parts(alloc, &bounds)?;
+    let limits = limits(alloc, &bounds, &parts, node)?;
     let standard = standard(alloc, &limits)?;
     let outcome = solve(alloc, &standard, pivots)?;
     ended(alloc, &parts, &node.rows, &limits, &standard, outcome)

@@ -3,11 +3,9 @@
 
 mod found;
 mod laws;
-mod limits;
 mod lists;
-mod own;
-mod part;
 mod report;
+mod rows;
 
 pub use laws::standard_form_means;
 pub use report::solve_program;

@@ -5,8 +5,8 @@ ghost use Rattle.frac128.specs.Faults.{FaultOf, IfNotMemory};
 ghost use Rattle.scen_defs.specs.Values.{EndsBefore};
 ghost use Rattle.one_period.specs.Lists.{columns_walk, value_at_root, values_from};
 
-use crate::part::{Part, Vector, value};
 use frac128::{Form, FormFault, Frac, Memory};
+use interval_form::{Part, Vector, value};
 use scen_defs::Values;
 use std::alloc::Global;
 
