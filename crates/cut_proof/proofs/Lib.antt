@@ -7,3 +7,4 @@ pub mod MadeFrom
 pub mod RepairLaws
 pub mod NotGood
 pub mod DatumLaws
+pub mod Steps

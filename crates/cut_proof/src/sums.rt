@@ -3,7 +3,7 @@ ghost use Rattle.std.specs.Prelude.{◌≡◌, ◌++◌, MatchResult, OnOk, Ok, 
 ghost use Rattle.frac128.specs.Faults.{FaultOf, IfNotMemory};
 ghost use Rattle.rationals.specs.Sparse.{coefficient};
 ghost use Rattle.rationals.specs.Rational.{at_most};
-ghost use Rattle.rationals.specs.Passes.{then_walk};
+ghost use Rattle.rationals.specs.Passes.{less_product_walk, then_walk};
 ghost use Rattle.rationals.specs.Forms.{EndsBelow, put};
 ghost use Rattle.scen_defs.specs.Ends.{used_end};
 ghost use Rattle.scen_model.specs.Walks.{less_from};
@@ -35,14 +35,24 @@ pub(crate) struct Worth {
     pub is_good: bool,
 }
 
+/// A number less an entry times the row's multiplier, which isn't looked up where the entry is 0.
+fn less_entry(start: Frac, entry: Frac, row: u32, multipliers: &Form) -> Result<Frac, Passed>
+    ensures { result ≡ less_product_walk start entry (coefficient multipliers.now row) }
+{
+    if entry.is_zero() {
+        Ok(start.over_one())
+    } else {
+        start.less_product(entry, multipliers.get(row as u64))
+    }
+}
+
 /// A number less, row by row, the entry of a column times the multiplier.
 fn less_rows(rows: &[NodeRow], multipliers: &Form, column: u64, start: Frac) -> Result<Frac, Passed>
     ensures { result ≡ less_from column (coefficient multipliers.now) start rows.now }
 {
     let mut rest = start;
     for row in rows {
-        let multiplier = multipliers.get(row.row as u64);
-        rest = rest.less_product(row.entries.get(column), multiplier)?;
+        rest = less_entry(rest, row.entries.get(column), row.row, multipliers)?;
     }
     Ok(rest)
 }
