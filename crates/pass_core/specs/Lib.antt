@@ -5,3 +5,4 @@ pub mod Settled
 pub mod Counting
 pub mod Versions
 pub mod Explained
+pub mod Tabled

@@ -21,7 +21,6 @@ use Rattle.pass_core.specs.declared.close.Closed.{Closed}
 use Rattle.pass_core.specs.declared.close.Multipliers.{Multipliers}
 use Rattle.pass_core.specs.declared.close.Multipliers.TheVariants.{Found, Not}
 use Rattle.pass_core.specs.Ends.{meet, falls}
-use Rattle.pass_core.specs.Explained.{PassesInAssembly}
 
 -- ---- whether nothing is left to find
 
@@ -53,10 +52,6 @@ settled kind is_closed e stop counted allowed = or_case (shown kind is_closed e)
 abbrev pub why_open : Option Open → ℕ → Open
 why_open (Some why) allowed = why
 why_open None allowed = Solves allowed
-
--- what is told is this reason, or the operation in which the assembly of a cut's multipliers ends
-abbrev pub IsReason : Open → Open → Type 0
-IsReason why told = (told ≡ why) ⊎ ((p : Operation) × (told ≡ Passed Dual p) × PassesInAssembly p)
 
 -- ---- what is claimed
 
@@ -92,6 +87,16 @@ abbrev pub by_direction : Option (List At) → Option (List At) → Open → Clo
 by_direction (Some policy) (Some direction) why = record { claim = claims.Endless policy direction; why = why }
 by_direction None (Some direction) why = ends_of None None why
 by_direction policy None why = ends_of policy None why
+
+-- the operation ends the assembly of the multipliers of a cut that the ends rest on
+pub record EndsAssembly (e : Ends) (o : Operation) : Type 0 where
+  pub cut : Stored
+  pub rests : (e.nowhere ≡ Some cut) ⊎ (cut_of e.lower ≡ Some cut)
+  pub passes : assembled cut ≡ Err o
+
+-- what is told is this reason, or the operation in which such an assembly ends
+abbrev pub IsReason : Ends → Open → Open → Type 0
+IsReason e why told = (told ≡ why) ⊎ ((o : Operation) × (told ≡ Passed Dual o) × EndsAssembly e o)
 
 -- the policy of the upper end and the multipliers of the lower one
 abbrev pub by_ends : Option (List At) → Multipliers → Open → Closed

@@ -151,7 +151,7 @@ impl State {
         ensures claim { let s = self.old in
             let case = settled s.kind s.table.closed s.ends s.stop s.counts.since_report s.budget.solves in
             IfOk result (λ closed. closed ≡ closed_by case s.ends (why_open s.stop s.budget.solves)) }
-        ensures why { IfOk result (λ closed. IsReason (why_open self.old.stop self.old.budget.solves) closed.why) }
+        ensures why { IfOk result (λ closed. IsReason self.old.ends (why_open self.old.stop self.old.budget.solves) closed.why) }
         // where nothing stopped the method and a number of solves is told, it is the number that was allowed
         ensures allowed { IfOk result (λ closed. (n : ℕ) → self.old.stop ≡ None → closed.why ≡ Open.Solves n
             → n ≡ self.old.budget.solves) }
@@ -160,7 +160,7 @@ impl State {
             let case = settled s.kind s.table.closed s.ends s.stop s.counts.since_report s.budget.solves in
             case ≡ Some Settled.Spent → s.budget.solves ≤ s.counts.since_report }
         // where the method was stopped, that is told, or the operation in which the multipliers' assembly ends
-        ensures stopped { IfOk result (λ closed. (w : OpenOf) → self.old.stop ≡ Some w → IsReason w closed.why) }
+        ensures stopped { IfOk result (λ closed. (w : OpenOf) → self.old.stop ≡ Some w → IsReason self.old.ends w closed.why) }
         // it is explained by a program and a tree that explain what stopped the method, and so is what is kept of that
         ensures explained { (p : Program) (tree : Tree) → AreExplained p tree self.old
             → IfOk result (λ closed. IsExplained p self.old.frame tree self.old.budget closed.why) }

@@ -1,18 +1,21 @@
 //! What a solve leaves.
-ghost use Rattle.std.specs.Prelude.{◌≡◌, true, false, Ok, Err, IfOk, IfSome, OnOk, OnErr};
+ghost use Rattle.std.specs.Prelude.{◌≡◌, ◌<◌, ℕ, true, false, Ok, Err, IfOk, IfSome, OnOk, OnErr};
 ghost use Rattle.rationals.specs.Passes.{Operation};
 ghost use Rattle.scen_defs.specs.Lists.{pick};
 ghost use Rattle.scen_defs.specs.Program.{content, Program as ProgramOf};
 ghost use Rattle.scen_tree.specs.Trees.{Tree as TreeOf};
+ghost use Rattle.cut_defs.specs.Stored.{source_of};
 ghost use Rattle.node_lp.specs.Told.{node_solved};
+ghost use Rattle.pass_table.specs.Machine.{Machine, Flight};
+ghost use Rattle.pass_table.specs.Fits.{Fits};
 ghost use Rattle.pass_core.specs.Lasts.{kept, joined_points};
 ghost use Rattle.pass_core.specs.Ends.{with_lower, cheaper, after_root, after_policy};
 ghost use Rattle.pass_core.specs.Counting.{first_stop, is_added, after_answer};
-ghost use Rattle.pass_core.specs.Explained.{IsTask, GivesCut, KeepsExplained};
+ghost use Rattle.pass_core.specs.Explained.{IsTask, GivesCut, FindsPoint, KeepsExplained};
+ghost use Rattle.pass_core.specs.Tabled.{pool_number, IsSolving, EndsSolve, Drops, RaisesPool, KeepsPools, committed_with, IsAbout};
 
 use crate::cost::cost;
 use crate::ends::{Bounded, Priced};
-use crate::flight;
 use crate::state::{Begun, State};
 use cut_pool::Offer;
 use cut_proof::SharedCut;
@@ -46,8 +49,11 @@ impl State {
         begun: &Begun,
         solved: Solved,
     ) -> Result<(), Memory>
-        ensures { IsTask (content program.now) self.old.frame tree.now self.old.budget.pivots begun.now.task
+        ensures explained { IsTask (content program.now) self.old.frame tree.now self.old.budget.pivots begun.now.task
             → node_solved begun.now.task ≡ solved → OnOk result (KeepsExplained (content program.now) tree.now self.old self.new) }
+        ensures tabled { (m : Machine) (f : Flight) → IsSolving self.old m f begun.now.readings.items
+            → ((k : ℕ) → m.number k ≡ pool_number self.old k) → f.node ≡ node → IsAbout node solved
+            → OnOk result (EndsSolve self.old self.new m f) }
     {
         self.counts.raise();
         match solved {
@@ -74,21 +80,23 @@ impl State {
 
     /// A solve that leaves no last solve.
     fn left_open(&mut self, stop: Open)
-        ensures { self.new ≡ record self.old { stop = first_stop self.old.stop stop; table = self.new.table } }
+        ensures drops { Drops self.old.table self.new.table }
+        ensures others { self.new ≡ record self.old { stop = first_stop self.old.stop stop; table = self.new.table } }
     {
         self.stop_at(stop);
-        flight::forget(&mut self.table);
+        self.table.forget();
     }
 
     /// A solve that ended as none does.
-    fn left_stuck(&mut self)
-        ensures { self.new ≡ record self.old {
+    pub(crate) fn left_stuck(&mut self)
+        ensures drops { Drops self.old.table self.new.table }
+        ensures others { self.new ≡ record self.old {
           stop = first_stop self.old.stop (Open.Solves self.old.budget.solves);
           table = self.new.table;
         } }
     {
         self.stuck();
-        flight::forget(&mut self.table);
+        self.table.forget();
     }
 
     /// A solve that found a point.
@@ -100,9 +108,12 @@ impl State {
         value: Frac,
         cut: Option<SharedCut>,
     ) -> Result<(), Memory>
-        ensures { (p : ProgramOf) (tree : TreeOf)
+        ensures explained { (p : ProgramOf) (tree : TreeOf) → FindsPoint p self.old.frame tree self.old.budget.pivots point
             → IfSome cut (GivesCut p self.old.frame tree self.old.budget.pivots begun.now.task.trial)
             → OnOk result (KeepsExplained p tree self.old self.new) }
+        ensures tabled { (m : Machine) (f : Flight) → IsSolving self.old m f begun.now.readings.items
+            → ((k : ℕ) → m.number k ≡ pool_number self.old k) → f.node ≡ node → IfSome cut (λ c. (source_of c).node ≡ node)
+            → OnOk result (EndsSolve self.old self.new m f) }
     {
         if !self.keep(node, &begun.task.trial, point)? {
             return Ok(());
@@ -120,9 +131,11 @@ impl State {
         value: Frac,
         cut: Option<SharedCut>,
     ) -> Result<bool, Memory>
-        ensures { (p : ProgramOf) (tree : TreeOf)
+        ensures explained { (p : ProgramOf) (tree : TreeOf)
             → IfSome cut (GivesCut p self.old.frame tree self.old.budget.pivots trial.now)
             → OnOk result (KeepsExplained p tree self.old self.new) }
+        ensures raises { IfSome cut (λ c. (source_of c).node ≡ node) → IfOk result (λ told. RaisesPool told node self.old self.new) }
+        ensures low { IfOk result (λ told. told ≡ true → 0 < node) }
     {
         match cut {
             Some(cut) if node > 0 => self.offer(cut, trial),
@@ -136,9 +149,12 @@ impl State {
 
     /// A solve that showed that there is no point.
     fn no_point(&mut self, node: u32, begun: &Begun, cut: SharedCut) -> Result<(), Memory>
-        ensures { (p : ProgramOf) (tree : TreeOf)
+        ensures explained { (p : ProgramOf) (tree : TreeOf)
             → GivesCut p self.old.frame tree self.old.budget.pivots begun.now.task.trial cut
             → OnOk result (KeepsExplained p tree self.old self.new) }
+        ensures tabled { (m : Machine) (f : Flight) → IsSolving self.old m f begun.now.readings.items
+            → ((k : ℕ) → m.number k ≡ pool_number self.old k) → f.node ≡ node → (source_of cut).node ≡ node
+            → OnOk result (EndsSolve self.old self.new m f) }
     {
         self.lasts.forget(node);
         let is_raised = self.take_ray(node, &begun.task.trial, cut)?;
@@ -148,9 +164,11 @@ impl State {
 
     /// The cut of a solve that found none: the root's shows that there is no point, another is offered. Whether a pool took it.
     fn take_ray(&mut self, node: u32, trial: &Form, cut: SharedCut) -> Result<bool, Memory>
-        ensures { (p : ProgramOf) (tree : TreeOf)
+        ensures explained { (p : ProgramOf) (tree : TreeOf)
             → GivesCut p self.old.frame tree self.old.budget.pivots trial.now cut
             → OnOk result (KeepsExplained p tree self.old self.new) }
+        ensures raises { (source_of cut).node ≡ node → IfOk result (λ told. RaisesPool told node self.old self.new) }
+        ensures low { IfOk result (λ told. told ≡ true → 0 < node) }
     {
         if node > 0 {
             return self.offer(cut, trial);
@@ -168,8 +186,10 @@ impl State {
           stop = first_stop self.old.stop (Open.Solves self.old.budget.solves);
           table = self.new.table;
         } }
-        ensures explained { (p : ProgramOf) (tree : TreeOf) → OnOk result (KeepsExplained p tree self.old self.new) }
+        ensures explained { (p : ProgramOf) (tree : TreeOf) → FindsPoint p self.old.frame tree self.old.budget.pivots point
+            → OnOk result (KeepsExplained p tree self.old self.new) }
         ensures err { OnErr result (self.new ≡ self.old) }
+        ensures drops { result ≡ Ok false → Drops self.old.table self.new.table }
     {
         match self.lasts.keep(node, trial, point) {
             Ok(()) => Ok(true),
@@ -210,9 +230,10 @@ impl State {
 
     /// Offers a cut to the pool of its node, and tells whether it was added.
     fn offer(&mut self, cut: SharedCut, trial: &Form) -> Result<bool, Memory>
-        ensures { (p : ProgramOf) (tree : TreeOf)
+        ensures explained { (p : ProgramOf) (tree : TreeOf)
             → GivesCut p self.old.frame tree self.old.budget.pivots trial.now cut
             → OnOk result (KeepsExplained p tree self.old self.new) }
+        ensures raises { IfOk result (λ told. RaisesPool told (source_of cut).node self.old self.new) }
     {
         match self.banks.offer(self.kind, cut, trial)? {
             Some(offer) => Ok(self.judged(offer)),
@@ -244,18 +265,21 @@ impl State {
 
     /// The solve becomes its node's last one; where its cut was added, the number of the node's pool rose.
     fn commit_last(&mut self, node: u32, begun: &Begun, has_point: bool, is_raised: bool)
-        ensures { self.new ≡ record self.old { table = self.new.table } }
+        ensures others { self.new ≡ record self.old { table = self.new.table } }
+        ensures commits { (m : Machine) (f : Flight) → IsSolving self.old m f begun.now.readings.items → f.node ≡ node
+            → (is_raised ≡ true → 0 < node) → Fits self.new.table (committed_with m f has_point is_raised) }
     {
         let numbers = self.banks.numbers(self.kind);
-        flight::commit(&mut self.table, numbers, &begun.readings, has_point);
+        self.table.commit(numbers, &begun.readings, has_point);
         if is_raised {
-            flight::raise(&mut self.table, node);
+            self.table.raise(node);
         }
     }
 
     /// Where the run is complete, the joined policy and its cost.
     fn complete(&mut self, alloc: Global, program: &Program, tree: &Tree) -> Result<(), Memory>
-        ensures { OnOk result (KeepsExplained (content program.now) tree.now self.old self.new) }
+        ensures explained { OnOk result (KeepsExplained (content program.now) tree.now self.old self.new) }
+        ensures pools { OnOk result (KeepsPools self.old self.new) }
     {
         if !self.table.is_complete() {
             return Ok(());
@@ -272,7 +296,7 @@ impl State {
 
     /// In a Recession run no direction is known from now on.
     fn forget_direction(&mut self)
-        ensures { self.new ≡ record self.old { ends = self.new.ends } }
+        ensures { self.new ≡ record self.old { ends = record self.old.ends { direction = self.new.ends.direction } } }
     {
         if self.kind == Kind::Recession {
             self.ends.direction = None;

@@ -1,21 +1,24 @@
 //! What an edit of the program leaves.
-ghost use Rattle.std.specs.Prelude.{◌≡◌, ◌∷◌, [], length, IfOk, OnOk};
+ghost use Rattle.std.specs.Prelude.{◌≡◌, ◌<◌, ◌∷◌, [], false, length, IfOk, OnOk};
 ghost use Rattle.scen_defs.specs.Lists.{pick};
-ghost use Rattle.scen_defs.specs.Program.{content};
+ghost use Rattle.scen_defs.specs.Program.{content, Program as ProgramOf};
 ghost use Rattle.scen_defs.specs.Valid.{IsProgram};
 ghost use Rattle.run_data.specs.Counts.{grown};
 ghost use Rattle.cut_banks.specs.Banks.{fit_banks, swept_banks, edited_banks};
 ghost use Rattle.run_data.specs.Frames.{frame_of};
 ghost use Rattle.pass_core.specs.Versions.{next_version, with_next, next_touch, next_touches, next_versions};
+ghost use Rattle.pass_table.specs.Marks.{nothing};
+ghost use Rattle.one_worker.specs.Parents.{AreParents};
 ghost use Rattle.pass_core.specs.Explained.{IsUnstopped};
+ghost use Rattle.pass_core.specs.Tabled.{IsTabled, IsUnused};
 
 use crate::ends::Ends;
-use crate::flight;
 use crate::last::Lasts;
 use crate::state::State;
 use cut_defs::{Due, Part, Touch};
 use edit_defs::Touched;
 use frac128::Memory;
+use one_worker::Turns;
 use run_data::Frame;
 use scen_defs::{Kind, Program};
 use std::alloc::Global;
@@ -80,6 +83,11 @@ impl State {
         ensures frame { OnOk result (self.new.frame ≡ pick is_grown (frame_of (content program.now)) self.old.frame) }
         ensures budget { self.new.budget ≡ self.old.budget }
         ensures reasons { OnOk result (IsUnstopped self.new) }
+        ensures kind { OnOk result (self.new.kind ≡ Kind.Feasible) }
+        // the table fits a machine of the program again, where it did so of the one before, and no node came or went untold
+        ensures tabled { let p = content program.now in (q : ProgramOf) → IsTabled q self.old
+            → (is_grown ≡ false → frame_of p ≡ self.old.frame) → length p.nodes < nothing
+            → OnOk result (IsTabled p self.new) }
     {
         self.grow(alloc, program, is_grown)?;
         self.sweep(alloc, dues)?;
@@ -95,6 +103,8 @@ impl State {
             ≡ pick is_grown (grown (length (content program.now).nodes) self.old.versions) self.old.versions) }
         ensures frame { OnOk result (self.new.frame ≡ pick is_grown (frame_of (content program.now)) self.old.frame) }
         ensures budget { self.new.budget ≡ self.old.budget }
+        ensures table { self.new.table ≡ self.old.table }
+        ensures begun { self.new.is_begun ≡ self.old.is_begun }
     {
         if !is_grown {
             return Ok(());
@@ -110,6 +120,8 @@ impl State {
         ensures versions { self.new.versions ≡ self.old.versions }
         ensures frame { self.new.frame ≡ self.old.frame }
         ensures budget { self.new.budget ≡ self.old.budget }
+        ensures table { self.new.table ≡ self.old.table }
+        ensures begun { self.new.is_begun ≡ self.old.is_begun }
     {
         for due in dues {
             self.sweep_for(alloc, due)?;
@@ -123,6 +135,8 @@ impl State {
         ensures versions { self.new.versions ≡ self.old.versions }
         ensures frame { self.new.frame ≡ self.old.frame }
         ensures budget { self.new.budget ≡ self.old.budget }
+        ensures table { self.new.table ≡ self.old.table }
+        ensures begun { self.new.is_begun ≡ self.old.is_begun }
     {
         if !self.banks.sweep(alloc, due)? {
             self.stuck();
@@ -137,32 +151,54 @@ impl State {
         ensures frame { self.new.frame ≡ self.old.frame }
         ensures budget { self.new.budget ≡ self.old.budget }
         ensures reasons { OnOk result (IsUnstopped self.new) }
+        ensures kind { OnOk result (self.new.kind ≡ Kind.Feasible) }
+        ensures unused { AreParents self.old.frame.parents → (self.old.is_begun ≡ false → is_grown ≡ false → IsUnused self.old)
+            → OnOk result (IsUnused self.new) }
     {
         self.ends = Ends::none();
+        self.lasts = Lasts::none(alloc, 0)?;
         self.stop = None;
         self.lasting = None;
         self.counts.since_item = 0;
-        if self.is_begun || is_grown {
-            self.forget(alloc)?;
-        }
+        self.renew(alloc, is_grown)?;
         self.kind = Kind::Feasible;
         self.is_begun = false;
         Ok(())
     }
 
-    /// No node has a last solve.
+    /// No node is fresh: where something was done, or nodes came or went, all solves are forgotten.
+    fn renew(&mut self, alloc: Global, is_grown: bool) -> Result<(), Memory>
+        ensures banks { self.new.banks ≡ self.old.banks }
+        ensures versions { self.new.versions ≡ self.old.versions }
+        ensures frame { self.new.frame ≡ self.old.frame }
+        ensures budget { self.new.budget ≡ self.old.budget }
+        ensures reasons { IsUnstopped self.old → IsUnstopped self.new }
+        ensures unused { AreParents self.old.frame.parents → (self.old.is_begun ≡ false → is_grown ≡ false → IsUnused self.old)
+            → OnOk result (IsUnused self.new) }
+    {
+        if self.is_begun {
+            return self.forget(alloc);
+        }
+        if is_grown {
+            return self.forget(alloc);
+        }
+        Ok(())
+    }
+
+    /// All solves are forgotten.
     fn forget(&mut self, alloc: Global) -> Result<(), Memory>
         ensures banks { self.new.banks ≡ self.old.banks }
         ensures versions { self.new.versions ≡ self.old.versions }
         ensures frame { self.new.frame ≡ self.old.frame }
         ensures budget { self.new.budget ≡ self.old.budget }
         ensures reasons { IsUnstopped self.old → IsUnstopped self.new }
+        ensures unused { AreParents self.old.frame.parents → OnOk result (IsUnused self.new) }
     {
-        self.lasts = Lasts::none(alloc, self.frame.nodes())?;
-        match flight::start(alloc, &self.frame)? {
-            Some(table) => self.table = table,
-            None => self.stuck(),
-        }
+        let Some(table) = Turns::start(alloc, self.frame.parents())? else {
+            self.stuck();
+            return Ok(());
+        };
+        self.table = table;
         Ok(())
     }
 }

@@ -1,12 +1,13 @@
 //! The opening of the next run: each pool gets a cut that holds for every dual of the run before.
 
-ghost use Rattle.std.specs.Prelude.{IfErr, OnOk};
+ghost use Rattle.std.specs.Prelude.{◌≡◌, ◌+◌, ◌<◌, ◌^◌, ℕ, true, IfErr, OnOk};
 ghost use Rattle.scen_defs.specs.Program.{content, Program as ProgramOf};
 ghost use Rattle.scen_tree.specs.Trees.{Tree as TreeOf};
 ghost use Rattle.run_data.specs.Frames.{Frame as FrameOf};
-ghost use Rattle.pass_core.specs.Explained.{FailsToOpen, KeepsExplained};
+ghost use Rattle.pass_table.specs.Machine.{Machine};
+ghost use Rattle.pass_core.specs.Explained.{AreExplained, FailsToOpen, IsCutOfSolve, KeepsExplained};
+ghost use Rattle.pass_core.specs.Tabled.{IsTabledBy, KeepsTable, KeepsPools, Opens};
 
-use crate::flight;
 use crate::last::Lasts;
 use crate::state::State;
 use cut_proof::{CutFault, SharedCut};
@@ -60,7 +61,8 @@ fn shared(
 
 /// The multipliers of a cut.
 fn dual_of(alloc: Global, cut: &SharedCut) -> Result<Values, CutFault>
-    ensures { (p : ProgramOf) (frame : FrameOf) (tree : TreeOf) → IfErr result (FailsToOpen p frame tree) }
+    ensures { (p : ProgramOf) (frame : FrameOf) (tree : TreeOf) (pivots : ℕ)
+        → IsCutOfSolve p frame tree pivots cut.now → IfErr result (FailsToOpen p frame tree pivots) }
 {
     Ok(assemble(alloc, cut.cut())?)
 }
@@ -74,7 +76,9 @@ impl State {
         program: &Program,
         tree: &Tree,
     ) -> Result<(), Memory>
-        ensures { OnOk result (KeepsExplained (content program.now) tree.now self.old self.new) }
+        ensures explained { OnOk result (KeepsExplained (content program.now) tree.now self.old self.new) }
+        ensures tabled { (p : ProgramOf) (m : Machine) → IsTabledBy p self.old m → self.old.is_begun ≡ true → m.run + 1 < 2 ^ 64
+            → OnOk result (Opens p m self.new) }
     {
         let kind = next(self.kind);
         match self.first_cuts(alloc, program, tree, kind) {
@@ -84,8 +88,10 @@ impl State {
     }
 
     fn not_opened(&mut self, fault: CutFault) -> Result<(), Memory>
-        ensures { (p : ProgramOf) (tree : TreeOf) → FailsToOpen p self.old.frame tree fault
+        ensures explained { (p : ProgramOf) (tree : TreeOf)
+            → (AreExplained p tree self.old → FailsToOpen p self.old.frame tree self.old.budget.pivots fault)
             → OnOk result (KeepsExplained p tree self.old self.new) }
+        ensures pools { OnOk result (KeepsPools self.old self.new) }
     {
         match fault {
             CutFault::Passed(passed) => {
@@ -108,7 +114,8 @@ impl State {
         tree: &Tree,
         kind: Kind,
     ) -> Result<Vec<Option<SharedCut>>, CutFault>
-        ensures { IfErr result (FailsToOpen (content program.now) self.now.frame tree.now) }
+        ensures { AreExplained (content program.now) tree.now self.now
+            → IfErr result (FailsToOpen (content program.now) self.now.frame tree.now self.now.budget.pivots) }
     {
         match self.opening_dual(alloc) {
             Ok(dual) => self.ground_cuts(alloc, program, tree, kind, &dual),
@@ -118,7 +125,8 @@ impl State {
 
     /// The dual whose cuts the next run begins with.
     fn opening_dual(&self, alloc: Global) -> Result<Values, CutFault>
-        ensures { (p : ProgramOf) (frame : FrameOf) (tree : TreeOf) → IfErr result (FailsToOpen p frame tree) }
+        ensures { (p : ProgramOf) (tree : TreeOf) → AreExplained p tree self.now
+            → IfErr result (FailsToOpen p self.now.frame tree self.now.budget.pivots) }
     {
         match (self.kind, &self.ends.root) {
             (Kind::Recession, Some(root)) => dual_of(alloc, root),
@@ -135,7 +143,7 @@ impl State {
         kind: Kind,
         dual: &Values,
     ) -> Result<Vec<Option<SharedCut>>, CutFault>
-        ensures { IfErr result (FailsToOpen (content program.now) self.now.frame tree.now) }
+        ensures { IfErr result (FailsToOpen (content program.now) self.now.frame tree.now self.now.budget.pivots) }
     {
         let nodes = self.frame.nodes();
         let mut cuts = none(alloc, nodes)?;
@@ -162,7 +170,7 @@ impl State {
         node: u32,
         cuts: &[Option<SharedCut>],
     ) -> Result<SharedCut, CutFault>
-        ensures { IfErr result (FailsToOpen (content program.now) self.now.frame tree.now) }
+        ensures { IfErr result (FailsToOpen (content program.now) self.now.frame tree.now self.now.budget.pivots) }
     {
         let version = self.versions.of(node);
         let Some(datum) = datum_of(alloc, program, &self.frame, tree, version, kind, node)? else {
@@ -179,20 +187,23 @@ impl State {
         kind: Kind,
         cuts: Vec<Option<SharedCut>>,
     ) -> Result<(), Memory>
-        ensures { (p : ProgramOf) (tree : TreeOf) → OnOk result (KeepsExplained p tree self.old self.new) }
+        ensures explained { (p : ProgramOf) (tree : TreeOf) → OnOk result (KeepsExplained p tree self.old self.new) }
+        ensures tabled { (p : ProgramOf) (m : Machine) → IsTabledBy p self.old m → self.old.is_begun ≡ true → m.run + 1 < 2 ^ 64
+            → OnOk result (Opens p m self.new) }
     {
         self.put_all(kind, &cuts)?;
         self.kind = kind;
         self.lasts = Lasts::none(alloc, self.frame.nodes())?;
         self.ends.root = None;
         self.lasting = None;
-        flight::open(&mut self.table);
+        self.table.open();
         Ok(())
     }
 
     /// Puts the cuts into the pools of a run of this kind.
     fn put_all(&mut self, kind: Kind, cuts: &[Option<SharedCut>]) -> Result<(), Memory>
-        ensures { (p : ProgramOf) (tree : TreeOf) → OnOk result (KeepsExplained p tree self.old self.new) }
+        ensures explained { (p : ProgramOf) (tree : TreeOf) → OnOk result (KeepsExplained p tree self.old self.new) }
+        ensures kept { OnOk result (KeepsTable self.old self.new) }
     {
         for place in cuts {
             self.put(kind, place)?;
@@ -202,14 +213,21 @@ impl State {
 
     /// Puts a cut, where there is one, into the pool of its node in a run of this kind; the root has none.
     fn put(&mut self, kind: Kind, place: &Option<SharedCut>) -> Result<(), Memory>
-        ensures { (p : ProgramOf) (tree : TreeOf) → OnOk result (KeepsExplained p tree self.old self.new) }
+        ensures explained { (p : ProgramOf) (tree : TreeOf) → OnOk result (KeepsExplained p tree self.old self.new) }
+        ensures kept { OnOk result (KeepsTable self.old self.new) }
     {
         let Some(cut) = place else {
             return Ok(());
         };
-        if cut.cut().node() > 0 && !self.banks.ground(kind, cut.share()?)? {
-            self.stuck();
+        if cut.cut().node() == 0 {
+            return Ok(());
         }
+        let own = cut.share()?;
+        let is_put = self.banks.ground(kind, own)?;
+        if is_put {
+            return Ok(());
+        }
+        self.stuck();
         Ok(())
     }
 }

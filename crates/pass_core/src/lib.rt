@@ -7,7 +7,6 @@ mod commit;
 mod cost;
 mod edit;
 mod ends;
-mod flight;
 mod ground;
 mod last;
 mod state;

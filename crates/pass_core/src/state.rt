@@ -1,19 +1,25 @@
 //! What is known of a program, and the next step.
-ghost use Rattle.std.specs.Prelude.{◌≡◌, None, IfOk, IfSome, OnOk};
-ghost use Rattle.scen_defs.specs.Program.{content};
-ghost use Rattle.scen_defs.specs.Valid.{IsSmall};
-ghost use Rattle.run_data.specs.Frames.{frame_of};
+ghost use Rattle.std.specs.Prelude.{◌≡◌, ◌≤◌, [], None, length, true, IfOk, IfSome, OnOk};
+ghost use Rattle.scen_defs.specs.Program.{content, Program as ProgramOf};
+ghost use Rattle.scen_tree.specs.Trees.{Tree as TreeOf};
+ghost use Rattle.scen_defs.specs.Valid.{IsSmall, IsProgram};
+ghost use Rattle.run_data.specs.Frames.{frame_of, children_in};
+ghost use Rattle.cut_banks.specs.Banks.{pools_of};
+ghost use Rattle.cut_banks.specs.Pools.{numbers_read};
+ghost use Rattle.pass_table.specs.Machine.{Machine};
 ghost use Rattle.pass_core.specs.Counting.{no_commits, with_commit, first_stop, first_or};
+ghost use Rattle.pass_core.specs.Ends.{no_ends};
 ghost use Rattle.pass_core.specs.Explained.{IsDatumOf, KeepsExplained};
+ghost use Rattle.pass_core.specs.Tabled.{IsTabled, IsTabledBy, StepsTo, IsBegunBy, EndsBegun};
 
 use crate::budget::Budget;
 use crate::ends::Ends;
-use crate::flight;
 use crate::last::Lasts;
 use cut_banks::Banks;
 use frac128::Memory;
 use node_lp::{Solved, Task, fits, solve_node};
-use pass_table::{Reading, Table};
+use one_worker::Turns;
+use pass_table::Reading;
 use proved_report::Open;
 use run_data::{Frame, Versions, datum_of};
 use scen_defs::{Kind, Program};
@@ -33,9 +39,10 @@ use std::alloc::Global;
 pub struct State {
     pub(crate) frame: Frame,
     pub(crate) budget: Budget,
-    pub(crate) table: Table,
+    pub(crate) table: Turns,
     pub(crate) kind: Kind,
     pub(crate) banks: Banks,
+    /// The last solves of the present run; no places before anything was done.
     pub(crate) lasts: Lasts,
     pub(crate) ends: Ends,
     /// How many edits touched the data of each node.
@@ -93,12 +100,17 @@ impl State {
     pub fn start(alloc: Global, program: &Program, budget: Budget) -> Result<Option<State>, Memory>
         ensures stop { IfOk result (λ all. IfSome all (λ s. s.stop ≡ None)) }
         ensures lasting { IfOk result (λ all. IfSome all (λ s. s.lasting ≡ None)) }
+        ensures ends { IfOk result (λ all. IfSome all (λ s. s.ends ≡ no_ends)) }
+        ensures points { IfOk result (λ all. IfSome all (λ s. s.lasts.nodes.items ≡ [])) }
         ensures budget { IfOk result (λ all. IfSome all (λ s. s.budget ≡ budget)) }
         ensures frame { let p = content program.now in
             IsSmall p → IfOk result (λ all. IfSome all (λ s. s.frame ≡ frame_of p)) }
+        ensures versions { let p = content program.now in
+            IsSmall p → IfOk result (λ all. IfSome all (λ s. length p.nodes ≤ length s.versions)) }
+        ensures tabled { let p = content program.now in IsProgram p → IfOk result (λ all. IfSome all (IsTabled p)) }
     {
         let frame = Frame::of(alloc, program)?;
-        let Some(table) = flight::start(alloc, &frame)? else {
+        let Some(table) = Turns::start(alloc, frame.parents())? else {
             return Ok(None);
         };
         let nodes = frame.nodes();
@@ -108,7 +120,7 @@ impl State {
             table,
             kind: Kind::Feasible,
             banks: Banks::empty(alloc, nodes)?,
-            lasts: Lasts::none(alloc, nodes)?,
+            lasts: Lasts::none(alloc, 0)?,
             ends: Ends::none(),
             versions: Versions::untouched(alloc, nodes)?,
             stop: None,
@@ -119,22 +131,43 @@ impl State {
     }
 
     /// The next step: where the run is closed the next one opens, else a node is solved. False where nothing can be done.
-    /// Where what stopped the method before is explained by the program and the tree, so is what stops it from then on.
+    /// Where what stopped the method before is explained by the program and the tree, so is what stops it from then on; and where solves
+    /// gave the cuts that its ends rest on, and found its points, so they do from then on.
     pub fn advance(&mut self, alloc: Global, program: &Program, tree: &Tree) -> Result<bool, Memory>
-        ensures { OnOk result (KeepsExplained (content program.now) tree.now self.old self.new) }
+        ensures explained { OnOk result (KeepsExplained (content program.now) tree.now self.old self.new) }
+        // the table goes on fitting a machine of the program, which takes a step
+        ensures tabled { let p = content program.now in (m : Machine) → IsProgram p → self.old.frame ≡ frame_of p → IsTabledBy p self.old m
+            → IfOk result (λ told. StepsTo p m told self.new) }
     {
-        self.is_begun = true;
+        self.get_ready(alloc)?;
+        if !self.table.has_room() {
+            return Ok(false);
+        }
         if self.table.is_closed() && self.kind != Kind::Cost {
             self.open_next(alloc, program, tree)?;
             return Ok(true);
         }
-        match flight::begin(&mut self.table) {
+        match self.table.begin() {
             Some(node) => {
                 self.solve(alloc, program, tree, node)?;
                 Ok(true)
             }
             None => Ok(false),
         }
+    }
+
+    /// Where nothing was done yet, there are places for the last solves of all nodes.
+    fn get_ready(&mut self, alloc: Global) -> Result<(), Memory>
+        ensures explained { (p : ProgramOf) (tree : TreeOf) → OnOk result (KeepsExplained p tree self.old self.new) }
+        ensures begun { OnOk result (self.new.is_begun ≡ true) }
+        ensures others { OnOk result (self.new ≡ record self.old { lasts = self.new.lasts; is_begun = self.new.is_begun }) }
+    {
+        if self.is_begun {
+            return Ok(());
+        }
+        self.lasts = Lasts::none(alloc, self.frame.nodes())?;
+        self.is_begun = true;
+        Ok(())
     }
 
     /// Solves a node that was begun, and commits.
@@ -145,14 +178,16 @@ impl State {
         tree: &Tree,
         node: u32,
     ) -> Result<(), Memory>
-        ensures { OnOk result (KeepsExplained (content program.now) tree.now self.old self.new) }
+        ensures explained { OnOk result (KeepsExplained (content program.now) tree.now self.old self.new) }
+        ensures tabled { let p = content program.now in (m : Machine) → IsProgram p → self.old.frame ≡ frame_of p
+            → IsBegunBy p self.old m node → OnOk result (EndsBegun p m self.new) }
     {
         let Some(begun) = self.begun(alloc, program, tree, node)? else {
-            self.stuck();
+            self.left_stuck();
             return Ok(());
         };
         if !fits(&begun.task) {
-            self.stuck();
+            self.left_stuck();
             return Ok(());
         }
         let solved = solve_node(alloc, &begun.task)?;
@@ -170,6 +205,9 @@ impl State {
         ensures datum { let p = content program.now in IfOk result (λ all. IfSome all (λ b.
             IsDatumOf b.task.kind p self.now.frame tree.now b.task.datum)) }
         ensures pivots { IfOk result (λ all. IfSome all (λ b. b.task.pivots ≡ self.now.budget.pivots)) }
+        ensures node { IfOk result (λ all. IfSome all (λ b. b.task.datum.node ≡ node)) }
+        ensures readings { IfOk result (λ all. IfSome all (λ b. b.readings.items
+            ≡ numbers_read (pools_of self.now.kind self.now.banks) (children_in self.now.frame node))) }
     {
         let version = self.versions.of(node);
         let Some(datum) = datum_of(alloc, program, &self.frame, tree, version, self.kind, node)?

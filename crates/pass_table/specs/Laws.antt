@@ -1,12 +1,15 @@
 -- What holds of the machine's events, and of a table that fits.
-use Rattle.std.specs.Prelude.{◌≡◌, ◌<◌, ℕ, Bool, Some, None, length, slice_index_or}
+use Rattle.std.specs.Prelude.{◌≡◌, ◌<◌, ℕ, Bool, Some, None, List, length, slice_index_or}
 use Rattle.pass_table.specs.declared.table.Table.{Table}
 use Rattle.pass_table.specs.Machine.{IsAbove, Flight, Machine, IsLive, IsChild, IsComplete, IsFlown, MayBegin, IsValid, begun, read}
 use Rattle.pass_table.specs.Machine.{dropped, committed, raised, opened}
-use Rattle.pass_table.specs.Fits.{Fits, IsHeld}
+use Rattle.pass_table.specs.Walks.{IsRising}
+use Rattle.pass_table.specs.Fits.{Fits, IsHeld, IsStart}
 
--- each event keeps a machine valid
+-- a machine is valid before any event, where the parents of its live nodes are live; and each event keeps it valid
 pub record KeepValid : Type 0 where
+  pub start : (parents : List ℕ) (m : Machine) → IsRising parents → IsStart parents m
+      → ((n : ℕ) → 0 < n → IsLive m n → IsLive m (m.parent n)) → IsValid m
   pub begin : (m : Machine) (worker n : ℕ) → IsValid m → m.flight worker ≡ None → MayBegin m n → IsValid (begun m worker n)
   pub read : (m : Machine) (worker : ℕ) (f : Flight) (c : ℕ) → IsValid m → m.flight worker ≡ Some f
       → IsValid (read m worker f c)

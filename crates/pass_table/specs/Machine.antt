@@ -154,6 +154,8 @@ pub record IsValid (m : Machine) : Type 0 where
   pub flown_live : (n worker : ℕ) (f : Flight) → IsFlown m n worker f → IsLive m n
   -- a node has one solve of the present run in flight at most
   pub alone : (n v w : ℕ) (f g : Flight) → IsFlown m n v f → IsFlown m n w g → v ≡ w
+  -- a node isn't fresh while a solve of it is in flight
+  pub flown_stale : (n worker : ℕ) (f : Flight) → IsFlown m n worker f → ¬ IsFresh m n
   pub earlier : (worker : ℕ) (f : Flight) → m.flight worker ≡ Some f → f.run ≤ m.run
 
 -- all above a node have a property that the node hasn't

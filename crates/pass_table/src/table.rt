@@ -82,7 +82,8 @@ impl Table {
         requires places { 0 < length parents.items }
         requires few { length parents.items < nothing }
         requires rising { IsRising parents.items }
-        ensures { IfOk result (λ t. (m : Machine) → IsStart parents.items m → Fits t m) }
+        ensures fits { IfOk result (λ t. (m : Machine) → IsStart parents.items m → Fits t m) }
+        ensures workers { IfOk result (λ t. length t.flights.items ≡ workers) }
     {
         let places = parents.len();
         let mut candidates = Marks::new(alloc, places as u32)?;
@@ -159,7 +160,7 @@ impl Table {
 
     /// Whether the worker has a solve in flight, of a node with a place.
     pub fn has_flight(&self, worker: u32) -> bool
-        ensures { IsTrue result → (worker < length self.now.flights.items)
+        ensures { IsTrue result ↔ (worker < length self.now.flights.items)
             × IsHeld self.now.flights.items worker (length self.now.parents.items) }
     {
         if worker as usize >= self.flights.len() {
@@ -175,7 +176,8 @@ impl Table {
     pub fn begin(&mut self, worker: u32) -> Option<u32>
         requires worker { worker < length self.old.flights.items }
         requires idle { slice_index_or self.old.flights.items worker None ≡ None }
-        ensures { (m : Machine) → IsValid m → Fits self.old m → Begins m worker result self.new }
+        ensures fits { (m : Machine) → IsValid m → Fits self.old m → Begins m worker result self.new }
+        ensures workers { length self.new.flights.items ≡ length self.old.flights.items }
     {
         let Some(node) = next_ready(
             &mut self.candidates,
@@ -203,9 +205,10 @@ impl Table {
         requires numbers { AreWithin readings.now (length numbers.now) }
         requires within { AreWithin readings.now (length self.old.parents.items) }
         requires more { self.old.commits + 1 < 2 ^ 64 }
-        ensures { (m : Machine) (f : Flight) → IsValid m → Fits self.old m → IsFlown m f.node worker f
+        ensures fits { (m : Machine) (f : Flight) → IsValid m → Fits self.old m → IsFlown m f.node worker f
             → HasRead m f numbers.now readings.now
             → Fits self.new (committed m worker f point) }
+        ensures workers { length self.new.flights.items ≡ length self.old.flights.items }
     {
         let Some(flight) = self.flights[worker as usize] else {
             unreachable!()
@@ -231,9 +234,10 @@ impl Table {
         requires worker { worker < length self.old.flights.items }
         requires held { IsHeld self.old.flights.items worker (length self.old.parents.items) }
         requires more { self.old.commits + 1 < 2 ^ 64 }
-        ensures { (m : Machine) (f : Flight) → IsValid m → Fits self.old m → m.flight worker ≡ Some f
+        ensures fits { (m : Machine) (f : Flight) → IsValid m → Fits self.old m → m.flight worker ≡ Some f
             → (f.run ≡ m.run → IsLive m f.node)
             → Fits self.new (dropped m worker) }
+        ensures workers { length self.new.flights.items ≡ length self.old.flights.items }
     {
         let Some(flight) = self.flights[worker as usize] else {
             unreachable!()
@@ -250,7 +254,8 @@ impl Table {
     pub fn raise(&mut self, pool: u32)
         requires low { 0 < pool }
         requires within { pool < length self.old.parents.items }
-        ensures { (m : Machine) → IsValid m → Fits self.old m → IsLive m pool → Fits self.new (raised m pool) }
+        ensures fits { (m : Machine) → IsValid m → Fits self.old m → IsLive m pool → Fits self.new (raised m pool) }
+        ensures workers { length self.new.flights.items ≡ length self.old.flights.items }
     {
         let parent = self.parents[pool as usize];
         let mut solve = self.solves[parent as usize];
@@ -265,7 +270,8 @@ impl Table {
     pub fn open(&mut self)
         requires places { 0 < length self.old.parents.items }
         requires more { self.old.run + 1 < 2 ^ 64 }
-        ensures { (m : Machine) (number : ℕ → ℕ) → IsValid m → Fits self.old m → Fits self.new (opened m number) }
+        ensures fits { (m : Machine) (number : ℕ → ℕ) → IsValid m → Fits self.old m → Fits self.new (opened m number) }
+        ensures workers { length self.new.flights.items ≡ length self.old.flights.items }
     {
         self.solves.as_mut_slice().fill(NO_SOLVE);
         self.flying.as_mut_slice().fill(false);
@@ -282,7 +288,8 @@ impl Table {
 
     /// Finds the two answers.
     fn answer(&mut self)
-        ensures { (m : Machine) → IsValid m → Agrees (lists_of self.old) m → Fits self.new m }
+        ensures fits { (m : Machine) → IsValid m → Agrees (lists_of self.old) m → Fits self.new m }
+        ensures workers { length self.new.flights.items ≡ length self.old.flights.items }
     {
         self.closed = are_open(&mut self.unopen, &self.parents, &self.solves);
         self.complete = are_good(&mut self.ungood, &self.parents, &self.solves);

@@ -17,7 +17,7 @@ use tree_method::Method;
 /// Solves a program on a tree by the nested method, with so many solves of nodes at most and so many pivots in each, and
 /// tests what was found before it is told: see `proved_report::report`.
 ///
-/// `OpenSolves` tells the solves that were allowed, `OpenPivots` the number of the solve whose pivots ended, counted from 1,
+/// `OpenSolves` tells the solves that were allowed, `OpenPivots` that the pivots of a solve ended, with the number of that solve, from 1,
 /// `OpenPassed` an operation that passes 128 bits and where it stands.
 pub fn session(alloc: Global, program: &Program, solves: u64, pivots: u64) -> Result<Report, Memory>
     ensures number { IfOk result (λ report. report.number ≡ 1) }

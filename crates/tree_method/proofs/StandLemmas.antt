@@ -1,11 +1,12 @@
 -- What stands on a program stands, behind an edit, on the program after it.
-use Rattle.std.proofs.Common.{◌≡◌, ℕ, zero, suc, Bool, true, false, List, [], ◌∷◌, map, length, Option, Some, None}
+use Rattle.std.proofs.Common.{◌≡◌, ℕ, ◌≤◌, zero, suc, Bool, true, false, List, [], ◌∷◌, map, length, Option, Some, None}
 use Rattle.std.proofs.Common.{refl, sym, ap, subst, ◌∙◌, inl, inr, Ok}
 use Rattle.rationals.specs.Rational.{ℚ}
 use Rattle.smps_words.specs.declared.entry.Entry.{Entry}
 use Rattle.smps_words.specs.declared.entry.Entry.TheVariants.{Cost, Matrix, Rhs}
 use Rattle.scen_defs.specs.Lists.{pick}
 use Rattle.scen_defs.specs.Program.{Node, Program, Scenario, view_of}
+use Rattle.scen_defs.specs.Valid.{IsProgram}
 use Rattle.scen_tree.specs.Trees.{Tree, children_from, position_of}
 use Rattle.scen_tree.specs.declared.position.Position.{Position}
 use Rattle.cut_defs.specs.Data.{bounds_of}
@@ -13,10 +14,12 @@ use Rattle.cut_defs.specs.declared.datum.ColumnBounds.{ColumnBounds}
 use Rattle.edit_defs.specs.declared.edit.Edit.{Edit}
 use Rattle.edit_defs.specs.declared.edit.Edit.TheVariants.{Set, Prob, Drop, Add}
 use Rattle.edit_defs.specs.After.{after, change_node, with_value, home_of}
+use Rattle.edit_defs.specs.Applies.{Applies}
 use Rattle.proved_report.specs.declared.open.Open.{Open}
 use Rattle.proved_report.specs.declared.open.Open.TheVariants.{Solves, Pivots, Passed}
 use Rattle.node_lp.specs.declared.solved.Solved.TheVariants.{PivotsEnded}
 use Rattle.scen_defs.specs.declared.report.Place.TheVariants.{Cost as AtCost}
+use Rattle.run_data.specs.declared.versions.Version.{Version}
 use Rattle.run_data.specs.Frames.{Frame, parent_of, stage_of, columns_from, frame_of}
 use Rattle.pass_core.specs.declared.budget.Budget.{Budget}
 use Rattle.pass_core.specs.Explained.{ComesOfSolve, PassesInRun, IsExplained, AreExplained, KeepsExplained}
@@ -26,7 +29,9 @@ use Rattle.tree_method.specs.declared.method.Working.{Working}
 use Rattle.tree_method.specs.declared.method.Method.{Method}
 use Rattle.tree_method.specs.declared.method.Method.TheVariants.{Working as AtWork}
 use Rattle.tree_method.specs.Edited.{is_grown, IsEdited, HasNoTree}
+use Rattle.tree_method.specs.Laws.{TouchesCarry}
 use Rattle.tree_method.specs.Stands.{LeavesOpen, TellsWhy, WorksOn, StandsOn}
+use Rattle.tree_method.proofs.Standing.{touches_stand, versions_behind}
 
 -- ---- the frame
 -- what a change of a node leaves of it, node by node
@@ -96,7 +101,8 @@ works_still p budget old new t k w = record {
   tree = w.tree ∙ ap Ok (sym t);
   frame = k.0 ∙ w.frame;
   budget_is = k.1 ∙ w.budget_is;
-  explained = subst (λ (tree : Tree). AreExplained p tree new.state) (sym t) (k.2 w.explained);
+  versions = subst (λ (vs : List Version). length p.nodes ≤ length vs) (sym k.2) w.versions;
+  explained = subst (λ (tree : Tree). AreExplained p tree new.state) (sym t) (k.3 w.explained);
 }
 
 -- an edit
@@ -105,8 +111,15 @@ works_behind p e budget old new w h = record {
   tree = h.tree;
   frame = h.frame ∙ frame_behind p e (is_grown e) refl old.state.frame w.frame;
   budget_is = h.budget ∙ w.budget_is;
+  versions = subst (λ (vs : List Version). length (after p e).nodes ≤ length vs) (sym h.versions) (versions_behind p e old.state.versions w.versions);
   explained = unstopped_is_explained (after p e) new.tree new.state h.reasons;
 }
+
+-- and what its touches carry
+pub touches_carry : (p : Program) (e : Edit) (budget : Budget) (old new : Working) → IsProgram p → Applies p e → WorksOn p budget old → IsEdited p e old new
+    → TouchesCarry p e old.state.versions new.state.versions
+touches_carry p e budget old new i a w h =
+    subst (TouchesCarry p e old.state.versions) (sym h.versions) (touches_stand p e old.state.versions i a w.versions)
 
 pub works_on : (p q : Program) (e : Edit) (old : Method) (w new : Working) → old ≡ AtWork w → q ≡ after p e → IsEdited p e w new
     → (budget : Budget) → StandsOn p budget old → WorksOn q budget new

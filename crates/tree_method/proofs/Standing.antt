@@ -1,10 +1,10 @@
 -- The touches of an edit carry the versions that stand behind it, since no two are of one node.
-use Rattle.std.proofs.Common.{◌≡◌, ℕ, zero, suc, ◌<◌, ◌≤◌, ◌-◌, List, [], ◌∷◌, length, map, take}
+use Rattle.std.proofs.Common.{◌≡◌, ℕ, zero, suc, ◌<◌, ◌≤◌, ◌-◌, Bool, true, false, List, [], ◌∷◌, length, map, take, replicate}
 use Rattle.std.proofs.Common.{Option, Some, None, refl, sym, ap, subst, ◌∙◌, arith}
-use Rattle.std.proofs.Math.ListN.{length-set}
-use Rattle.std.proofs.lemmas.List.{get_or-set_same, get_or-set_other}
+use Rattle.std.proofs.Math.ListN.{length-set, length-append, get_or-append}
+use Rattle.std.proofs.lemmas.List.{get_or-set_same, get_or-set_other, length-replicate}
 use Rattle.scen_defs.specs.Lists.{Each}
-use Rattle.scen_defs.specs.Program.{Program, node_at, is_live}
+use Rattle.scen_defs.specs.Program.{Node, Program, node_at, is_live}
 use Rattle.scen_defs.specs.Valid.{Follows, IsProgram}
 use Rattle.cut_defs.specs.declared.kinds.Part.{Part}
 use Rattle.cut_defs.specs.declared.kinds.Part.TheVariants.{Rows, Costs, Gone}
@@ -12,7 +12,7 @@ use Rattle.cut_defs.specs.declared.versions.Touch.{Touch}
 use Rattle.edit_defs.specs.declared.edit.Edit.{Edit}
 use Rattle.edit_defs.specs.declared.edit.Edit.TheVariants.{Set, Prob, Drop, Add}
 use Rattle.edit_defs.specs.declared.edit.Touched.{Touched}
-use Rattle.edit_defs.specs.After.{home_of}
+use Rattle.edit_defs.specs.After.{after, change_node, home_of, with_value}
 use Rattle.edit_defs.specs.Applies.{Applies}
 use Rattle.edit_defs.specs.Touches.{costs_of, costs_or_gone, path_of, touches}
 use Rattle.edit_defs.proofs.Kept.{home-is}
@@ -23,6 +23,7 @@ use Rattle.edit_retire.proofs.Fronts.{children_of_path}
 use Rattle.run_data.specs.declared.versions.Version.{Version}
 use Rattle.run_data.specs.Counts.{untouched, version_of}
 use Rattle.pass_core.specs.Versions.{next_version, with_next, next_touches, next_versions}
+use Rattle.tree_method.specs.Edited.{is_grown, fit_versions, raised_versions}
 use Rattle.tree_method.specs.Laws.{standing, TouchesStand}
 
 -- ---- one place
@@ -112,5 +113,67 @@ apart p (Drop name) i a =
     (path-apart p (costs_or_gone p name) (λ m. refl) 0 None path (length path) (named-fits p i name a.known).path)
 apart p (Add name parent q t) i a = path-apart p costs_of (λ m. refl) 0 None (path_of p parent) t (named-fits p i parent a.known).path
 
+-- ---- versions of nodes that came
+more-versions : (grows : Bool) (nodes : List (Option Node)) (vs : List Version) (n : ℕ) → n < length vs
+    → version_of (fit_versions grows nodes vs) n ≡ version_of vs n
+more-versions true nodes vs n l = get_or-append vs (replicate (length nodes - length vs) untouched) untouched n l
+more-versions false nodes vs n l = refl
+
+versions-last : (ts : List Touched) (vs : List Version) → length (next_versions ts vs) ≡ length vs
+versions-last [] vs = refl
+versions-last (t ∷ ts) vs = versions-last ts (with_next t.part t.node vs) ∙ length-stays t.part t.node vs
+
+-- numbers of nodes below a count
+abbrev AreBelow : ℕ → List Touched → Type 0
+AreBelow count = Each (λ (t : Touched). t.node < count)
+
+below : (count : ℕ) (ts : List Touched) → IsApart count ts → AreBelow count ts
+below count [] h = tt
+below count (t ∷ ts) h = (h.0, below count ts h.2)
+
+carried : (ts : List Touched) (vs us ws : List Version) → AreBelow (length us) ts
+    → ((n : ℕ) → n < length us → version_of ws n ≡ version_of us n)
+    → Each (λ (u : Touch). u.version ≡ standing u.part u.node us) (next_touches ts vs)
+    → Each (λ (u : Touch). u.version ≡ standing u.part u.node ws) (next_touches ts vs)
+carried [] vs us ws b f h = tt
+carried (t ∷ ts) vs us ws b f h = (
+  h.0 ∙ sym (same-standing t.part t.node ws us (f t.node b.0)),
+  carried ts (with_next t.part t.node vs) us ws b.1 f h.1,
+)
+
 pub touches_stand : TouchesStand
-touches_stand p e versions i a l = stand (touches p e) versions (more (length p.nodes) (length versions) (touches p e) l (apart p e i a))
+touches_stand p e versions i a l =
+    let ts : List Touched = touches p e in
+    let us : List Version = next_versions ts versions in
+    let apart : IsApart (length versions) ts = more (length p.nodes) (length versions) ts l (apart p e i a) in
+    carried ts versions us (raised_versions p e versions)
+    (subst (λ (k : ℕ). AreBelow k ts) (sym (versions-last ts versions)) (below (length versions) ts apart))
+    (more-versions (is_grown e) (after p e).nodes us)
+    (stand ts versions apart)
+
+-- ---- the number of nodes, where none comes or goes
+changed-long : (n : ℕ) (f : Node → Node) (nodes : List (Option Node)) → length (change_node n f nodes) ≡ length nodes
+changed-long n f [] = refl
+changed-long zero f (None ∷ nodes) = refl
+changed-long zero f (Some x ∷ nodes) = refl
+changed-long (suc n) f (place ∷ nodes) = ap suc (changed-long n f nodes)
+
+nodes-last : (p : Program) (e : Edit) → is_grown e ≡ false → length (after p e).nodes ≡ length p.nodes
+nodes-last p (Set name entry v) g = changed-long (home_of p name entry) (with_value p entry v) p.nodes
+nodes-last p (Prob name q) g = refl
+nodes-last p (Drop name) g = absurd (cc)
+nodes-last p (Add name parent q t) g = absurd (cc)
+
+fitted-long : (p : Program) (e : Edit) (grows : Bool) (vs : List Version) → is_grown e ≡ grows → length p.nodes ≤ length vs
+    → length (after p e).nodes ≤ length (fit_versions grows (after p e).nodes vs)
+fitted-long p e true vs g l =
+    let count : ℕ = length (after p e).nodes in
+    omega (arith, length-append vs (replicate (count - length vs) untouched), length-replicate (count - length vs) untouched)
+fitted-long p e false vs g l = let same : length (after p e).nodes ≡ length p.nodes = nodes-last p e g in omega (arith, same, l)
+
+-- behind an edit there are versions of all nodes
+pub versions_behind : (p : Program) (e : Edit) (versions : List Version) → length p.nodes ≤ length versions
+    → length (after p e).nodes ≤ length (raised_versions p e versions)
+versions_behind p e versions l =
+    let same : length (next_versions (touches p e) versions) ≡ length versions = versions-last (touches p e) versions in
+    fitted-long p e (is_grown e) (next_versions (touches p e) versions) refl (omega (arith, same, l))

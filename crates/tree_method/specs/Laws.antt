@@ -7,11 +7,9 @@ use Rattle.cut_defs.specs.declared.kinds.Part.{Part}
 use Rattle.cut_defs.specs.declared.kinds.Part.TheVariants.{Rows, Costs, Gone}
 use Rattle.edit_defs.specs.declared.edit.Edit.{Edit}
 use Rattle.edit_defs.specs.Applies.{Applies}
-use Rattle.edit_defs.specs.Touches.{touches}
 use Rattle.run_data.specs.declared.versions.Version.{Version}
 use Rattle.run_data.specs.Counts.{version_of}
-use Rattle.pass_core.specs.Versions.{next_versions}
-use Rattle.tree_method.specs.Edited.{touches_of}
+use Rattle.tree_method.specs.Edited.{touches_of, raised_versions}
 
 -- the version of a part of node n; what is gone has version 1
 abbrev pub standing : Part → ℕ → List Version → ℕ
@@ -19,9 +17,12 @@ standing Rows n versions = (version_of versions n).rows
 standing Costs n versions = (version_of versions n).costs
 standing Gone n versions = 1
 
+-- each touch of an edit carries the version that its part has among the new ones
+abbrev pub TouchesCarry : Program → Edit → List Version → List Version → Type 0
+TouchesCarry p e old new = Each (λ t. t.version ≡ standing t.part t.node new) (touches_of p e old)
+
 -- Where an edit applies to a program, and there are versions of all its nodes, each touch of the edit carries the version that its part
 -- has behind the edit.
 abbrev pub TouchesStand : Type 0
 TouchesStand = (p : Program) (e : Edit) (versions : List Version)
-    → IsProgram p → Applies p e → length p.nodes ≤ length versions
-    → Each (λ t. t.version ≡ standing t.part t.node (next_versions (touches p e) versions)) (touches_of p e versions)
+    → IsProgram p → Applies p e → length p.nodes ≤ length versions → TouchesCarry p e versions (raised_versions p e versions)

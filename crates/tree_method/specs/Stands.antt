@@ -1,5 +1,5 @@
 -- On which program the method stands, why it leaves a report of it open, and how it goes on behind an edit.
-use Rattle.std.specs.Prelude.{◌≡◌, ◌⊎◌, ℕ, Ok}
+use Rattle.std.specs.Prelude.{◌≡◌, ◌⊎◌, ℕ, ◌≤◌, length, Ok}
 use Rattle.rationals.specs.Passes.{Operation}
 use Rattle.scen_defs.specs.Program.{Program}
 use Rattle.scen_defs.specs.declared.report.Place.{Place}
@@ -18,6 +18,7 @@ use Rattle.tree_method.specs.declared.method.Method.TheVariants.{Working as AtWo
 use Rattle.edit_defs.specs.declared.edit.Edit.{Edit}
 use Rattle.edit_defs.specs.After.{after}
 use Rattle.tree_method.specs.Edited.{IsEdited, HasNoTree}
+use Rattle.tree_method.specs.Laws.{TouchesCarry}
 
 -- ---- why a report is left open
 -- the program has a tree, of which this holds
@@ -47,11 +48,13 @@ pub record TellsWhy (p : Program) (budget : Budget) (found : Found) : Type 0 whe
   pub place : found.place ≡ Cost commits
 
 -- ---- the method
--- at work on a program with this budget: the tree and the frame are the program's, and each reason that is kept is explained
+-- at work on a program with this budget: the tree and the frame are the program's, there are versions of all its nodes, and each reason
+-- that is kept is explained
 pub record WorksOn (p : Program) (budget : Budget) (w : Working) : Type 0 where
   pub tree : tree_walk p ≡ Ok w.tree
   pub frame : w.state.frame ≡ frame_of p
   pub budget_is : w.state.budget ≡ budget
+  pub versions : length p.nodes ≤ length w.state.versions
   pub explained : AreExplained p w.tree w.state
 
 -- it is at work on the program, or tells why it can't be
@@ -65,3 +68,9 @@ abbrev pub GoesOn : Program → Edit → Method → Method → Type 0
 GoesOn p e (AtWork old) (AtWork new) = IsEdited p e old new
 GoesOn p e (AtWork old) (Idle why own) = (own ≡ old.state.budget) × HasNoTree (after p e) why
 GoesOn p e (Idle why own) new = StandsOn (after p e) own new
+
+-- Behind an edit, where the method goes on with what it has, each touch of the edit carries the version that its part has from then on.
+abbrev pub CarriesVersions : Program → Edit → Method → Method → Type 0
+CarriesVersions p e (AtWork old) (AtWork new) = TouchesCarry p e old.state.versions new.state.versions
+CarriesVersions p e (AtWork old) (Idle why own) = Unit {0}
+CarriesVersions p e (Idle why own) new = Unit {0}

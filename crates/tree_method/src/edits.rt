@@ -13,7 +13,7 @@ ghost use Rattle.pass_core.specs.Explained.{IsUnstopped};
 ghost use Rattle.run_data.specs.Frames.{frame_of};
 ghost use Rattle.scen_defs.specs.Lists.{pick};
 ghost use Rattle.tree_method.specs.Edited.{is_grown, dues_of, fit_versions, IsEdited, HasNoTree};
-ghost use Rattle.tree_method.specs.Stands.{StandsOn, GoesOn};
+ghost use Rattle.tree_method.specs.Stands.{StandsOn, GoesOn, CarriesVersions};
 
 use crate::method::{Method, Working, treeless};
 use cut_defs::Due;
@@ -44,7 +44,9 @@ impl Working {
         ensures dues { IfOk result (λ dues. dues.items ≡ dues_of (content program.now) edit.now self.old.state.versions) }
         ensures versions { OnOk result (self.new.state.versions
             ≡ next_versions (touches (content program.now) edit.now) self.old.state.versions) }
-        ensures others { OnOk result (self.new ≡ record self.old { state = record self.old.state { versions = self.new.state.versions } }) }
+        ensures others { OnOk result (self.new ≡ record self.old {
+          state = record self.old.state { versions = self.new.state.versions };
+        }) }
     {
         let touched = touches(alloc, program, edit)?;
         let raised = self.state.touch(alloc, &touched)?;
@@ -126,6 +128,8 @@ impl Method {
         // what stands on the program before the edit stands on the program after it
         ensures stands { (budget : BudgetOf) → StandsOn (content program.old) budget self.old
             → OnOk result (StandsOn (content program.new) budget self.new) }
+        ensures touches { (budget : BudgetOf) → StandsOn (content program.old) budget self.old
+            → OnOk result (CarriesVersions (content program.old) edit.now self.old self.new) }
     {
         match self {
             Method::Working(working) => {

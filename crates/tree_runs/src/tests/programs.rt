@@ -2,6 +2,8 @@
 
 /// - A farm sows 500 acres before the yields are known (Birge and Louveaux, section 1.1): 170 of wheat, 80 of corn and 250 of beets, with
 ///   an expected profit of 108,390.
+/// - Power plants are built before the load is known (Louveaux and Smeers, 1988; as LandS in the usual collections): the published least
+///   cost is 381.853.
 /// - Three periods with independent cases in the third: the cost is 45/8 + 1 + 9/4 + 3/2 + 1/2.
 /// - The same with three solves, which are those of the nodes 0, 1 and 2: nothing is known yet.
 pub(super) const PROGRAMS: &str = "\
@@ -66,6 +68,80 @@ UPPER -108390
 0 WHEAT 170
 0 CORN 80
 0 BEETS 250
+END
+#solve --core C --time T --stoch S|0
+C
+NAME PLANTS
+ROWS
+ N COST
+ G CAPACITY
+ L BUDGET
+ L USE1
+ L USE2
+ L USE3
+ L USE4
+ G MODE1
+ G MODE2
+ G MODE3
+COLUMNS
+ X1 COST 10 CAPACITY 1
+ X1 BUDGET 10 USE1 -1
+ X2 COST 7 CAPACITY 1
+ X2 BUDGET 7 USE2 -1
+ X3 COST 16 CAPACITY 1
+ X3 BUDGET 16 USE3 -1
+ X4 COST 6 CAPACITY 1
+ X4 BUDGET 6 USE4 -1
+ Y11 COST 40 USE1 1
+ Y11 MODE1 1
+ Y21 COST 45 USE2 1
+ Y21 MODE1 1
+ Y31 COST 32 USE3 1
+ Y31 MODE1 1
+ Y41 COST 55 USE4 1
+ Y41 MODE1 1
+ Y12 COST 24 USE1 1
+ Y12 MODE2 1
+ Y22 COST 27 USE2 1
+ Y22 MODE2 1
+ Y32 COST 19.2 USE3 1
+ Y32 MODE2 1
+ Y42 COST 33 USE4 1
+ Y42 MODE2 1
+ Y13 COST 4 USE1 1
+ Y13 MODE3 1
+ Y23 COST 4.5 USE2 1
+ Y23 MODE3 1
+ Y33 COST 3.2 USE3 1
+ Y33 MODE3 1
+ Y43 COST 5.5 USE4 1
+ Y43 MODE3 1
+RHS
+ RHS CAPACITY 12 BUDGET 120
+ RHS MODE1 5 MODE2 3
+ RHS MODE3 2
+ENDATA
+|
+T
+TIME PLANTS
+PERIODS
+ X1 COST TODAY
+ Y11 USE1 LATER
+ENDATA
+|
+S
+STOCH PLANTS
+INDEP DISCRETE
+ RHS MODE1 3 LATER 0.3
+ RHS MODE1 5 LATER 0.4
+ RHS MODE1 7 LATER 0.3
+ENDATA
+|
+some
+REPORT 1 NODES 4 SCENARIOS 3
+STATUS OPTIMAL
+LOWER 28639/75
+UPPER 28639/75
 END
 #solve --core C --time T --stoch S|0
 three

@@ -9,10 +9,10 @@ returns-clause-why c =
     c.in_ok-closed.closed c.in_ok-closed.ensures
 
 pub returns-clause-allowed : goal.returns-clause-allowed
-returns-clause-allowed c = λ n e t. told_allowed c.args.self.now.stop c.args.self.now.budget.solves n c.in_ok-closed.closed.why (returns-clause-why c) e t
+returns-clause-allowed c = λ n e t. told_allowed c.args.self.now.ends c.args.self.now.stop c.args.self.now.budget.solves n c.in_ok-closed.closed.why (returns-clause-why c) e t
 
 pub returns-clause-stopped : goal.returns-clause-stopped
-returns-clause-stopped c = λ w e. told_stopped c.args.self.now.stop c.args.self.now.budget.solves w c.in_ok-closed.closed.why (returns-clause-why c) e
+returns-clause-stopped c = λ w e. told_stopped c.args.self.now.ends c.args.self.now.stop c.args.self.now.budget.solves w c.in_ok-closed.closed.why (returns-clause-why c) e
 
 pub returns-clause-explained : goal.returns-clause-explained
 returns-clause-explained c = λ p tree h. told_explained p tree c.args.self.now c.in_ok-closed.closed.why (returns-clause-why c) h

@@ -1,7 +1,21 @@
-use Rattle.pass_core.proofs.Explaining.{then_kept, table_kept}
+use Rattle.pass_core.specs.declared.state.State.{State}
+use Rattle.std.proofs.Common.{false, refl}
+use Rattle.pass_core.proofs.Tabling.{lasts_keeps, offered_ends}
+use Rattle.pass_core.proofs.Explaining.{then_kept, table_kept, forgotten_kept}
 use Rattle.pass_core.proofs.state.State.no_point.Goals as goal
 
-pub returns : goal.returns
-returns c = λ p tree g.
-    then_kept p tree c.args.self.now c.take_ray.new.self c.commit_last.new.self (c.in_ok-is_raised.ensures p tree g)
-    (table_kept p tree c.take_ray.new.self c.commit_last.new.self c.commit_last.ensures)
+pub returns-clause-explained : goal.returns-clause-explained
+returns-clause-explained c = λ p tree g.
+    let s : State = record c.args.self.now { lasts = c.forget.new.self } in
+    then_kept p tree c.args.self.now c.take_ray.new.self c.commit_last.new.self
+    (then_kept p tree c.args.self.now s c.take_ray.new.self
+    (forgotten_kept p tree c.args.self.now c.forget.new.self c.args.node c.forget.ensures) (c.in_ok-is_raised.ensures.explained p tree g))
+    (table_kept p tree c.take_ray.new.self c.commit_last.new.self c.commit_last.ensures.others)
+
+pub returns-clause-tabled : goal.returns-clause-tabled
+returns-clause-tabled c = λ m f solving number node about.
+    let s : State = record c.args.self.now { lasts = c.forget.new.self } in
+    offered_ends c.in_ok-is_raised.is_raised false c.args.node c.args.self.now s c.take_ray.new.self c.commit_last.new.self m f
+    c.args.begun.now.readings.items _ solving number node (lasts_keeps c.args.self.now s c.forget.new.self refl)
+    (c.in_ok-is_raised.ensures.raises about) c.in_ok-is_raised.ensures.low c.commit_last.ensures.others
+    (λ still. c.commit_last.ensures.commits m f still node c.in_ok-is_raised.ensures.low)

@@ -3,13 +3,25 @@ use Rattle.cut_defs.specs.Stored.{source_of}
 use Rattle.cut_banks.specs.Banks.{pools_of}
 use Rattle.pass_core.specs.declared.state.State.{State}
 use Rattle.pass_core.specs.Explained.{KeepsExplained}
+use Rattle.pass_core.proofs.Tabling.{offered, unanswered, stop_keeps}
 use Rattle.pass_core.proofs.Explaining.{offer_kept, offer_passes}
 use Rattle.pass_core.proofs.state.State.offer.Goals as goal
 
-pub returns-in-Some : goal.returns-in-Some
-returns-in-Some c = λ p tree g.
+pub returns-in-Some-clause-explained : goal.returns-in-Some-clause-explained
+returns-in-Some-clause-explained c = λ p tree g.
     let s : State = record c.args.self.now { banks = c.offer.new.self } in
     subst (λ (t : State). KeepsExplained p tree c.args.self.now t) (sym c.judged.ensures.state)
     (offer_kept p tree s c.in-Some.offer
     (offer_passes p c.args.self.now.frame tree c.args.self.now.budget.pivots c.args.trial.now c.args.cut (source_of c.args.cut).node
     (pools_of c.args.self.now.kind c.args.self.now.banks) c.in-Some.offer g (sym c.in-Some.is ∙ c.in_ok-offer.ensures.answer)))
+
+pub returns-in-Some-clause-raises : goal.returns-in-Some-clause-raises
+returns-in-Some-clause-raises c =
+    offered c.args.self.now c.judged.new.self c.args.cut c.args.trial.now c.offer.new.self c.in-Some.offer c.judged.result
+    (sym c.in-Some.is ∙ c.in_ok-offer.ensures.answer) c.in_ok-offer.ensures.ok c.judged.ensures.added c.judged.ensures.state
+
+pub returns-in-None-clause-raises : goal.returns-in-None-clause-raises
+returns-in-None-clause-raises c =
+    let s : State = record c.args.self.now { banks = c.offer.new.self } in
+    unanswered c.args.self.now c.stuck.new.self c.args.cut c.args.trial.now c.offer.new.self
+    (sym c.in-None.is ∙ c.in_ok-offer.ensures.answer) c.in_ok-offer.ensures.ok (stop_keeps s c.stuck.new.self _ c.stuck.ensures)

@@ -1,4 +1,25 @@
+use Rattle.std.proofs.Common.{refl, sym, subst}
+use Rattle.pass_core.specs.Explained.{PointsAreFound}
+use Rattle.pass_core.proofs.Tabling.{run_opened}
+use Rattle.pass_core.proofs.Explaining.{none_found}
 use Rattle.pass_core.proofs.state.State.open.Goals as goal
 
-pub returns : goal.returns
-returns c = λ p tree. let k = c.in_ok-put_all.ensures p tree in (k.0, k.1, λ h. ((k.2 h).0, tt))
+pub returns-clause-explained : goal.returns-clause-explained
+returns-clause-explained c = λ p tree.
+    let k = c.in_ok-put_all.ensures.explained p tree in
+    let s = c.put_all.new.self in (
+      k.0,
+      k.1,
+      k.2,
+      λ h.
+          let e = k.3 h in (
+            e.0,
+            tt,
+            record { root = tt; lower = e.2.lower; nowhere = e.2.nowhere },
+            subst (PointsAreFound p s.frame tree s.budget.pivots) (sym c.in_ok-self.ensures) (none_found p tree s.frame s.budget.pivots _),
+          ),
+    )
+
+pub returns-clause-tabled : goal.returns-clause-tabled
+returns-clause-tabled c = λ p m t z room.
+    run_opened p m c.args.self.now c.put_all.new.self _ t z c.in_ok-put_all.ensures.kept refl refl refl (λ number fits. c.open.ensures m number t.valid fits room)

@@ -1,7 +1,11 @@
 use Rattle.scen_defs.specs.Program.{Program}
 use Rattle.scen_tree.specs.Trees.{Tree}
 use Rattle.pass_core.specs.Explained.{KeepsExplained}
+use Rattle.pass_core.specs.Tabled.{KeepsTable}
 use Rattle.pass_core.proofs.state.State.put_all.Given as goal
 
 abbrev pub invariant-loop-place : goal.invariant-loop-place
-invariant-loop-place l = (p : Program) (tree : Tree) → KeepsExplained p tree l.initial.self l.self
+invariant-loop-place l = record {
+  explained : (p : Program) (tree : Tree) → KeepsExplained p tree l.initial.self l.self;
+  kept : KeepsTable l.initial.self l.self;
+}

@@ -11,6 +11,8 @@ loop-due-preserved c = record {
   versions = c.sweep_for.ensures.versions ∙ c.loop-due.invariant.versions;
   frame = c.sweep_for.ensures.frame ∙ c.loop-due.invariant.frame;
   budget = c.sweep_for.ensures.budget ∙ c.loop-due.invariant.budget;
+  table = c.sweep_for.ensures.table ∙ c.loop-due.invariant.table;
+  begun = c.sweep_for.ensures.begun ∙ c.loop-due.invariant.begun;
 }
 
 pub returns-clause-banks : goal.returns-clause-banks

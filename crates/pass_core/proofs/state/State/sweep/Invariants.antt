@@ -8,4 +8,6 @@ invariant-loop-due l = record {
   versions : l.self.versions ≡ l.initial.self.versions;
   frame : l.self.frame ≡ l.initial.self.frame;
   budget : l.self.budget ≡ l.initial.self.budget;
+  table : l.self.table ≡ l.initial.self.table;
+  begun : l.self.is_begun ≡ l.initial.self.is_begun;
 }

@@ -1,7 +1,11 @@
-use Rattle.std.proofs.Common.{rules}
+use Rattle.std.proofs.Common.{rules, sym, subst}
 use Rattle.scen_defs.specs.Program.{content}
+use Rattle.script_steps.proofs.StepLemmas.{edit_applies}
+use Rattle.tree_method.specs.declared.method.Method.{Method}
+use Rattle.tree_method.specs.declared.method.Method.TheVariants.{Working as AtWork}
 use Rattle.tree_method.specs.Edited.{IsEdited}
-use Rattle.tree_method.proofs.StandLemmas.{works_on}
+use Rattle.tree_method.specs.Stands.{StandsOn, CarriesVersions}
+use Rattle.tree_method.proofs.StandLemmas.{works_on, touches_carry}
 use Rattle.tree_method.proofs.method.Method.edit.Goals as goal
 
 pub returns-in_default-clause-stands : goal.returns-in_default-clause-stands
@@ -9,3 +13,12 @@ returns-in_default-clause-stands c =
     let edited : IsEdited (content c.args.program.now) c.args.edit.now c.in-Working.working c.edit.new.self = search rules in
     works_on (content c.args.program.now) (content c.edit.new.program) c.args.edit.now c.args.self.now c.in-Working.working c.edit.new.self
     c.in-Working.is c.in_ok-why-in-Working.ensures.after edited
+
+pub returns-in_default-clause-touches : goal.returns-in_default-clause-touches
+returns-in_default-clause-touches c = λ budget s.
+    let p = content c.args.program.now in
+    let e = c.args.edit.now in
+    let edited : IsEdited p e c.in-Working.working c.edit.new.self = search rules in
+    subst (λ (m : Method). CarriesVersions p e m (AtWork c.edit.new.self)) (sym c.in-Working.is)
+    (touches_carry p e budget c.in-Working.working c.edit.new.self c.requires.program (edit_applies p e c.requires.allowed)
+    (subst (StandsOn p budget) c.in-Working.is s) edited)

@@ -8,7 +8,7 @@ use Rattle.tree_method.proofs.method.Working.run.Goals.{then-is_ripe-via-then-is
 
 pub loop-preserved : goal.loop-preserved
 loop-preserved c = λ budget w. works_still (content c.args.program.now) budget c.loop.self
-    (record { state = c.advance.new.self; tree = c.loop.self.tree }) refl c.in_ok-advance.ensures (c.loop.invariant budget w)
+    (record { state = c.advance.new.self; tree = c.loop.self.tree }) refl c.in_ok-advance.ensures.explained (c.loop.invariant budget w)
 
 pub returns-then-is_ripe : goal.returns-then-is_ripe
 returns-then-is_ripe c = elim c.then-is_ripe.branch [
@@ -17,5 +17,5 @@ returns-then-is_ripe c = elim c.then-is_ripe.branch [
   | then-is_ripe-via-else-is_ripe+in_ok-advance+then-not-branch way ↦ λ budget w.
       subst (λ (working : Working). WorksOn (content c.args.program.now) budget working) (sym way.self-is)
       (works_still (content c.args.program.now) budget c.loop.self
-      (record { state = way.advance.new.self; tree = c.loop.self.tree }) refl way.in_ok-advance.ensures (c.loop.invariant budget w))
+      (record { state = way.advance.new.self; tree = c.loop.self.tree }) refl way.in_ok-advance.ensures.explained (c.loop.invariant budget w))
 ]

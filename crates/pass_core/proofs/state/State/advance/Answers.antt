@@ -1,0 +1,42 @@
+use Rattle.std.proofs.Common.{◌≡◌, true, false, refl, ap, ◌∙◌}
+use Rattle.scen_defs.specs.Program.{content}
+use Rattle.pass_core.specs.declared.state.State.{State}
+use Rattle.pass_core.specs.Tabled.{IsTabledBy, HasRoom, IsBegunBy}
+use Rattle.pass_core.proofs.Tabling.{ready_tabled, refit, room_of, room_in, begun_by, rested, opening, turned}
+use Rattle.pass_core.proofs.state.State.advance.Goals as goal
+
+pub returns-then-not-has_room-clause-tabled : goal.returns-then-not-has_room-clause-tabled
+returns-then-not-has_room-clause-tabled c = λ m i frame t.
+    let p = content c.args.program.now in
+    let s = c.get_ready.new.self in
+    let u : IsTabledBy p s m = ready_tabled p m c.args.self.now s t c.in_ok-get_ready.ensures.others c.in_ok-get_ready.ensures.begun in
+    rested p m s (λ room n may. let no : false ≡ true = c.if-not-has_room.ensures.1 (room_in m s.table u.fits room) in absurd (cc)) u
+
+pub returns-then-ne-clause-tabled : goal.returns-then-ne-clause-tabled
+returns-then-ne-clause-tabled c = λ m i frame t.
+    let p = content c.args.program.now in
+    let s = c.get_ready.new.self in
+    let u : IsTabledBy p s m = ready_tabled p m c.args.self.now s t c.in_ok-get_ready.ensures.others c.in_ok-get_ready.ensures.begun in
+    let room : HasRoom m = room_of m s.table u.fits (c.if-not-has_room.ensures.0 refl) in
+    opening p m c.open_next.new.self ((c.if-is_closed.ensures.meaning m u.fits).0 refl)
+    (c.in_ok-open_next.ensures.tabled p m u c.in_ok-get_ready.ensures.begun room.1)
+
+pub returns-in_ok-solve-in-Some-clause-tabled : goal.returns-in_ok-solve-in-Some-clause-tabled
+returns-in_ok-solve-in-Some-clause-tabled c = λ m i frame t.
+    let p = content c.args.program.now in
+    let s = c.get_ready.new.self in
+    let u : IsTabledBy p s m = ready_tabled p m c.args.self.now s t c.in_ok-get_ready.ensures.others c.in_ok-get_ready.ensures.begun in
+    let room : HasRoom m = room_of m s.table u.fits (c.if-not-has_room.ensures.0 refl) in
+    let begins = c.in-Some.ensures m u.valid u.fits (u.idle 0) in
+    let b : IsBegunBy p (record s { table = c.begin.new.self }) m c.in-Some.node =
+    begun_by p m s c.begin.new.self c.in-Some.node u c.in_ok-get_ready.ensures.begun room begins.0 begins.1 in
+    turned p m c.solve.new.self
+    (c.in_ok-solve-in-Some.ensures.tabled m i (ap (λ (x : State). x.frame) c.in_ok-get_ready.ensures.others ∙ frame) b)
+
+pub returns-in-None-clause-tabled : goal.returns-in-None-clause-tabled
+returns-in-None-clause-tabled c = λ m i frame t.
+    let p = content c.args.program.now in
+    let s = c.get_ready.new.self in
+    let u : IsTabledBy p s m = ready_tabled p m c.args.self.now s t c.in_ok-get_ready.ensures.others c.in_ok-get_ready.ensures.begun in
+    let none = c.in-None.ensures m u.valid u.fits (u.idle 0) in
+    rested p m (record s { table = c.begin.new.self }) (λ room. none.0) (refit p m s c.begin.new.self u c.in_ok-get_ready.ensures.begun none.1)

@@ -1,0 +1,25 @@
+use Rattle.std.proofs.Common.{◌≡◌, false, ap, ◌∙◌}
+use Rattle.scen_defs.specs.Program.{content}
+use Rattle.cut_banks.specs.Banks.{swept_banks}
+use Rattle.one_worker.specs.Parents.{AreParents}
+use Rattle.pass_core.specs.Tabled.{IsTabled, IsUnused}
+use Rattle.pass_core.proofs.Explaining.{on_ok}
+use Rattle.pass_core.proofs.Parentage.{edited_tabled, each_ok}
+use Rattle.pass_core.proofs.state.State.edited.Goals as goal
+
+pub returns-clause-tabled : goal.returns-clause-tabled
+returns-clause-tabled c = λ q t same few.
+    let p = content c.args.program.now in
+    let old = c.args.self.now in
+    let mid = c.sweep.new.self in
+    let new = c.begin_anew.new.self in
+    on_ok c.begin_anew.result
+    ((mid.is_begun ≡ false → c.args.is_grown ≡ false → IsUnused mid) → AreParents mid.frame.parents → IsUnused new)
+    (IsTabled p new)
+    (λ unused. edited_tabled p q old mid new c.args.is_grown c.args.dues.now c.requires t same few
+    (c.sweep.ensures.frame ∙ c.in_ok-grow.ensures.frame) (c.sweep.ensures.table ∙ c.grow.ensures.table)
+    (c.sweep.ensures.begun ∙ c.grow.ensures.begun) c.begin_anew.ensures.frame
+    (c.begin_anew.ensures.banks ∙ c.in_ok-sweep.ensures.banks ∙ ap (swept_banks c.args.dues.now) c.in_ok-grow.ensures.banks)
+    (λ parents kept. unused kept parents))
+    (each_ok c.begin_anew.result (AreParents mid.frame.parents) (mid.is_begun ≡ false → c.args.is_grown ≡ false → IsUnused mid) (IsUnused new)
+    c.begin_anew.ensures.unused)

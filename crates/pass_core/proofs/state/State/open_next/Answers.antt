@@ -1,0 +1,13 @@
+use Rattle.pass_core.specs.Tabled.{KeepsPools, Opens}
+use Rattle.pass_core.specs.Tabled.Opens.{not_opened}
+use Rattle.pass_core.proofs.Explaining.{on_ok}
+use Rattle.pass_core.proofs.Tabling.{still_tabled}
+use Rattle.pass_core.proofs.state.State.open_next.Goals as goal
+
+pub returns-in-Ok-clause-tabled : goal.returns-in-Ok-clause-tabled
+returns-in-Ok-clause-tabled c = λ p m t z room. c.open.ensures.tabled p m t z room
+
+pub returns-in-Err-clause-tabled : goal.returns-in-Err-clause-tabled
+returns-in-Err-clause-tabled c = λ p m t z room.
+    on_ok c.not_opened.result (KeepsPools c.args.self.now c.not_opened.new.self) (Opens p m c.not_opened.new.self)
+    (λ k. not_opened (still_tabled p m c.args.self.now c.not_opened.new.self t k)) c.not_opened.ensures.pools
