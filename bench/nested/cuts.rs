@@ -1,6 +1,6 @@
 // Cuts with the records that prove them, pools, and flat duals in Rust, with the steps of `cut_proof`, `cut_pool` and `dual_assemble`.
 use crate::fraction::{Frac, Passed, Term, add_scaled};
-use crate::tree::NodeRow;
+use crate::rows::NodeRow;
 use std::cmp::Ordering;
 use std::sync::Arc;
 
@@ -35,9 +35,9 @@ pub struct Datum {
 /// A version of a part of a node's data: its rows, or its costs. Nothing is edited here, so versions are 0.
 #[derive(Clone, Copy, PartialEq, PartialOrd)]
 pub struct Stamp {
-    node: u32,
-    is_costs: bool,
-    version: u32,
+    pub node: u32,
+    pub is_costs: bool,
+    pub version: u32,
 }
 
 pub struct Used {
@@ -56,7 +56,7 @@ pub struct Cut {
     pub source: Record,
     pub constant: Frac,
     pub form: Vec<Term>,
-    support: Vec<Stamp>,
+    pub support: Vec<Stamp>,
 }
 
 pub enum CutFault {
@@ -99,7 +99,10 @@ fn used_end(low: Option<Frac>, high: Option<Frac>, number: Frac) -> Option<Frac>
 fn column_sum(rows: &[NodeRow], source: &Record, column: u64, start: Frac) -> Result<Frac, Passed> {
     let mut sum = start;
     for row in rows {
-        sum = sum.less_product(get(&row.entries, column), get(&source.multipliers, u64::from(row.row)))?;
+        let entry = get(&row.entries, column);
+        if !entry.is_zero() {
+            sum = sum.less_product(entry, get(&source.multipliers, u64::from(row.row)))?;
+        }
     }
     for one in &source.used {
         sum = sum.add_product(one.weight, get(&one.cut.form, column))?;
@@ -208,7 +211,7 @@ impl Cut {
         Ok(Cut { source, constant: worth.sum, form, support })
     }
 
-    fn at(&self, trial: &[Term]) -> Result<Frac, Passed> {
+    pub fn at(&self, trial: &[Term]) -> Result<Frac, Passed> {
         let mut sum = self.constant;
         for term in &self.form {
             sum = sum.add_product(term.value, get(trial, term.column))?;

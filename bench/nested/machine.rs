@@ -2,9 +2,10 @@
 use crate::cuts::{Bounds, Cut, CutFault, Datum, Pool, Share, flat, get, ground};
 use crate::fraction::{Frac, Passed, Term, add_scaled};
 use crate::node::{Solved, Task, solve_node};
+use crate::rows::NodeRow;
 use crate::simplex::whole;
 use crate::table::Table;
-use crate::tree::{Node, NodeRow, Program};
+use crate::tree::{Node, Program};
 use std::sync::Arc;
 
 #[derive(Clone, Copy, PartialEq)]

@@ -20,6 +20,8 @@ mod number;
 #[path = "../reader/reader.rs"]
 #[allow(dead_code)]
 mod reader;
+#[path = "../trees/rows.rs"]
+mod rows;
 #[path = "../simplex/simplex.rs"]
 #[allow(dead_code)]
 mod simplex;

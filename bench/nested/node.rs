@@ -1,8 +1,8 @@
 // The program of a node and what is found for it, in Rust, with the steps of `interval_form`, `slack_form`, `farkas_ray` and `node_lp`.
 use crate::cuts::{Bounds, Cut, CutFault, CutKind, Datum, Record, Used, get, place_of, push_nonzero};
 use crate::fraction::{Frac, Passed, Term};
+use crate::rows::NodeRow;
 use crate::simplex::{self, Outcome, whole};
-use crate::tree::NodeRow;
 use std::sync::Arc;
 
 #[derive(Clone, Copy)]
@@ -253,13 +253,15 @@ fn or_not_good(cut: Result<Arc<Cut>, CutFault>, with: impl FnOnce(Arc<Cut>) -> S
     }
 }
 
-/// What is found for the program of a node, and how many pivots it took.
-pub fn solve_node(task: &Task) -> (Result<Solved, Passed>, u64) {
-    let mut pivots = 0;
-    (found(task, &mut pivots), pivots)
+/// The program of a node: its rows, how many of them are cuts, and the equations that they make.
+pub struct Built<'a> {
+    made: Made<'a>,
+    cuts: usize,
+    program: simplex::Program,
 }
 
-fn found(task: &Task, pivots: &mut u64) -> Result<Solved, Passed> {
+/// Makes the rows of a node's program and its standard form.
+pub fn build(task: &Task) -> Result<Built<'_>, Passed> {
     let datum = &task.datum;
     let mut all = datum.bounds.clone();
     if task.is_priced {
@@ -285,40 +287,66 @@ fn found(task: &Task, pivots: &mut u64) -> Result<Solved, Passed> {
         }
     }
     let program = standard(columns, &made.limits, cost);
-    let (outcome, taken, _) = simplex::solve(&program);
-    *pivots = taken;
-    let signed = |duals: &[Frac]| -> Vec<Frac> {
-        made.limits.iter().zip(duals).map(|(limit, dual)| turned(is_turned(limit), *dual)).collect()
-    };
-    match outcome? {
-        Outcome::Optimal { point, duals } => {
-            let signed = signed(&duals);
-            let (multipliers, taken) = own_multipliers(&datum.rows, &signed)?;
-            let mut values = Vec::new();
-            for (bound, part) in datum.bounds.iter().zip(&made.parts) {
-                push_nonzero(&mut values, u64::from(bound.column), value(*part, &point)?);
-            }
-            let mut sum = Frac::ZERO;
-            for term in &datum.cost {
-                sum = sum.add_product(term.value, get(&values, term.column))?;
-            }
-            if !task.is_priced {
-                return Ok(Solved::Point { point: values, value: sum, cut: None });
-            }
-            for (place, share) in datum.shares.iter().enumerate() {
-                let cost = value(made.parts[datum.bounds.len() + place], &point)?;
-                sum = sum.add_product(share.share, cost)?;
-            }
-            let cut = cut_of(task, CutKind::Bound, multipliers, &signed[taken..taken + cuts]);
-            or_not_good(cut, |cut| Solved::Point { point: values, value: sum, cut: Some(cut) })
+    Ok(Built { made, cuts, program })
+}
+
+impl Built<'_> {
+    /// The multipliers of the node's rows, and the weights of the cuts.
+    fn multipliers(&self, duals: &[Frac]) -> Result<(Vec<Term>, Vec<Frac>), Passed> {
+        let signed: Vec<Frac> =
+            self.made.limits.iter().zip(duals).map(|(limit, dual)| turned(is_turned(limit), *dual)).collect();
+        let (multipliers, taken) = own_multipliers(&self.made.task.datum.rows, &signed)?;
+        Ok((multipliers, signed[taken..taken + self.cuts].to_vec()))
+    }
+
+    /// What is made of an optimum.
+    fn best(&self, point: &[Term], duals: &[Frac]) -> Result<Solved, Passed> {
+        let task = self.made.task;
+        let datum = &task.datum;
+        let (multipliers, weights) = self.multipliers(duals)?;
+        let mut values = Vec::new();
+        for (bound, part) in datum.bounds.iter().zip(&self.made.parts) {
+            push_nonzero(&mut values, u64::from(bound.column), value(*part, point)?);
         }
-        Outcome::Infeasible { duals } => {
-            let signed = signed(&duals);
-            let (multipliers, taken) = own_multipliers(&datum.rows, &signed)?;
-            test_ray(&program, &duals)?;
-            let cut = cut_of(task, CutKind::Ray, multipliers, &signed[taken..taken + cuts]);
-            or_not_good(cut, |cut| Solved::NoPoint { cut })
+        let mut sum = Frac::ZERO;
+        for term in &datum.cost {
+            sum = sum.add_product(term.value, get(&values, term.column))?;
         }
+        if !task.is_priced {
+            return Ok(Solved::Point { point: values, value: sum, cut: None });
+        }
+        for (place, share) in datum.shares.iter().enumerate() {
+            let cost = value(self.made.parts[datum.bounds.len() + place], point)?;
+            sum = sum.add_product(share.share, cost)?;
+        }
+        let cut = cut_of(task, CutKind::Bound, multipliers, &weights);
+        or_not_good(cut, |cut| Solved::Point { point: values, value: sum, cut: Some(cut) })
+    }
+
+    /// What is made of an infeasible end.
+    fn nowhere(&self, duals: &[Frac]) -> Result<Solved, Passed> {
+        let (multipliers, weights) = self.multipliers(duals)?;
+        test_ray(&self.program, duals)?;
+        let cut = cut_of(self.made.task, CutKind::Ray, multipliers, &weights);
+        or_not_good(cut, |cut| Solved::NoPoint { cut })
+    }
+}
+
+/// What is found for the program of a node, and how many pivots it took.
+pub fn solve_node(task: &Task) -> (Result<Solved, Passed>, u64) {
+    match build(task) {
+        Ok(built) => {
+            let (outcome, pivots, _) = simplex::solve(&built.program);
+            (outcome.and_then(|outcome| found(&built, &outcome)), pivots)
+        }
+        Err(passed) => (Err(passed), 0),
+    }
+}
+
+fn found(built: &Built, outcome: &Outcome) -> Result<Solved, Passed> {
+    match outcome {
+        Outcome::Optimal { point, duals } => built.best(point, duals),
+        Outcome::Infeasible { duals } => built.nowhere(duals),
         Outcome::Unbounded { .. } => Ok(Solved::Loose),
     }
 }

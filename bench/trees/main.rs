@@ -19,6 +19,7 @@ mod random;
 #[path = "../reader/reader.rs"]
 #[allow(dead_code)]
 mod reader;
+mod rows;
 mod stoch;
 mod texts;
 mod tree;

@@ -2,6 +2,7 @@
 use crate::fold::Table;
 use crate::fraction::{Frac, Passed, Term};
 use crate::reader::{Core, Kind};
+use crate::rows::NodeRow;
 use crate::stoch::{Block, Branch, Entry, Periods, Sets, Stoch};
 
 pub struct Column {
@@ -16,13 +17,6 @@ pub struct Row {
     pub stage: u32,
     pub kind: Kind,
     pub range: Option<Frac>,
-}
-
-pub struct NodeRow {
-    pub row: u32,
-    pub entries: Vec<Term>,
-    pub low: Option<Frac>,
-    pub high: Option<Frac>,
 }
 
 pub struct Node {
