@@ -8,7 +8,7 @@ fn low(n: i128) -> u64 {
     n.unsigned_abs() as u64
 }
 
-fn with_value(sum: u64, value: Frac) -> u64 {
+pub fn with_value(sum: u64, value: Frac) -> u64 {
     let sign = if value.num() < 0 { 1 } else { 0 };
     with(with(with(sum, sign), low(value.num())), low(value.den()))
 }
@@ -24,7 +24,7 @@ fn with_number(sum: u64, number: Option<u32>) -> u64 {
     with(sum, number.map_or(0, |number| number as u64 + 1))
 }
 
-fn with_name(sum: u64, name: &[u8]) -> u64 {
+pub fn with_name(sum: u64, name: &[u8]) -> u64 {
     name.iter().fold(with(sum, name.len() as u64), |sum, byte| with(sum, *byte as u64))
 }
 
@@ -32,7 +32,7 @@ fn with_terms(sum: u64, terms: &[Term]) -> u64 {
     terms.iter().fold(with(sum, terms.len() as u64), |sum, term| with_value(with(sum, term.column), term.value))
 }
 
-fn with_entry(sum: u64, entry: Entry) -> u64 {
+pub fn with_entry(sum: u64, entry: Entry) -> u64 {
     match entry {
         Entry::Cost { column } => with(with(sum, 1), column as u64),
         Entry::Matrix { row, column } => with(with(with(sum, 2), row as u64), column as u64),

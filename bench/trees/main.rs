@@ -8,6 +8,8 @@ mod fold;
 mod fraction;
 #[path = "../fractions/gcd.rs"]
 mod gcd;
+#[path = "../heap.rs"]
+mod heap;
 #[path = "../mix.rs"]
 mod mix;
 #[path = "../reader/names.rs"]
@@ -21,12 +23,14 @@ mod random;
 mod reader;
 mod rows;
 mod stoch;
+#[allow(dead_code)]
 mod texts;
 mod tree;
 #[path = "../fractions/wide.rs"]
 mod wide;
 
 use clock::{require_same, spent};
+use heap::keep_memory;
 use mix::with;
 use reader::{Core, read_core};
 use std::hint::black_box;
@@ -70,7 +74,6 @@ unsafe extern "C" {
         stoch_len: usize,
     ) -> u64;
     fn malloc_trim(pad: usize) -> i32;
-    fn mallopt(parameter: i32, value: i32) -> i32;
 }
 
 /// Nanoseconds for each comparison, and turns that it has at least.
@@ -200,17 +203,6 @@ fn built(name: &str, texts: Texts, times: u64) {
         rattle_build(core.as_ptr(), core.len(), time.as_ptr(), time.len(), stoch.as_ptr(), stoch.len(), times)
     };
     compare(name, &size, times, rattle, |times| rust_build(&texts, times));
-}
-
-/// What glibc maps and gives back by itself depends on what was allocated before, also by the other version. Here all up to 32 MB comes
-/// from one heap, which keeps what is freed.
-fn keep_memory() {
-    const TRIM_THRESHOLD: i32 = -1;
-    const MMAP_THRESHOLD: i32 = -3;
-    unsafe {
-        mallopt(MMAP_THRESHOLD, 32 << 20);
-        mallopt(TRIM_THRESHOLD, i32::MAX);
-    }
 }
 
 fn main() {

@@ -13,7 +13,7 @@ pub struct Texts {
 
 impl Random {
     /// A whole number, a decimal or a fraction.
-    fn value(&mut self) -> String {
+    pub fn value(&mut self) -> String {
         match self.below(4) {
             0 => format!("{}", 1 + self.below(999)),
             1 => format!("{}.{}", self.below(99), 1 + self.below(9)),
@@ -23,7 +23,7 @@ impl Random {
     }
 }
 
-fn random() -> Random {
+pub fn random() -> Random {
     Random(88172645463325252)
 }
 
@@ -244,15 +244,9 @@ pub fn indep() -> Texts {
     texts
 }
 
-/// Three periods with a column each, and as many scenarios with nodes of their own from the second on as there may be.
-pub fn three_periods() -> Texts {
+/// Adds as many scenarios as there may be, with nodes of their own from the second of three periods on.
+fn with_scenarios(mut texts: Texts) -> Texts {
     let mut random = random();
-    let parts = [Part { rows: 0, columns: 1 }, Part { rows: 1, columns: 1 }, Part { rows: 1, columns: 1 }];
-    let mut texts = without_cases(&parts, |stage, _| match stage {
-        0 => vec![(1, 0)],
-        1 => vec![(1, 0), (2, 0)],
-        _ => vec![(2, 0)],
-    });
     let text = &mut texts.stoch;
     text.push_str("STOCH BENCH\nSCENARIOS DISCRETE\n");
     for scenario in 0..9999 {
@@ -262,6 +256,26 @@ pub fn three_periods() -> Texts {
     }
     text.push_str("ENDATA\n");
     texts
+}
+
+/// Three periods with a column each.
+pub fn three_periods() -> Texts {
+    let parts = [Part { rows: 0, columns: 1 }, Part { rows: 1, columns: 1 }, Part { rows: 1, columns: 1 }];
+    with_scenarios(without_cases(&parts, |stage, _| match stage {
+        0 => vec![(1, 0)],
+        1 => vec![(1, 0), (2, 0)],
+        _ => vec![(2, 0)],
+    }))
+}
+
+/// Three periods with ten rows and ten columns each.
+pub fn three_narrow() -> Texts {
+    with_scenarios(in_band(&NARROW[..3]))
+}
+
+/// Six periods with ten rows and ten columns each; four cases of each but the first.
+pub fn six_narrow() -> Texts {
+    in_blocks(&[NARROW[0]; 6], &[1, 2, 3, 4, 5], 4, 1)
 }
 
 /// A hundred rows of fifty entries at each of as many nodes as there may be.
