@@ -8,3 +8,5 @@ pub mod RepairLaws
 pub mod NotGood
 pub mod DatumLaws
 pub mod Steps
+pub mod TallyLaws
+pub mod OuterLaws

@@ -1,6 +1,7 @@
 pub mod View
 pub mod Falls
 pub mod Walks
+pub mod Tallies
 pub mod Answers
 pub mod Faults
 pub mod DatumView

@@ -6,12 +6,15 @@ mod columns;
 mod cut;
 mod datum;
 mod fault;
+mod gathered;
 mod laws;
 mod making;
 mod repair;
 mod resting;
 mod stamps;
 mod sums;
+mod tally;
+mod unfinished;
 
 pub use cut::{Cut, Record, SharedCut, Used};
 pub use cut_defs::{Bank, ColumnBounds, CutKind, Part, Share, Shift, Stamp, Touch};

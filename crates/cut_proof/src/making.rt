@@ -8,10 +8,10 @@ ghost use Rattle.cut_proof.specs.Conditions.{MayBeMade};
 ghost use Rattle.cut_proof.specs.View.{source_content, uses_content};
 ghost use Rattle.cut_proof.specs.Walks.{Above, all_columns, made, value_walk};
 
-use crate::columns::all_columns;
 use crate::cut::{Cut, Record};
 use crate::datum::NodeDatum;
 use crate::fault::CutFault;
+use crate::gathered::all_sums;
 use crate::stamps::support_of;
 use crate::sums::{constant, form, price};
 use frac128::{Form, Frac, Passed, Term};
@@ -35,9 +35,9 @@ impl Cut {
         ensures rises { IfOk result (λ _. Above 0 (all_columns datum.now.rows (uses_content source.used.items))) }
     {
         let rows = datum.rows();
-        let priced = price(alloc, datum, &source)?;
-        let columns = all_columns(alloc, rows, &source.used)?;
-        let form = form(alloc, datum, &source, &columns)?;
+        let sums = all_sums(alloc, datum, &source)?;
+        let priced = price(alloc, datum, &source, &sums)?;
+        let form = form(alloc, datum, &source, &sums)?;
         let worth = constant(rows, &source, &priced)?;
         if !worth.is_good {
             return Err(CutFault::NotGood);
@@ -58,8 +58,10 @@ impl Cut {
     /// Where the record is of the datum's node and versions, each multiplier of one of its rows, and the weights fit
     /// the children's shares, the cut is made from the datum.
     ///
-    /// Time: (columns of the node and of the form) times (rows and used cuts), each a look-up by halving; the support
-    /// takes the stamps of all used cuts, each merged in order.
+    /// Time: one pass over the columns of the node and the entries of the rows and of the used cuts' forms, where a
+    /// column is found at once if there is no gap behind it, and else by halving. Where an operation passes, (columns of
+    /// the node and of the form) times (rows and used cuts) behind that, each a look-up by halving. The support takes
+    /// the stamps of all used cuts, each merged in order.
     pub fn of(alloc: Global, source: Record, datum: &NodeDatum) -> Result<Cut, CutFault>
         ensures walk { Makes (made datum.now (source_content source) (uses_content source.used.items)) result }
         ensures made { MayBeMade datum.now (source_content source) (uses_content source.used.items) → IfOk result (λ cut.

@@ -1,22 +1,25 @@
 // The sums of a cut, operation by operation.
-ghost use Rattle.std.specs.Prelude.{◌≡◌, ◌++◌, MatchResult, OnOk, Ok, []};
+ghost use Rattle.std.specs.Prelude.{◌≡◌, ◌++◌, MatchResult, IfOk, IfSome, OnOk, Ok, []};
 ghost use Rattle.frac128.specs.Faults.{FaultOf, IfNotMemory};
 ghost use Rattle.rationals.specs.Sparse.{coefficient};
 ghost use Rattle.rationals.specs.Rational.{at_most};
-ghost use Rattle.rationals.specs.Passes.{less_product_walk, then_walk};
+ghost use Rattle.rationals.specs.Passes.{add_product_walk, less_product_walk, then_walk};
 ghost use Rattle.rationals.specs.Forms.{EndsBelow, put};
 ghost use Rattle.scen_defs.specs.Ends.{used_end};
 ghost use Rattle.scen_model.specs.Walks.{less_from};
 ghost use Rattle.cut_defs.specs.Stored.{cost_of};
 ghost use Rattle.cut_proof.specs.View.{uses_content, source_content};
-ghost use Rattle.cut_proof.specs.Walks.{Above, earlier_walk, uses_from, column_walk, prices_walk, form_from};
+ghost use Rattle.cut_proof.specs.Tallies.{AreSums};
+ghost use Rattle.cut_proof.specs.Walks.{Above, all_columns, earlier_walk, uses_from, column_walk, prices_walk, form_from};
 ghost use Rattle.cut_proof.specs.Walks.{worth_step, rows_worth, columns_worth, uses_worth, no_worth};
 
-use crate::columns::is_own;
+use crate::columns::{all_columns, is_own};
 use crate::cut::{Record, Used};
 use crate::datum::NodeDatum;
+use crate::gathered::{form_by, priced_by};
+use crate::tally::near;
 use cut_defs::CutKind;
-use frac128::{Form, FormFault, Frac, Memory, Passed};
+use frac128::{Form, FormFault, Frac, Memory, Passed, Term};
 use scen_defs::NodeRow;
 use std::alloc::Global;
 
@@ -86,12 +89,8 @@ fn cost_of(datum: &NodeDatum, kind: CutKind, column: u64) -> Frac
     }
 }
 
-/// The reduced costs of the node's own columns.
-pub(crate) fn price(
-    alloc: Global,
-    datum: &NodeDatum,
-    source: &Record,
-) -> Result<Vec<Priced>, FormFault>
+/// The reduced costs of the node's own columns, column by column.
+fn price_each(alloc: Global, datum: &NodeDatum, source: &Record) -> Result<Vec<Priced>, FormFault>
     ensures { MatchResult result
         (λ v. prices_walk datum.now (source_content source.now) (uses_content source.now.used.items) ≡ Ok v.items)
         (FaultOf (prices_walk datum.now (source_content source.now) (uses_content source.now.used.items))) }
@@ -108,6 +107,28 @@ pub(crate) fn price(
         })?;
     }
     Ok(all)
+}
+
+/// The reduced costs of the node's own columns, from the sums of all columns, if they are known.
+pub(crate) fn price(
+    alloc: Global,
+    datum: &NodeDatum,
+    source: &Record,
+    sums: &Option<Vec<Term>>,
+) -> Result<Vec<Priced>, FormFault>
+    requires { IfSome sums.now (λ tally.
+        AreSums datum.now (source_content source.now) (uses_content source.now.used.items) tally.items) }
+    ensures { MatchResult result
+        (λ v. prices_walk datum.now (source_content source.now) (uses_content source.now.used.items) ≡ Ok v.items)
+        (FaultOf (prices_walk datum.now (source_content source.now) (uses_content source.now.used.items))) }
+{
+    match sums {
+        Some(tally) => {
+            let priced = priced_by(alloc, datum, source, tally)?;
+            Ok(priced)
+        }
+        None => price_each(alloc, datum, source),
+    }
 }
 
 /// A column of the form; 0 for one of the node's own.
@@ -132,8 +153,8 @@ pub fn push_nonzero(form: &mut Form, column: u64, value: Frac) -> Result<(), Mem
     Ok(())
 }
 
-/// The form over the columns that aren't the node's own.
-pub(crate) fn form(
+/// The form over the columns that aren't the node's own, column by column.
+fn form_over(
     alloc: Global,
     datum: &NodeDatum,
     source: &Record,
@@ -150,6 +171,51 @@ pub(crate) fn form(
     Ok(form)
 }
 
+/// The same over all columns.
+fn form_each(alloc: Global, datum: &NodeDatum, source: &Record) -> Result<Form, FormFault>
+    ensures rises { IfOk result (λ _. Above 0 (all_columns datum.now.rows (uses_content source.now.used.items))) }
+    ensures form { IfNotMemory result
+        (form_from datum.now (source_content source.now) (uses_content source.now.used.items) []
+        (all_columns datum.now.rows (uses_content source.now.used.items))) }
+{
+    let columns = all_columns(alloc, datum.rows(), &source.used)?;
+    form_over(alloc, datum, source, &columns)
+}
+
+/// The form over the columns that aren't the node's own, from the sums of all columns, if they are known.
+pub(crate) fn form(
+    alloc: Global,
+    datum: &NodeDatum,
+    source: &Record,
+    sums: &Option<Vec<Term>>,
+) -> Result<Form, FormFault>
+    requires { IfSome sums.now (λ tally.
+        AreSums datum.now (source_content source.now) (uses_content source.now.used.items) tally.items) }
+    ensures rises { IfOk result (λ _. Above 0 (all_columns datum.now.rows (uses_content source.now.used.items))) }
+    ensures form { IfNotMemory result
+        (form_from datum.now (source_content source.now) (uses_content source.now.used.items) []
+        (all_columns datum.now.rows (uses_content source.now.used.items))) }
+{
+    match sums {
+        Some(tally) => {
+            let form = form_by(alloc, datum, source, tally)?;
+            Ok(form)
+        }
+        None => form_each(alloc, datum, source),
+    }
+}
+
+/// A number and a multiplier times an end. Where one of these is 0, nothing is added.
+fn add_term(start: Frac, multiplier: Frac, end: Frac) -> Result<Frac, Passed>
+    ensures { result ≡ add_product_walk start multiplier end }
+{
+    if multiplier.is_zero() || end.is_zero() {
+        Ok(start.over_one())
+    } else {
+        start.add_product(multiplier, end)
+    }
+}
+
 /// The worth and a multiplier times the end that it uses; without the term where the end isn't finite.
 fn add_worth(worth: &Worth, multiplier: Frac, end: Option<Frac>) -> Result<Worth, Passed>
     ensures { result ≡ worth_step worth.now multiplier end }
@@ -160,7 +226,7 @@ fn add_worth(worth: &Worth, multiplier: Frac, end: Option<Frac>) -> Result<Worth
             is_good: false,
         }),
         Some(end) => {
-            let sum = worth.sum.add_product(multiplier, end)?;
+            let sum = add_term(worth.sum, multiplier, end)?;
             Ok(Worth {
                 sum,
                 is_good: worth.is_good,
@@ -193,9 +259,14 @@ fn used_end(low: Option<Frac>, high: Option<Frac>, multiplier: Frac) -> Option<F
 fn add_rows(rows: &[NodeRow], multipliers: &Form, start: Worth) -> Result<Worth, Passed>
     ensures { result ≡ rows_worth multipliers.now start rows.now }
 {
+    multipliers.keeps_order();
+    let terms = multipliers.terms();
     let mut worth = start;
+    let mut guess = 0;
     for row in rows {
-        let multiplier = multipliers.get(row.row as u64);
+        let found = near(terms, guess, row.row as u64);
+        guess = found.next;
+        let multiplier = found.value;
         worth = add_worth(&worth, multiplier, used_end(row.low, row.high, multiplier))?;
     }
     Ok(worth)
