@@ -163,42 +163,170 @@ impl Worth {
     fn add(&mut self, number: Frac, end: Option<Frac>) -> Result<(), Passed> {
         match end {
             None => self.is_good = false,
+            Some(end) if number.is_zero() || end.is_zero() => (),
             Some(end) => self.sum = self.sum.add_product(number, end)?,
         }
         Ok(())
     }
 }
 
+/// The value in a column: at the place that is guessed, or by bisection.
+fn near(terms: &[Term], guess: &mut usize, column: u64) -> Frac {
+    match terms.get(*guess) {
+        Some(term) if term.column == column => {
+            *guess += 1;
+            term.value
+        }
+        _ => get(terms, column),
+    }
+}
+
+/// Where a column may stand.
+fn likely_place(tally: &[Term], column: u64) -> usize {
+    let Some(last) = tally.last() else {
+        return 0;
+    };
+    if column > last.column {
+        return tally.len();
+    }
+    let back = (last.column - column) as usize;
+    if back < tally.len() && tally[tally.len() - 1 - back].column == column {
+        return tally.len() - 1 - back;
+    }
+    tally.partition_point(|term| term.column < column)
+}
+
+/// A product of which a factor is 1 or -1.
+fn unit_product(a: Frac, b: Frac) -> Option<Frac> {
+    if a.is_one() {
+        Some(b)
+    } else if b.is_one() {
+        Some(a)
+    } else if b.neg().is_one() {
+        Some(a.neg())
+    } else {
+        None
+    }
+}
+
+fn plus(number: Frac, weight: Frac, value: Frac) -> Result<Frac, Passed> {
+    match unit_product(weight, value) {
+        None => number.add_product(weight, value),
+        Some(product) if number.is_zero() => Ok(product),
+        Some(product) => number.add(product),
+    }
+}
+
+/// Adds a weight times a form; `None` where a sum passes.
+fn add_form(tally: &mut [Term], weight: Frac, form: &[Term]) -> Option<()> {
+    for term in form {
+        let place = likely_place(tally, term.column);
+        let found = tally.get_mut(place).filter(|found| found.column == term.column)?;
+        found.value = plus(found.value, weight, term.value).ok()?;
+    }
+    Some(())
+}
+
+fn is_own_near(bounds: &[Bounds], column: u64) -> bool {
+    let Some(first) = bounds.first() else {
+        return false;
+    };
+    let Some(place) = column.checked_sub(u64::from(first.column)) else {
+        return false;
+    };
+    bounds.get(place as usize).is_some_and(|found| u64::from(found.column) == column) || place_of(bounds, column).is_some()
+}
+
+/// The columns that can have a sum other than 0.
+fn summed_columns(source: &Record, datum: &Datum) -> Vec<u64> {
+    let mut all = Vec::new();
+    let forms = datum.rows.iter().map(|row| &row.entries).chain(source.used.iter().map(|one| &one.cut.form));
+    for form in forms {
+        all.extend(form.iter().map(|term| term.column).filter(|column| !is_own_near(&datum.bounds, *column)));
+    }
+    all.sort_unstable();
+    let earlier = all.len();
+    all.extend(datum.bounds.iter().map(|bound| u64::from(bound.column)));
+    if earlier > 0 && earlier < all.len() && all[earlier - 1] > all[earlier] {
+        all.sort_unstable();
+    }
+    all
+}
+
+/// The sums of all columns in one pass; `None` where one passes.
+fn all_sums(source: &Record, datum: &Datum) -> Option<Vec<Term>> {
+    let columns = summed_columns(source, datum);
+    let mut tally: Vec<Term> = Vec::with_capacity(columns.len());
+    for column in columns {
+        if tally.last().is_none_or(|last| last.column < column) {
+            tally.push(Term { column, value: Frac::ZERO });
+        }
+    }
+    if source.kind == CutKind::Bound {
+        add_form(&mut tally, Frac::ONE, &datum.cost)?;
+    }
+    let mut guess = 0;
+    for row in &datum.rows {
+        let multiplier = near(&source.multipliers, &mut guess, u64::from(row.row));
+        if !multiplier.is_zero() {
+            add_form(&mut tally, multiplier.neg(), &row.entries)?;
+        }
+    }
+    for one in &source.used {
+        add_form(&mut tally, one.weight, &one.cut.form)?;
+    }
+    Some(tally)
+}
+
+/// The reduced costs of the node's own columns.
+fn price(source: &Record, datum: &Datum, sums: Option<&[Term]>) -> Result<Vec<Frac>, Passed> {
+    let mut priced = Vec::with_capacity(datum.bounds.len());
+    let mut guess = sums.map_or(0, |tally| tally.len().saturating_sub(datum.bounds.len()));
+    for bound in &datum.bounds {
+        let column = u64::from(bound.column);
+        priced.push(match (sums, source.kind) {
+            (Some(tally), _) => near(tally, &mut guess, column),
+            (None, CutKind::Bound) => column_sum(&datum.rows, source, column, get(&datum.cost, column))?,
+            (None, CutKind::Ray) => column_sum(&datum.rows, source, column, Frac::ZERO)?,
+        });
+    }
+    Ok(priced)
+}
+
+/// The form over the columns that aren't the node's own.
+fn form(source: &Record, datum: &Datum, sums: Option<&[Term]>) -> Result<Vec<Term>, Passed> {
+    if let Some(tally) = sums {
+        let outer = tally.iter().filter(|term| !term.value.is_zero() && !is_own_near(&datum.bounds, term.column));
+        return Ok(outer.copied().collect());
+    }
+    let mut columns = Vec::new();
+    for row in &datum.rows {
+        columns = union(&columns, &row.entries);
+    }
+    for one in &source.used {
+        columns = union(&columns, &one.cut.form);
+    }
+    let mut form = Vec::new();
+    for column in columns {
+        if place_of(&datum.bounds, column).is_none() {
+            push_nonzero(&mut form, column, column_sum(&datum.rows, source, column, Frac::ZERO)?);
+        }
+    }
+    Ok(form)
+}
+
 impl Cut {
     pub fn of(source: Record, datum: &Datum) -> Result<Cut, CutFault> {
-        let mut priced = Vec::new();
-        for bound in &datum.bounds {
-            let column = u64::from(bound.column);
-            let cost = match source.kind {
-                CutKind::Bound => get(&datum.cost, column),
-                CutKind::Ray => Frac::ZERO,
-            };
-            priced.push((bound, column_sum(&datum.rows, &source, column, cost)?));
-        }
-        let mut columns = Vec::new();
-        for row in &datum.rows {
-            columns = union(&columns, &row.entries);
-        }
-        for one in &source.used {
-            columns = union(&columns, &one.cut.form);
-        }
-        let mut form = Vec::new();
-        for column in columns {
-            if place_of(&datum.bounds, column).is_none() {
-                push_nonzero(&mut form, column, column_sum(&datum.rows, &source, column, Frac::ZERO)?);
-            }
-        }
+        let sums = all_sums(&source, datum);
+        let priced = price(&source, datum, sums.as_deref())?;
+        let form = form(&source, datum, sums.as_deref())?;
         let mut worth = Worth { sum: Frac::ZERO, is_good: true };
+        let mut guess = 0;
         for row in &datum.rows {
-            let number = get(&source.multipliers, u64::from(row.row));
+            let number = near(&source.multipliers, &mut guess, u64::from(row.row));
             worth.add(number, used_end(row.low, row.high, number))?;
         }
-        for (bound, number) in priced {
+        for (bound, number) in datum.bounds.iter().zip(priced) {
             worth.add(number, used_end(bound.lower, bound.upper, number))?;
         }
         for one in &source.used {
