@@ -1,5 +1,6 @@
 -- The walks give the sums and the value, and so decide.
 use Rattle.std.proofs.Common.{◌≡◌, ℕ, zero, suc, add-one, ◌+◌, ◌-◌, ◌<◌, ◌≤◌, ◌&&◌, not, Bool, true, false, List, [], ◌∷◌, Ok, Err, eqb, length, refl, sym, ap, ap₂, ◌∙◌, subst, arith, eqb-true}
+use Rattle.std.specs.Prelude.{Decides}
 use Rattle.std.proofs.lemmas.Bool.{false≢true, eqb-false}
 use Rattle.rationals.specs.declared.Op.TheVariants.{Add}
 use Rattle.rationals.specs.Rational.{ℚ, zero_ℚ, one_ℚ, ◌+ℚ◌, ◌*ℚ◌, ◌≤ℚ◌, ◌<ℚ◌, not_le_of_lt_ℚ, zero_add_ℚ, by_eqs, terms}
@@ -104,19 +105,23 @@ parts p y b e =
     let c = after_ok (value_from zero_ℚ y p.right) (λ v. Ok (a.0 && is_above_zero v)) b a.2 in
     record { good = a.0; value = c.0; sums = a.1; is = value_is zero_ℚ y p.right c.0 c.1 ∙ zero_add_ℚ (dot y p.right); both_are = cc }
 
-pub ray_shows : (p : Program) (y : List ℚ) → length y ≡ length p.rows → ray_walk p y ≡ Ok true → IsInfeasible p y
+ray_shows : (p : Program) (y : List ℚ) → length y ≡ length p.rows → ray_walk p y ≡ Ok true → IsInfeasible p y
 ray_shows p y h e =
     let k : Parts p y true = parts p y true e in
     let t = both k.good (is_above_zero k.value) k.both_are in
     let low = good_of p.rows y 0 p.columns true k.good k.sums t.0 in
     record { one_each = h; sums = λ j l. low.1 j (omega arith) (omega arith); above = subst (λ (x : ℚ). zero_ℚ <ℚ x) k.is (is_above_zero_true k.value t.1) }
 
-pub none_shows : (p : Program) (y : List ℚ) → ray_walk p y ≡ Ok false → IsInfeasible p y → ⊥
+none_shows : (p : Program) (y : List ℚ) → ray_walk p y ≡ Ok false → IsInfeasible p y → ⊥
 none_shows p y e h =
     let k : Parts p y false = parts p y false e in
     let g : k.good ≡ true = good_to p.rows y 0 p.columns true k.good k.sums refl (λ c l u. h.sums c (omega arith)) in
     let a : is_above_zero k.value ≡ true = above_to k.value (subst (λ (x : ℚ). zero_ℚ <ℚ x) (sym k.is) h.above) in
     false≢true (sym k.both_are ∙ join k.good (is_above_zero k.value) g a)
+
+pub ray_decides : (p : Program) (y : List ℚ) (b : Bool) → length y ≡ length p.rows → ray_walk p y ≡ Ok b → Decides b (IsInfeasible p y)
+ray_decides p y true h e = (λ is. ray_shows p y h e, λ shown. refl)
+ray_decides p y false h e = (λ is. absurd (false≢true is), λ shown. absurd (none_shows p y e shown))
 
 -- ---- one more column
 at_column : (rows : List (List Entry)) (y : List ℚ) (c n : ℕ) (good : Bool) (whole : Walk Bool) → c < n → columns_from rows y c (n - c) good ≡ whole → columns_from rows y c (suc (n - (c + 1))) good ≡ whole

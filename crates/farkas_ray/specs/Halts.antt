@@ -1,9 +1,9 @@
--- What an early end says of a walk.
-use Rattle.std.specs.Prelude.{◌≡◌, Err}
+-- What is told of a walk that may end early.
+use Rattle.std.specs.Prelude.{Ok, Err}
+use Rattle.rationals.specs.Passes.{Operation}
 use Rattle.lp_defs.specs.Walks.{Walk}
-use Rattle.farkas_ray.specs.declared.halted.Halted.{Halted}
-use Rattle.farkas_ray.specs.declared.halted.Halted.TheVariants as halted
 
-abbrev pub HaltedBy : {A : Type 0} → Walk A → Halted → Type 0
-HaltedBy w (halted.Passed p) = w ≡ Err p
-HaltedBy w halted.Memory = Unit {0}
+-- what a walk finds, or what is told of the operation in which it ends
+abbrev pub or_passed : {A : Type 0} → (Operation → A) → Walk A → A
+or_passed tell (Ok x) = x
+or_passed tell (Err p) = tell p

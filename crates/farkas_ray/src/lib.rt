@@ -1,11 +1,9 @@
 //! Multipliers that show that a program has no point.
 #![tactic(auto)]
 
-mod halted;
 mod multipliers;
 
-pub use halted::Halted;
-pub use multipliers::ray;
+pub use multipliers::is_ray;
 
 #[cfg(test)]
 mod tests;

@@ -1,15 +1,12 @@
 //! Column sums and values of multipliers.
-ghost use Rattle.std.specs.Prelude.{◌≡◌, ◌&&◌, not, length, true, false, Ok, MatchResult, MatchOption, IfOk};
+ghost use Rattle.std.specs.Prelude.{◌≡◌, ◌&&◌, not, length, true, IfOk, Decides};
 ghost use Rattle.rationals.specs.Rational.{zero_ℚ};
 ghost use Rattle.lp_defs.specs.Tests.{is_above_zero};
 ghost use Rattle.lp_defs.specs.Certificates.{IsInfeasible};
 ghost use Rattle.farkas_ray.specs.Sums.{column_from, columns_from, value_from, ray_walk};
-ghost use Rattle.farkas_ray.specs.Halts.{HaltedBy};
 
-use crate::halted::Halted;
 use frac128::{Form, Frac, Passed};
 use simplex_core::{Standard, is_above_zero};
-use std::alloc::Global;
 
 /// The products of a column's entries and the multipliers, added by row.
 fn column_sum(rows: &[Form], duals: &[Frac], column: u64) -> Result<Frac, Passed>
@@ -54,37 +51,18 @@ fn value(duals: &[Frac], right: &[Frac]) -> Result<Frac, Passed>
     Ok(sum)
 }
 
-/// Whether no column sum is above 0 and the value is.
-fn is_ray(program: &Standard, duals: &[Frac]) -> Result<bool, Passed>
-    requires { length duals.now ≡ length program.now.rows }
-    ensures { result ≡ ray_walk program.now duals.now }
-{
-    let has_good_sums = has_good_sums(program.rows(), duals, program.columns())?;
-    let value = value(duals, program.right())?;
-    Ok(has_good_sums && is_above_zero(value))
-}
-
-/// The multipliers, where no column sum of theirs is above 0 and their value is: no point meets all rows
-/// then (Farkas' lemma).
+/// Whether no column sum of the multipliers is above 0 and their value is: no point meets all rows then (Farkas'
+/// lemma).
 ///
 /// The steps are those of the column sums, by column and then by row, each the sum so far and an entry times a
 /// multiplier, and then those of the value, by row, each the value so far and a multiplier times a right side.
 /// The first of them that passes 128 bits ends the call.
-pub fn ray(alloc: Global, program: &Standard, duals: &[Frac]) -> Result<Option<Vec<Frac>>, Halted>
+pub fn is_ray(program: &Standard, duals: &[Frac]) -> Result<bool, Passed>
     requires { length duals.now ≡ length program.now.rows }
-    ensures exact { MatchResult result (λ found. MatchOption found
-        (ray_walk program.now duals.now ≡ Ok false)
-        (λ multipliers. (ray_walk program.now duals.now ≡ Ok true) × (multipliers.items ≡ duals.now)))
-        (HaltedBy (ray_walk program.now duals.now)) }
-    ensures certified { IfOk result (λ found. MatchOption found
-        (IsInfeasible program.now duals.now → ⊥)
-        (λ multipliers. IsInfeasible program.now multipliers.items)) }
+    ensures exact { result ≡ ray_walk program.now duals.now }
+    ensures certified { IfOk result (λ is_shown. Decides is_shown (IsInfeasible program.now duals.now)) }
 {
-    let is_shown = is_ray(program, duals)?;
-    if is_shown {
-        let multipliers = duals.to_vec(alloc)?;
-        Ok(Some(multipliers))
-    } else {
-        Ok(None)
-    }
+    let has_good_sums = has_good_sums(program.rows(), duals, program.columns())?;
+    let value = value(duals, program.right())?;
+    Ok(has_good_sums && is_above_zero(value))
 }

@@ -1,12 +1,12 @@
 //! The multipliers of x = 1 and x = 2, which no point meets, and others that show nothing.
-use crate::{Halted, ray};
+use crate::is_ray;
 use frac128::{Form, Frac, Memory, parse};
 use simplex_core::Standard;
 use std::alloc::Global;
 use std::process::Abort;
 use std::test::Fail;
 
-/// Multipliers of the two rows, and what `ray` finds.
+/// Multipliers of the two rows, and what `is_ray` finds.
 const MULTIPLIERS: &str = "\
 -1 1=shows
 1 1=none
@@ -45,14 +45,10 @@ fn multipliers(rt: HostRuntime) -> Result<(), Fail> {
         let (first, second) = words.split_once(' ').ok_or("one multiplier")?;
         let duals = vec![in rt.alloc(); parse(first.as_bytes())?, parse(second.as_bytes())?]?;
         assert_eq!(rt; duals.len(), program.rows().len());
-        let found = match ray(rt.alloc(), &program, &duals) {
-            Ok(Some(multipliers)) => {
-                assert_eq!(rt; multipliers.as_slice(), duals.as_slice());
-                "shows"
-            }
-            Ok(None) => "none",
-            Err(Halted::Passed(_)) => "passes",
-            Err(Halted::Memory) => return Err(Fail::from("memory")),
+        let found = match is_ray(&program, &duals) {
+            Ok(true) => "shows",
+            Ok(false) => "none",
+            Err(_passed) => "passes",
         };
         assert_eq!(rt; found, expected, "{line}");
     }

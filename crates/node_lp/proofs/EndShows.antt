@@ -1,9 +1,9 @@
 -- What is made of the end of the path shows itself.
-use Rattle.std.proofs.Common.{◌≡◌, ℕ, suc, Bool, true, false, List, [], ◌∷◌, ◌++◌, Ok, Err, length, take, drop, refl, sym, ap, subst, ◌∙◌, append-nil}
+use Rattle.std.proofs.Common.{◌≡◌, ℕ, suc, Bool, true, false, List, [], ◌∷◌, ◌++◌, Ok, length, take, drop, refl, sym, ap, subst, ◌∙◌, append-nil}
 use Rattle.rationals.specs.declared.Op.TheVariants.{Add}
 use Rattle.rationals.specs.Rational.{ℚ, zero_ℚ, one_ℚ, ◌+ℚ◌, ◌*ℚ◌, by_eqs, terms, zero_add_ℚ, add_zero_ℚ}
 use Rattle.rationals.specs.Ring.Eqs.{done, by_eq}
-use Rattle.rationals.specs.Passes.{Operation, then_walk, add_product_walk}
+use Rattle.rationals.specs.Passes.{then_walk, add_product_walk}
 use Rattle.rationals.specs.Totals.{sum_walk}
 use Rattle.rationals.specs.Sparse.{Entry, product, coefficient}
 use Rattle.rationals.specs.Forms.{put}
@@ -11,7 +11,8 @@ use Rattle.rationals.proofs.WalkLaws.{walk_value, step_value, sum_from_is}
 use Rattle.lp_defs.specs.Program as lp
 use Rattle.lp_defs.specs.Certificates as lp_shows
 use Rattle.lp_defs.specs.Solution.{Solution, Optimum, Nowhere, Endless, Cut_off, Passes}
-use Rattle.lp_defs.specs.Walks.{Walk, after_ok, sub_walk_is}
+use Rattle.lp_defs.specs.Walks.{after_ok, sub_walk_is}
+use Rattle.farkas_ray.specs.Sums.{ray_walk}
 use Rattle.slack_form.specs.declared.limits.Limits.{Limits}
 use Rattle.slack_form.specs.Standard.{standard_of, signed, turned_back}
 use Rattle.scen_defs.specs.Lists.{pick}
@@ -34,7 +35,7 @@ use Rattle.node_lp.specs.Problem.{Problem, IsProblem}
 use Rattle.node_lp.specs.Plain.{plain_of}
 use Rattle.node_lp.specs.Records.{IsPointOf, ShowsNoPoint, shared_cost, cost_at}
 use Rattle.node_lp.specs.Points.{point_of, costs_from, costs_of, own_of, weights_of}
-use Rattle.node_lp.specs.Walk.{node_parts, point_from, child_walk, children_from, cost_walk, multipliers_from, tested_walk, end_walk}
+use Rattle.node_lp.specs.Walk.{node_parts, point_from, child_walk, children_from, cost_walk, multipliers_from, end_walk}
 use Rattle.node_lp.specs.Places.{OfRows, OfColumns}
 use Rattle.node_lp.specs.Shows.{IsSound}
 use Rattle.node_lp.proofs.EndLemmas.{put_next}
@@ -89,9 +90,6 @@ cost_is p z x v e =
 
 -- ---- the ends
 
-never : {A P : Type 0} (o : Operation) (a : A) (w : Walk A) → w ≡ Err o → w ≡ Ok a → P
-never o a w e f = absurd (cc)
-
 same_point : (p : Problem) (x x' : List Entry) (v v' : ℚ) (y y' : List Entry) (ws : List ℚ) → x ≡ x' → v ≡ v' → y ≡ y' → IsPointOf p x' v' y' ws → IsPointOf p x v y ws
 same_point p x x' v v' y y' ws e f g h =
     subst (λ (x : List Entry). IsPointOf p x v y ws) (sym e) (subst (λ (v : ℚ). IsPointOf p x' v y ws) (sym f) (subst (λ (y : List Entry). IsPointOf p x' v' y ws) (sym g) h))
@@ -115,8 +113,8 @@ module _ (p : Problem) (limits : Limits) (h : IsProblem p) (w : IsWritten (plain
         );
       }
   end_shows standard (Nowhere y) all c e =
-      let a = after_ok (multipliers_from [] p.rows (turned_back limits.rows.items y)) (λ own. then_walk (tested_walk standard y) (λ _. Ok (found.NoPoint (record { rows = own; weights = (weights_of p (turned_back limits.rows.items y)) })))) all e in
-      let b = after_ok (tested_walk standard y) (λ _. Ok (found.NoPoint (record { rows = a.0; weights = (weights_of p (turned_back limits.rows.items y)) }))) all a.2 in
+      let a = after_ok (multipliers_from [] p.rows (turned_back limits.rows.items y)) (λ own. then_walk (ray_walk standard y) (λ shown. Ok (found.NoPoint (record { rows = own; weights = (weights_of p (turned_back limits.rows.items y)) })))) all e in
+      let b = after_ok (ray_walk standard y) (λ shown. Ok (found.NoPoint (record { rows = a.0; weights = (weights_of p (turned_back limits.rows.items y)) }))) all a.2 in
       subst (IsSound p) (ok_same (found.NoPoint (record { rows = a.0; weights = (weights_of p (signed limits y)) })) all b.2) record {
         shows = subst (λ (f : List Entry). ShowsNoPoint p f (weights_of p (signed limits y))) (sym (multipliers_are [] p.rows (signed limits y) a.0 a.1)) (node_laws.no_point p limits y h w c);
         held = λ k. tt;
@@ -125,4 +123,4 @@ module _ (p : Problem) (limits : Limits) (h : IsProblem p) (w : IsWritten (plain
       }
   end_shows standard (Endless x d) all c e = subst (IsSound p) (ok_same found.Loose all e) record { shows = node_laws.loose p limits x d h w c; held = λ k. node_laws.held p limits x d h k w c; costless = λ k f. node_laws.costless p limits x d h k f w c; places = tt }
   end_shows standard Cut_off all c e = subst (IsSound p) (ok_same found.PivotsEnded all e) record { shows = tt; held = λ k. tt; costless = λ k f. tt; places = tt }
-  end_shows standard (Passes k o) all c e = never o all (Err o) refl e
+  end_shows standard (Passes k o) all c e = absurd (cc)

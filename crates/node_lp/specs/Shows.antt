@@ -1,9 +1,5 @@
 -- What is found at a node shows itself.
 use Rattle.std.specs.Prelude.{◌≡◌, false, []}
-use Rattle.frac128.specs.declared.form.FormFault.{FormFault}
-use Rattle.frac128.specs.declared.form.FormFault.TheVariants as fault
-use Rattle.farkas_ray.specs.declared.halted.Halted.{Halted}
-use Rattle.farkas_ray.specs.declared.halted.Halted.TheVariants as halted
 use Rattle.node_lp.specs.declared.found.Found.{Found}
 use Rattle.node_lp.specs.declared.found.Found.TheVariants as found
 use Rattle.node_lp.specs.Problem.{Problem}
@@ -41,15 +37,3 @@ pub record IsSound (p : Problem) (all : Found) : Type 0 where
   -- and where nothing has a cost
   pub costless : p.priced ≡ false → p.cost ≡ [] → IsNotLoose all
   pub places : HasPlaces p all
-
--- ---- faults
-
--- what ended a call, as a fault
-abbrev pub IsFaultOf : Halted → FormFault → Type 0
-IsFaultOf (halted.Passed p) f = f ≡ fault.Passed p
-IsFaultOf halted.Memory f = f ≡ fault.Memory
-
--- what is found where a fault ends the computation
-abbrev pub StoppedBy : FormFault → Found → Type 0
-StoppedBy (fault.Passed p) all = all ≡ found.Passed p
-StoppedBy fault.Memory all = ⊥

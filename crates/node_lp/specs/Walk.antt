@@ -10,6 +10,7 @@ use Rattle.lp_defs.specs.Walks.{Walk}
 use Rattle.lp_defs.specs.Program as lp
 use Rattle.lp_defs.specs.Solution.{Solution, Optimum, Nowhere, Endless, Cut_off, Passes, solution}
 use Rattle.farkas_ray.specs.Sums.{ray_walk}
+use Rattle.farkas_ray.specs.Halts.{or_passed}
 use Rattle.slack_form.specs.declared.limits.Limit.{Limit}
 use Rattle.slack_form.specs.Standard.{standard_from, turned_back}
 use Rattle.scen_defs.specs.Lists.{Each, pick}
@@ -106,13 +107,10 @@ best_walk p limits z y = then_walk (multipliers_from [] p.rows (turned_back limi
     then_walk (point_from z (node_parts p) [] 0 p.bounds) (λ x. then_walk (cost_walk p z x) (λ v.
     Ok (found.Point x v (record { rows = own; weights = weights_of p (turned_back limits y) })))))
 
-abbrev pub tested_walk : lp.Program → List ℚ → Walk (Unit {0})
-tested_walk standard y = then_walk (ray_walk standard y) (λ shown. Ok tt)
-
 -- the own multipliers by row, then the operations that show that they exclude every point
 abbrev pub nowhere_walk : Problem → List Limit → lp.Program → List ℚ → Walk Found
 nowhere_walk p limits standard y = then_walk (multipliers_from [] p.rows (turned_back limits y)) (λ own.
-    then_walk (tested_walk standard y) (λ _.
+    then_walk (ray_walk standard y) (λ shown.
     Ok (found.NoPoint (record { rows = own; weights = weights_of p (turned_back limits y) }))))
 
 abbrev pub end_walk : Problem → List Limit → lp.Program → Solution → Walk Found
@@ -130,10 +128,6 @@ path_walk p pivots limits = end_walk p limits (standard_seen p limits) (solution
 abbrev pub solve_walk : Problem → ℕ → Walk Found
 solve_walk p pivots = then_walk (rows_walk p) (path_walk p pivots)
 
-abbrev pub or_passed : Walk Found → Found
-or_passed (Ok s) = s
-or_passed (Err o) = found.Passed o
-
 -- what is found in at most so many pivots
 abbrev pub found_in : Problem → ℕ → Found
-found_in p pivots = or_passed (solve_walk p pivots)
+found_in p pivots = or_passed found.Passed (solve_walk p pivots)

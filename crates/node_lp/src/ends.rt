@@ -39,20 +39,13 @@ pub(crate) fn own_multipliers(
     Ok(form)
 }
 
-/// The first `count` numbers.
-fn front(values: &[Frac], count: usize) -> &[Frac]
-    ensures { result.now ≡ take count values.now }
-{
-    let place = count.min(values.len());
-    &values[..place]
-}
-
 /// The weights of so many cuts, which stand first among the multipliers behind those of the own rows.
 pub(crate) fn weights(alloc: Global, behind: &[Frac], cuts: usize) -> Result<Vec<Frac>, Memory>
     ensures { IfOk result (λ weights. weights.items ≡ take cuts behind.now) }
 {
+    let (these, _others) = split(behind, cuts);
     let mut weights = Vec::new(alloc);
-    weights.extend_from_slice(front(behind, cuts))?;
+    weights.extend_from_slice(these)?;
     Ok(weights)
 }
 

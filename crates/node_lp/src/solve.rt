@@ -12,16 +12,15 @@ ghost use Rattle.slack_form.specs.Standard.{standard_of};
 ghost use Rattle.interval_form.specs.Plain.{IsWritten};
 ghost use Rattle.node_lp.specs.Problem.{IsProblem, is_priced, problem_of, taken};
 ghost use Rattle.node_lp.specs.Plain.{frees, all_bounds, all_costs, plain_of};
-ghost use Rattle.node_lp.specs.Walk.{made_walk, AreCuts, rows_walk, node_parts, best_walk, tested_walk, nowhere_walk};
-ghost use Rattle.node_lp.specs.Walk.{end_walk, solve_walk, found_in};
-ghost use Rattle.node_lp.specs.Shows.{IsFaultOf, StoppedBy, IsSound};
+ghost use Rattle.node_lp.specs.Walk.{made_walk, AreCuts, rows_walk, node_parts, best_walk, nowhere_walk, end_walk, solve_walk, found_in};
+ghost use Rattle.node_lp.specs.Shows.{IsSound};
 
 use crate::ends::{cost, own_multipliers, point, weights};
 use crate::found::{Found, Multipliers};
 use crate::program::{all_bounds, cost_terms, push_children};
 use crate::task::{ChildCuts, Task};
 use cut_defs::{ColumnBounds, Share};
-use farkas_ray::{Halted, ray};
+use farkas_ray::is_ray;
 use frac128::{Form, FormFault, Frac, Memory};
 use interval_form::{Part, behind_own, own_limits, parts, push_bounds};
 use scen_defs::{Kind, NodeRow};
@@ -237,33 +236,13 @@ fn nowhere(
 {
     let signed = own_duals(alloc, &rows.limits, duals)?;
     let own = own_multipliers(alloc, task.datum.rows(), &signed)?;
-    test_ray(alloc, standard, duals)?;
+    let _is_shown = is_ray(standard, duals)?;
     let weights = weights(alloc, behind_own(task.datum.rows(), &signed), rows.cuts)?;
     Ok(Found::NoPoint(Multipliers { rows: own, weights }))
 }
 
-/// The operations that show that multipliers exclude every point.
-fn test_ray(alloc: Global, standard: &Standard, duals: &[Frac]) -> Result<(), FormFault>
-    requires { length duals.now ≡ length standard.now.rows }
-    ensures { IfNotMemory result (tested_walk standard.now duals.now) }
-{
-    match ray(alloc, standard, duals) {
-        Ok(_multipliers) => Ok(()),
-        Err(halted) => Err(fault_of(halted)),
-    }
-}
-
-/// What ended a call, as a fault.
-fn fault_of(halted: Halted) -> FormFault
-    ensures { IsFaultOf halted result }
-{
-    match halted {
-        Halted::Passed(passed) => FormFault::Passed(passed),
-        Halted::Memory => FormFault::Memory,
-    }
-}
-
 /// What is made of the end of the path.
+#[tactic(auto, using(slack_form::proofs::Equations::equations_length))]
 fn ended(
     alloc: Global,
     task: &Task,
@@ -307,16 +286,6 @@ fn followed(alloc: Global, task: &Task) -> Result<Found, FormFault>
     ended(alloc, task, &parts, &rows, &standard, outcome)
 }
 
-/// What is found where a fault ends the computation.
-fn stopped(fault: FormFault) -> Result<Found, Memory>
-    ensures { IfOk result (StoppedBy fault) }
-{
-    match fault {
-        FormFault::Passed(passed) => Ok(Found::Passed(passed)),
-        FormFault::Memory => Err(Memory),
-    }
-}
-
 /// Finds the point of a node's program, or what shows that there is none, in at most `pivots` pivots.
 pub(crate) fn find(alloc: Global, task: &Task) -> Result<Found, Memory>
     requires { IsProblem (problem_of task.now) }
@@ -325,6 +294,9 @@ pub(crate) fn find(alloc: Global, task: &Task) -> Result<Found, Memory>
 {
     match followed(alloc, task) {
         Ok(found) => Ok(found),
-        Err(fault) => stopped(fault),
+        Err(fault) => match fault {
+            FormFault::Passed(passed) => Ok(Found::Passed(passed)),
+            FormFault::Memory => Err(Memory),
+        },
     }
 }

@@ -1,12 +1,14 @@
 -- What is found for a program of one period shows itself.
 use Rattle.std.proofs.Common.{◌≡◌, ℕ, List, [], Ok, Err, length, refl, sym, ap, subst, ◌∙◌}
 use Rattle.rationals.specs.Rational.{ℚ, zero_ℚ, ◌<ℚ◌}
-use Rattle.rationals.specs.Passes.{Operation, then_walk}
+use Rattle.rationals.specs.Passes.{then_walk}
 use Rattle.lp_defs.specs.Walks.{Walk, after_ok}
 use Rattle.lp_defs.specs.Program as lp
 use Rattle.lp_defs.specs.Certificates as lp_shows
 use Rattle.lp_defs.specs.Solution.{Solution, Optimum, Nowhere, Endless, Cut_off, Passes, solution}
 use Rattle.lp_defs.proofs.Certified.{solutions_are_certified}
+use Rattle.farkas_ray.specs.Sums.{ray_walk}
+use Rattle.farkas_ray.specs.Halts.{or_passed}
 use Rattle.slack_form.specs.declared.limits.Limit.{Limit}
 use Rattle.slack_form.specs.declared.limits.Limits.{Limits}
 use Rattle.slack_form.specs.Limits.{IsLimits}
@@ -31,7 +33,7 @@ use Rattle.one_period.specs.declared.found.Found.{Found}
 use Rattle.one_period.specs.declared.found.Found.TheVariants as found_end
 use Rattle.one_period.specs.Node.{IsOneNode}
 use Rattle.one_period.specs.Lists.{values_from, columns_walk}
-use Rattle.one_period.specs.Found.{program_bounds, parts_of, standard_seen, multipliers_walk, tested_walk, end_walk, path_walk, found, or_passed}
+use Rattle.one_period.specs.Found.{program_bounds, parts_of, standard_seen, multipliers_walk, end_walk, path_walk, found}
 use Rattle.report_defs.specs.Seen.{seen}
 use Rattle.one_period.specs.Solved.{AreBest, IsNowhere, AreEndless, Shows, FoundHasNames}
 use Rattle.one_period.specs.Laws.{IsWritten, PeriodLaws}
@@ -40,10 +42,6 @@ use Rattle.one_period.proofs.Flat.{is_tree, cost_is}
 use Rattle.one_period.proofs.Plain.{plain_of, bounds_length, is_plain, is_written}
 use Rattle.one_period.proofs.Duals.{sums_are, is_good, worth_is}
 use Rattle.one_period.proofs.Policies.{policy_cost, policy_feasible, direction_falls}
-
--- a walk that ends in an operation has no value
-never : {A P : Type 0} (p : Operation) (a : A) (w : Walk A) → w ≡ Err p → w ≡ Ok a → P
-never p a w e f = absurd (cc)
 
 module _ (program : Program) (node : Node) (limits : Limits) (h : IsOneNode program node) (written : IsWritten program node limits) where
   -- ---- multipliers
@@ -106,15 +104,15 @@ module _ (program : Program) (node : Node) (limits : Limits) (h : IsOneNode prog
       let b = after_ok (columns_walk Point x (parts_of program)) (λ policy. Ok (found_end.Best policy a.0)) all a.2 in
       subst (Shows (seen program)) (ok_same (found_end.Best b.0 a.0) all b.2) (best x y b.0 a.0 c b.1 a.1)
   end_shows standard (Nowhere y) all c e =
-      let a = after_ok (multipliers_walk node.rows.items limits.rows.items y) (λ ray. then_walk (tested_walk standard y) (λ _. Ok (found_end.Nowhere ray))) all e in
-      let b = after_ok (tested_walk standard y) (λ _. Ok (found_end.Nowhere a.0)) all a.2 in
+      let a = after_ok (multipliers_walk node.rows.items limits.rows.items y) (λ ray. then_walk (ray_walk standard y) (λ shown. Ok (found_end.Nowhere ray))) all e in
+      let b = after_ok (ray_walk standard y) (λ shown. Ok (found_end.Nowhere a.0)) all a.2 in
       subst (Shows (seen program)) (ok_same (found_end.Nowhere a.0) all b.2) (nowhere y a.0 c a.1)
   end_shows standard (Endless x d) all c e =
       let a = after_ok (columns_walk Point x (parts_of program)) (λ policy. then_walk (columns_walk Direction d (parts_of program)) (λ direction. Ok (found_end.Endless policy direction))) all e in
       let b = after_ok (columns_walk Direction d (parts_of program)) (λ direction. Ok (found_end.Endless a.0 direction)) all a.2 in
       subst (Shows (seen program)) (ok_same (found_end.Endless a.0 b.0) all b.2) (endless x d a.0 b.0 c a.1 b.1)
   end_shows standard Cut_off all c e = subst (Shows (seen program)) (ok_same found_end.PivotsEnded all e) tt
-  end_shows standard (Passes k p) all c e = never p all (Err p) refl e
+  end_shows standard (Passes k p) all c e = absurd (cc)
 
   -- ---- names
   rows_named : (y : List ℚ) (list : List At) → multipliers_walk node.rows.items limits.rows.items y ≡ Ok list → HaveNames (length program.rows.items) list
@@ -134,15 +132,15 @@ module _ (program : Program) (node : Node) (limits : Limits) (h : IsOneNode prog
       let b = after_ok (columns_walk Point x (parts_of program)) (λ policy. Ok (found_end.Best policy a.0)) all a.2 in
       subst (FoundHasNames program) (ok_same (found_end.Best b.0 a.0) all b.2) (columns_named Point x b.0 b.1, rows_named y a.0 a.1)
   end_named standard (Nowhere y) all e =
-      let a = after_ok (multipliers_walk node.rows.items limits.rows.items y) (λ ray. then_walk (tested_walk standard y) (λ _. Ok (found_end.Nowhere ray))) all e in
-      let b = after_ok (tested_walk standard y) (λ _. Ok (found_end.Nowhere a.0)) all a.2 in
+      let a = after_ok (multipliers_walk node.rows.items limits.rows.items y) (λ ray. then_walk (ray_walk standard y) (λ shown. Ok (found_end.Nowhere ray))) all e in
+      let b = after_ok (ray_walk standard y) (λ shown. Ok (found_end.Nowhere a.0)) all a.2 in
       subst (FoundHasNames program) (ok_same (found_end.Nowhere a.0) all b.2) (rows_named y a.0 a.1)
   end_named standard (Endless x d) all e =
       let a = after_ok (columns_walk Point x (parts_of program)) (λ policy. then_walk (columns_walk Direction d (parts_of program)) (λ direction. Ok (found_end.Endless policy direction))) all e in
       let b = after_ok (columns_walk Direction d (parts_of program)) (λ direction. Ok (found_end.Endless a.0 direction)) all a.2 in
       subst (FoundHasNames program) (ok_same (found_end.Endless a.0 b.0) all b.2) (columns_named Point x a.0 a.1, columns_named Direction d b.0 b.1)
   end_named standard Cut_off all e = subst (FoundHasNames program) (ok_same found_end.PivotsEnded all e) tt
-  end_named standard (Passes k p) all e = never p all (Err p) refl e
+  end_named standard (Passes k p) all e = absurd (cc)
 
   -- ---- in at most so many pivots
   pub is_limits : IsLimits limits
@@ -154,7 +152,7 @@ module _ (program : Program) (node : Node) (limits : Limits) (h : IsOneNode prog
   standard_is : standard_of limits ≡ standard_seen program node limits.rows.items
   standard_is = cc (written.columns, written.cost)
 
-  found_shows : (pivots : ℕ) (r : Walk Found) → r ≡ path_walk program node pivots limits.rows.items → Shows (seen program) (or_passed r)
+  found_shows : (pivots : ℕ) (r : Walk Found) → r ≡ path_walk program node pivots limits.rows.items → Shows (seen program) (or_passed found_end.Passed r)
   found_shows pivots (Ok all) e =
       end_shows (standard_seen program node limits.rows.items) (solution (standard_seen program node limits.rows.items) pivots) all
       (subst (λ (p : lp.Program). lp_shows.IsCertified (standard_of limits) (solution p pivots)) standard_is (certified pivots)) (sym e)
@@ -162,7 +160,7 @@ module _ (program : Program) (node : Node) (limits : Limits) (h : IsOneNode prog
 
   pub shown : (pivots : ℕ) → Shows (seen program) (found program node pivots)
   shown pivots =
-      subst (λ (r : Walk (List Limit)). Shows (seen program) (or_passed (then_walk r (path_walk program node pivots)))) (sym written.rows)
+      subst (λ (r : Walk (List Limit)). Shows (seen program) (or_passed found_end.Passed (then_walk r (path_walk program node pivots)))) (sym written.rows)
       (found_shows pivots (path_walk program node pivots limits.rows.items) refl)
 
 pub period_laws : PeriodLaws

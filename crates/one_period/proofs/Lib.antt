@@ -1,7 +1,6 @@
 pub mod ListLemmas
 pub mod TruthLemmas
 pub mod SolvedLemmas
-pub mod EndLemmas
 pub mod Values
 pub mod Flat
 pub mod Plain

@@ -1,18 +1,15 @@
 -- What is found for a program of one period, operation by operation: its limits, the path of their standard form, and what
 -- is made of its end.
-use Rattle.std.specs.Prelude.{◌≡◌, ℕ, suc, List, [], ◌∷◌, Ok, Err}
+use Rattle.std.specs.Prelude.{ℕ, suc, List, [], ◌∷◌, Ok, Err}
 use Rattle.rationals.specs.Rational.{ℚ}
 use Rattle.rationals.specs.Passes.{then_walk}
 use Rattle.lp_defs.specs.Walks.{Walk}
 use Rattle.lp_defs.specs.Program as lp
 use Rattle.lp_defs.specs.Solution.{Solution, Optimum, Nowhere, Endless, Cut_off, Passes, solution}
 use Rattle.farkas_ray.specs.Sums.{ray_walk}
+use Rattle.farkas_ray.specs.Halts.{or_passed}
 use Rattle.slack_form.specs.declared.limits.Limit.{Limit}
 use Rattle.slack_form.specs.Standard.{standard_from, turned_back}
-use Rattle.frac128.specs.declared.form.FormFault.{FormFault}
-use Rattle.frac128.specs.declared.form.FormFault.TheVariants as fault
-use Rattle.farkas_ray.specs.declared.halted.Halted.{Halted}
-use Rattle.farkas_ray.specs.declared.halted.Halted.TheVariants as halted
 use Rattle.scen_defs.specs.Values.{At}
 use Rattle.scen_defs.specs.declared.program.Program.{Program}
 use Rattle.scen_defs.specs.declared.program.Column.{Column}
@@ -63,12 +60,9 @@ best_walk parts rows limits x y =
     (λ dual. then_walk (columns_walk Point x parts) (λ policy. Ok (found_end.Best policy dual)))
 
 -- the multipliers, then the operations that show that they exclude every point
-abbrev pub tested_walk : lp.Program → List ℚ → Walk (Unit {0})
-tested_walk standard y = then_walk (ray_walk standard y) (λ shown. Ok tt)
-
 abbrev pub nowhere_walk : List NodeRow → List Limit → lp.Program → List ℚ → Walk Found
 nowhere_walk rows limits standard y =
-    then_walk (multipliers_walk rows limits y) (λ ray. then_walk (tested_walk standard y) (λ _. Ok (found_end.Nowhere ray)))
+    then_walk (multipliers_walk rows limits y) (λ ray. then_walk (ray_walk standard y) (λ shown. Ok (found_end.Nowhere ray)))
 
 -- the policy, then the direction
 abbrev pub endless_walk : List Part → (ℕ → ℚ) → (ℕ → ℚ) → Walk Found
@@ -91,23 +85,6 @@ path_walk program node pivots limits = end_walk (parts_of program) node.rows.ite
 abbrev pub found_walk : Program → Node → ℕ → Walk Found
 found_walk program node pivots = then_walk (rows_walk (program_bounds program) node.rows.items) (path_walk program node pivots)
 
--- what a walk finds, or the operation in which it ends
-abbrev pub or_passed : Walk Found → Found
-or_passed (Ok f) = f
-or_passed (Err p) = found_end.Passed p
-
 -- what is found in at most so many pivots
 abbrev pub found : Program → Node → ℕ → Found
-found program node pivots = or_passed (found_walk program node pivots)
-
--- ---- faults
-
--- what ended a call, as a fault
-abbrev pub IsFaultOf : Halted → FormFault → Type 0
-IsFaultOf (halted.Passed p) f = f ≡ fault.Passed p
-IsFaultOf halted.Memory f = f ≡ fault.Memory
-
--- what is found where a fault ends the computation
-abbrev pub StoppedBy : FormFault → Found → Type 0
-StoppedBy (fault.Passed p) all = all ≡ found_end.Passed p
-StoppedBy fault.Memory all = ⊥
+found program node pivots = or_passed found_end.Passed (found_walk program node pivots)

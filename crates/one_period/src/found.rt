@@ -6,13 +6,12 @@ ghost use Rattle.lp_defs.specs.Solution.{Solution};
 ghost use Rattle.slack_form.specs.Standard.{standard_of};
 ghost use Rattle.simplex_core.specs.Told.{Tells, Shows as ShowsItself};
 ghost use Rattle.one_period.specs.Node.{IsOneNode};
-ghost use Rattle.one_period.specs.Found.{multipliers_walk, best_walk, tested_walk, nowhere_walk, endless_walk, end_walk};
-ghost use Rattle.one_period.specs.Found.{found_walk, found, IsFaultOf, StoppedBy};
+ghost use Rattle.one_period.specs.Found.{multipliers_walk, best_walk, nowhere_walk, endless_walk, end_walk, found_walk, found};
 ghost use Rattle.one_period.specs.Solved.{IsSound};
 
 use crate::lists::{column_values, row_values};
 use crate::rows::{bounds, limits};
-use farkas_ray::{Halted, ray};
+use farkas_ray::is_ray;
 use frac128::{Form, FormFault, Frac, Memory, Passed};
 use interval_form::{Part, Vector, own_duals, parts};
 use scen_defs::{Node, NodeRow, Program, Values};
@@ -85,29 +84,8 @@ fn nowhere(
     ensures { IfNotMemory result (nowhere_walk rows.now limits.now.rows.items standard.now duals.now) }
 {
     let values = rows_of(alloc, rows, limits, duals)?;
-    test_ray(alloc, standard, duals)?;
+    let _is_shown = is_ray(standard, duals)?;
     Ok(Found::Nowhere(values))
-}
-
-/// The operations that show that multipliers exclude every point.
-fn test_ray(alloc: Global, standard: &Standard, duals: &[Frac]) -> Result<(), FormFault>
-    requires { length duals.now ≡ length standard.now.rows }
-    ensures { IfNotMemory result (tested_walk standard.now duals.now) }
-{
-    match ray(alloc, standard, duals) {
-        Ok(_multipliers) => Ok(()),
-        Err(halted) => Err(fault_of(halted)),
-    }
-}
-
-/// What ended a call, as a fault.
-fn fault_of(halted: Halted) -> FormFault
-    ensures { IsFaultOf halted result }
-{
-    match halted {
-        Halted::Passed(passed) => FormFault::Passed(passed),
-        Halted::Memory => FormFault::Memory,
-    }
 }
 
 /// Of an unbounded end: the policy, then the direction.
@@ -121,6 +99,7 @@ fn endless(alloc: Global, parts: &[Part], point: &Form, ray: &Form) -> Result<Fo
 }
 
 /// What is made of the end of the path.
+#[tactic(auto, using(slack_form::proofs::Equations::equations_length))]
 fn ended(
     alloc: Global,
     parts: &[Part],
@@ -173,16 +152,9 @@ pub(crate) fn find(
 {
     match followed(alloc, program, node, pivots) {
         Ok(found) => Ok(found),
-        Err(fault) => stopped(fault),
-    }
-}
-
-/// What is found where a fault ends the computation.
-fn stopped(fault: FormFault) -> Result<Found, Memory>
-    ensures { IfOk result (StoppedBy fault) }
-{
-    match fault {
-        FormFault::Passed(passed) => Ok(Found::Passed(passed)),
-        FormFault::Memory => Err(Memory),
+        Err(fault) => match fault {
+            FormFault::Passed(passed) => Ok(Found::Passed(passed)),
+            FormFault::Memory => Err(Memory),
+        },
     }
 }
