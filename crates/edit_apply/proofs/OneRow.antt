@@ -9,8 +9,9 @@ use Rattle.scen_defs.specs.Program.{Node, Program, node_at, nodes_content}
 use Rattle.scen_defs.specs.Valid.{row_at, IsProgram}
 use Rattle.scen_defs.proofs.Valid.{once-passes}
 use Rattle.scen_defs.proofs.NodeReads.{drop_read, node_read}
-use Rattle.smps_words.specs.declared.entry.Entry.TheVariants.{Matrix}
-use Rattle.edit_defs.specs.After.{change_row, home_of}
+use Rattle.smps_words.specs.declared.entry.Entry.{Entry}
+use Rattle.smps_words.specs.declared.entry.Entry.TheVariants.{Matrix, Rhs}
+use Rattle.edit_defs.specs.After.{change_row, home_of, stage_of_entry}
 use Rattle.edit_defs.specs.Applies.{IsSet}
 use Rattle.edit_defs.proofs.Kept.{home-is}
 
@@ -63,11 +64,18 @@ row-passes test zero (r ∷ rs) h t = t
 row-passes test (suc i) (r ∷ rs) h t = row-passes test i rs (omega (arith, h)) t
 
 -- a row of the entry's stage stands once at the entry's node
-pub once_there : (p : Program) (name : List ℕ) (i j n : ℕ) (nodes : List (Option Node)) → IsProgram p → IsSet p name (Matrix i j) → n ≡ home_of p name (Matrix i j) → nodes ≡ p.nodes → Once i (map (λ (r : NodeRow). r.row) (node_at nodes n).rows)
-once_there p name i j n nodes g a e f =
-    let home = home-is p g name (Matrix i j) a in
-    let fits = g.nodes (home_of p name (Matrix i j)) home.0 in
-    let stage : (node_at p.nodes (home_of p name (Matrix i j))).stage ≡ (row_at p.rows i).stage = home.1 in
+once_at_home : (p : Program) (name : List ℕ) (entry : Entry) (i n : ℕ) (nodes : List (Option Node)) → IsProgram p → IsSet p name entry → i < length p.rows → stage_of_entry p entry ≡ (row_at p.rows i).stage
+    → n ≡ home_of p name entry → nodes ≡ p.nodes → Once i (map (λ (r : NodeRow). r.row) (node_at nodes n).rows)
+once_at_home p name entry i n nodes g a row same e f =
+    let home = home-is p g name entry a in
+    let fits = g.nodes (home_of p name entry) home.0 in
+    let stage : (node_at p.nodes (home_of p name entry)).stage ≡ (row_at p.rows i).stage = home.1 ∙ same in
     subst (λ (x : Node). Once i (map (λ (r : NodeRow). r.row) x.rows)) (sym (ap₂ node_at f e))
-    (subst (Once i) (sym fits.numbers) (once-passes (λ (r : Row). eqb r.stage (node_at p.nodes (home_of p name (Matrix i j))).stage) i p.rows
-    (row-passes (λ (r : Row). eqb r.stage (node_at p.nodes (home_of p name (Matrix i j))).stage) i p.rows a.entry_is.row (eq-eqb (row_at p.rows i).stage (node_at p.nodes (home_of p name (Matrix i j))).stage (sym stage)))))
+    (subst (Once i) (sym fits.numbers) (once-passes (λ (r : Row). eqb r.stage (node_at p.nodes (home_of p name entry)).stage) i p.rows
+    (row-passes (λ (r : Row). eqb r.stage (node_at p.nodes (home_of p name entry)).stage) i p.rows row (eq-eqb (row_at p.rows i).stage (node_at p.nodes (home_of p name entry)).stage (sym stage)))))
+
+pub once_there : (p : Program) (name : List ℕ) (i j n : ℕ) (nodes : List (Option Node)) → IsProgram p → IsSet p name (Matrix i j) → n ≡ home_of p name (Matrix i j) → nodes ≡ p.nodes → Once i (map (λ (r : NodeRow). r.row) (node_at nodes n).rows)
+once_there p name i j n nodes g a e f = once_at_home p name (Matrix i j) i n nodes g a a.entry_is.row refl e f
+
+pub once_right : (p : Program) (name : List ℕ) (i n : ℕ) (nodes : List (Option Node)) → IsProgram p → IsSet p name (Rhs i) → n ≡ home_of p name (Rhs i) → nodes ≡ p.nodes → Once i (map (λ (r : NodeRow). r.row) (node_at nodes n).rows)
+once_right p name i n nodes g a e f = once_at_home p name (Rhs i) i n nodes g a a.entry_is refl e f

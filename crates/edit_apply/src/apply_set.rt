@@ -4,7 +4,7 @@ ghost use Rattle.smps_words.specs.declared.entry.Entry.TheVariants.{Cost, Matrix
 ghost use Rattle.scen_defs.specs.Program.{content};
 ghost use Rattle.scen_defs.specs.Valid.{IsProgram};
 ghost use Rattle.edit_defs.specs.declared.edit.Edit.TheVariants.{Set};
-ghost use Rattle.edit_defs.specs.After.{after};
+ghost use Rattle.edit_defs.specs.After.{after, home_of};
 ghost use Rattle.edit_defs.specs.Applies.{IsSet};
 ghost use Rattle.edit_defs.specs.Causes.{HasNumbers, refused};
 ghost use Rattle.edit_defs.specs.Limits.{counts};
@@ -12,12 +12,12 @@ ghost use Rattle.edit_apply.specs.Faults.{ApplyFaultOf};
 ghost use Rattle.edit_apply.specs.Rest.{set_rest};
 
 use crate::counts::{are_many, moved};
-use crate::facts::{is_known, is_late};
+use crate::facts::is_late;
 use crate::fault::ApplyFault;
 use crate::lengths::{cost_lengths, entry_lengths};
 use crate::sets::{set_column_cost, set_matrix_entry, set_right_side};
 use core_defs::Cause;
-use edit_defs::{Counts, home};
+use edit_defs::{Counts, home_near, place_near};
 use frac128::Frac;
 use scen_defs::Program;
 use smps_words::{Entry, Name};
@@ -28,11 +28,13 @@ fn apply_cost(
     program: &mut Program,
     counted: &mut Counts,
     scenario: &Name,
+    place: u32,
     column: u32,
     value: Frac,
 ) -> Result<(), ApplyFault>
     requires program { IsProgram (content program.old) }
     requires applies { IsSet (content program.old) scenario.now (Cost column) }
+    requires place { place ≡ home_of (content program.old) scenario.now (Cost column) }
     requires counted { counted.old ≡ counts (content program.old).nodes }
     ensures ok { OnOk result (content program.new ≡ after (content program.old) (Set scenario.now (Cost column) value)) }
     ensures cause { MatchResult result (λ _. set_rest (content program.old) scenario.now (Cost column) value ≡ None)
@@ -40,14 +42,13 @@ fn apply_cost(
     ensures same { OnErr result (content program.new ≡ content program.old) }
     ensures counted { counted.new ≡ counts (content program.new).nodes }
 {
-    let place = home(program, scenario, Entry::Cost { column });
-    let (less, more) = cost_lengths(alloc, &program.nodes, place, column, value)?;
+    let (less, more) = cost_lengths(alloc, &program.nodes, place, column, value);
     let mut all = *counted;
     all.costs = moved(all.costs, less, more)?;
     if are_many(all) {
         return Err(ApplyFault::Refused(Cause::ScenarioLimit));
     }
-    set_column_cost(alloc, program, scenario, column, value)?;
+    set_column_cost(alloc, program, scenario, place, column, value)?;
     *counted = all;
     Ok(())
 }
@@ -57,12 +58,14 @@ fn apply_matrix(
     program: &mut Program,
     counted: &mut Counts,
     scenario: &Name,
+    place: u32,
     row: u32,
     column: u32,
     value: Frac,
 ) -> Result<(), ApplyFault>
     requires program { IsProgram (content program.old) }
     requires applies { IsSet (content program.old) scenario.now (Matrix row column) }
+    requires place { place ≡ home_of (content program.old) scenario.now (Matrix row column) }
     requires counted { counted.old ≡ counts (content program.old).nodes }
     ensures ok { OnOk result (content program.new ≡ after (content program.old) (Set scenario.now (Matrix row column) value)) }
     ensures cause { MatchResult result (λ _. set_rest (content program.old) scenario.now (Matrix row column) value ≡ None)
@@ -70,14 +73,13 @@ fn apply_matrix(
     ensures same { OnErr result (content program.new ≡ content program.old) }
     ensures counted { counted.new ≡ counts (content program.new).nodes }
 {
-    let place = home(program, scenario, Entry::Matrix { row, column });
-    let (less, more) = entry_lengths(alloc, &program.nodes, place, row, column, value)?;
+    let (less, more) = entry_lengths(alloc, &program.nodes, place, row, column, value);
     let mut all = *counted;
     all.entries = moved(all.entries, less, more)?;
     if are_many(all) {
         return Err(ApplyFault::Refused(Cause::ScenarioLimit));
     }
-    set_matrix_entry(alloc, program, scenario, row, column, value)?;
+    set_matrix_entry(alloc, program, scenario, place, row, column, value)?;
     *counted = all;
     Ok(())
 }
@@ -86,11 +88,13 @@ fn apply_right_side(
     program: &mut Program,
     counted: &Counts,
     scenario: &Name,
+    place: u32,
     row: u32,
     value: Frac,
 ) -> Result<(), ApplyFault>
     requires program { IsProgram (content program.old) }
     requires applies { IsSet (content program.old) scenario.now (Rhs row) }
+    requires place { place ≡ home_of (content program.old) scenario.now (Rhs row) }
     requires counted { counted.now ≡ counts (content program.old).nodes }
     ensures ok { OnOk result (content program.new ≡ after (content program.old) (Set scenario.now (Rhs row) value)) }
     ensures cause { MatchResult result (λ _. set_rest (content program.old) scenario.now (Rhs row) value ≡ None)
@@ -98,7 +102,7 @@ fn apply_right_side(
     ensures same { OnErr result (content program.new ≡ content program.old) }
     ensures counted { counted.now ≡ counts (content program.new).nodes }
 {
-    set_right_side(program, scenario, row, value)?;
+    set_right_side(program, scenario, place, row, value)?;
     Ok(())
 }
 
@@ -108,11 +112,13 @@ fn apply_entry(
     program: &mut Program,
     counted: &mut Counts,
     scenario: &Name,
+    place: u32,
     entry: Entry,
     value: Frac,
 ) -> Result<(), ApplyFault>
     requires program { IsProgram (content program.old) }
     requires applies { IsSet (content program.old) scenario.now entry }
+    requires place { place ≡ home_of (content program.old) scenario.now entry }
     requires counted { counted.old ≡ counts (content program.old).nodes }
     ensures ok { OnOk result (content program.new ≡ after (content program.old) (Set scenario.now entry value)) }
     ensures cause { MatchResult result (λ _. set_rest (content program.old) scenario.now entry value ≡ None)
@@ -121,15 +127,17 @@ fn apply_entry(
     ensures counted { counted.new ≡ counts (content program.new).nodes }
 {
     match entry {
-        Entry::Cost { column } => apply_cost(alloc, program, counted, scenario, column, value),
+        Entry::Cost { column } => apply_cost(
+            alloc, program, counted, scenario, place, column, value,
+        ),
         Entry::Matrix { row, column } => {
-            apply_matrix(alloc, program, counted, scenario, row, column, value)
+            apply_matrix(alloc, program, counted, scenario, place, row, column, value)
         }
-        Entry::Rhs { row } => apply_right_side(program, counted, scenario, row, value),
+        Entry::Rhs { row } => apply_right_side(program, counted, scenario, place, row, value),
     }
 }
 
-/// Sets an entry in place, or says why not.
+/// Sets an entry in place, or says why not. The scenario is looked for as by `place_near`.
 pub(crate) fn apply_set(
     alloc: Global,
     program: &mut Program,
@@ -137,6 +145,7 @@ pub(crate) fn apply_set(
     scenario: &Name,
     entry: Entry,
     value: Frac,
+    guess: usize,
 ) -> Result<(), ApplyFault>
     requires program { IsProgram (content program.old) }
     requires numbers { HasNumbers (content program.old) entry }
@@ -147,11 +156,12 @@ pub(crate) fn apply_set(
     ensures same { OnErr result (content program.new ≡ content program.old) }
     ensures counted { counted.new ≡ counts (content program.new).nodes }
 {
-    if !is_known(&program.scenarios, scenario) {
+    let Some(found) = place_near(&program.scenarios, guess, scenario.as_bytes()) else {
         return Err(ApplyFault::Refused(Cause::ScenarioUnknown));
-    }
+    };
     if is_late(program, entry) {
         return Err(ApplyFault::Refused(Cause::EntryStage));
     }
-    apply_entry(alloc, program, counted, scenario, entry, value)
+    let place = home_near(program, found, scenario, entry);
+    apply_entry(alloc, program, counted, scenario, place, entry, value)
 }

@@ -47,14 +47,25 @@ fn put_last(all: &mut Vec<Term>, column: u64, value: Frac) -> Result<(), Memory>
     Ok(())
 }
 
+/// How many terms a value is; 0 is no entry.
+fn value_length(value: Frac) -> usize
+    ensures length { (column : ℕ) → result ≡ length (put column value []) }
+    ensures small { result ≤ 1 }
+{
+    if value.is_zero() { 0 } else { 1 }
+}
+
 /// The terms with the value in the column.
 fn terms_with(alloc: Global, terms: &[Term], column: u64, value: Frac) -> Result<Vec<Term>, Memory>
     ensures { IfOk result (λ all. all.items ≡ set_entry column value terms.now) }
 {
     let place = before(terms, column);
-    let mut all = Vec::from_slice(alloc, &terms[..place])?;
+    let front = &terms[..place];
+    let behind = rest(&terms[place..], column);
+    let mut all = Vec::with_capacity(alloc, front.len() + behind.len() + 1)?;
+    all.extend_from_slice(front)?;
     put_last(&mut all, column, value)?;
-    all.extend_from_slice(rest(&terms[place..], column))?;
+    all.extend_from_slice(behind)?;
     Ok(all)
 }
 
@@ -67,20 +78,18 @@ pub(crate) fn with_entry(
 ) -> Result<Form, Memory>
     ensures { IfOk result (λ new. new ≡ set_entry column value form.now) }
 {
-    let copy = form.copy(alloc)?;
-    let terms = terms_with(alloc, copy.terms(), column, value)?;
+    form.keeps_order();
+    let terms = terms_with(alloc, form.terms(), column, value)?;
     Ok(Form::from_terms(alloc, terms))
 }
 
 /// How many terms the form with the value in the column has.
-pub(crate) fn length_with(
-    alloc: Global,
-    form: &Form,
-    column: u64,
-    value: Frac,
-) -> Result<usize, Memory>
-    ensures { IfOk result (λ count. count ≡ length (set_entry column value form.now)) }
+pub(crate) fn length_with(form: &Form, column: u64, value: Frac) -> usize
+    ensures { result ≡ length (set_entry column value form.now) }
 {
-    let new = with_entry(alloc, form, column, value)?;
-    Ok(new.len())
+    let terms = form.terms();
+    let place = before(terms, column);
+    let front = &terms[..place];
+    let behind = rest(&terms[place..], column);
+    front.len() + value_length(value) + behind.len()
 }

@@ -18,6 +18,43 @@ use edit_defs::{Counts, Edit};
 use scen_defs::Program;
 use std::alloc::Global;
 
+/// Applies an edit in place, as `apply_counted` does. The scenario of a SET is looked for at the guess first, as by `place_near`.
+pub fn apply_near(
+    alloc: Global,
+    program: &mut Program,
+    counted: &mut Counts,
+    edit: &Edit,
+    guess: usize,
+) -> Result<(), ApplyFault>
+    requires program { IsProgram (content program.old) }
+    requires asks { Asks (content program.old) edit.now }
+    requires counted { counted.old ≡ counts (content program.old).nodes }
+    ensures ok { OnOk result (content program.new ≡ after (content program.old) edit.now) }
+    ensures cause { MatchResult result (λ _. refused (content program.old) edit.now ≡ None)
+        (ApplyFaultOf (refused (content program.old) edit.now)) }
+    ensures same { OnErr result (content program.new ≡ content program.old) }
+    ensures counted { counted.new ≡ counts (content program.new).nodes }
+{
+    match edit {
+        Edit::Set {
+            scenario,
+            entry,
+            value,
+        } => apply_set(alloc, program, counted, scenario, *entry, *value, guess),
+        Edit::Prob {
+            scenario,
+            probability,
+        } => apply_prob(alloc, program, scenario, *probability),
+        Edit::Drop { scenario } => apply_drop(alloc, program, counted, scenario),
+        Edit::Add {
+            name,
+            parent,
+            probability,
+            stage,
+        } => apply_add(alloc, program, counted, name, parent, *probability, *stage),
+    }
+}
+
 /// Applies an edit in place, as `apply` does, where the counts of the program are known; they become those of the program after it.
 pub fn apply_counted(
     alloc: Global,
@@ -34,24 +71,7 @@ pub fn apply_counted(
     ensures same { OnErr result (content program.new ≡ content program.old) }
     ensures counted { counted.new ≡ counts (content program.new).nodes }
 {
-    match edit {
-        Edit::Set {
-            scenario,
-            entry,
-            value,
-        } => apply_set(alloc, program, counted, scenario, *entry, *value),
-        Edit::Prob {
-            scenario,
-            probability,
-        } => apply_prob(alloc, program, scenario, *probability),
-        Edit::Drop { scenario } => apply_drop(alloc, program, counted, scenario),
-        Edit::Add {
-            name,
-            parent,
-            probability,
-            stage,
-        } => apply_add(alloc, program, counted, name, parent, *probability, *stage),
-    }
+    apply_near(alloc, program, counted, edit, 0)
 }
 
 /// Applies an edit in place.

@@ -1,21 +1,21 @@
 // How many terms a form has before and after one of its entries is set.
-ghost use Rattle.std.specs.Prelude.{◌≡◌, IfOk, length};
+ghost use Rattle.std.specs.Prelude.{◌≡◌, length};
 ghost use Rattle.scen_defs.specs.Program.{nodes_content, node_at};
 ghost use Rattle.edit_defs.specs.After.{set_entry};
 ghost use Rattle.edit_defs.specs.Shifts.{find_row};
 
 use crate::entry::length_with;
 use edit_defs::{node_of, row_of};
-use frac128::{Form, Frac, Memory};
+use frac128::{Form, Frac};
 use scen_defs::{Node, NodeRow};
 use std::alloc::Global;
 
 /// How many terms a form has, and how many with the value in the column.
-fn lengths(alloc: Global, form: &Form, column: u32, value: Frac) -> Result<(usize, usize), Memory>
-    ensures { IfOk result (λ both. (both.0 ≡ length form.now) × (both.1 ≡ length (set_entry column value form.now))) }
+fn lengths(form: &Form, column: u32, value: Frac) -> (usize, usize)
+    ensures less { result.0 ≡ length form.now }
+    ensures more { result.1 ≡ length (set_entry column value form.now) }
 {
-    let more = length_with(alloc, form, column as u64, value)?;
-    Ok((form.len(), more))
+    (form.len(), length_with(form, column as u64, value))
 }
 
 /// The same of the costs of a node; of no terms where it isn't live.
@@ -25,15 +25,15 @@ pub(crate) fn cost_lengths(
     node: u32,
     column: u32,
     value: Frac,
-) -> Result<(usize, usize), Memory>
-    ensures { IfOk result (λ both. (both.0 ≡ length (node_at (nodes_content nodes.now) node).cost)
-        × (both.1 ≡ length (set_entry column value (node_at (nodes_content nodes.now) node).cost))) }
+) -> (usize, usize)
+    ensures less { result.0 ≡ length (node_at (nodes_content nodes.now) node).cost }
+    ensures more { result.1 ≡ length (set_entry column value (node_at (nodes_content nodes.now) node).cost) }
 {
     match node_of(nodes, node) {
-        Some(found) => lengths(alloc, &found.cost, column, value),
+        Some(found) => lengths(&found.cost, column, value),
         None => {
             let bare = Form::empty(alloc);
-            lengths(alloc, &bare, column, value)
+            lengths(&bare, column, value)
         }
     }
 }
@@ -45,15 +45,15 @@ fn row_lengths(
     row: u32,
     column: u32,
     value: Frac,
-) -> Result<(usize, usize), Memory>
-    ensures { IfOk result (λ both. (both.0 ≡ length (find_row row rows.now).entries)
-        × (both.1 ≡ length (set_entry column value (find_row row rows.now).entries))) }
+) -> (usize, usize)
+    ensures less { result.0 ≡ length (find_row row rows.now).entries }
+    ensures more { result.1 ≡ length (set_entry column value (find_row row rows.now).entries) }
 {
     match row_of(rows, row) {
-        Some(found) => lengths(alloc, &found.entries, column, value),
+        Some(found) => lengths(&found.entries, column, value),
         None => {
             let bare = Form::empty(alloc);
-            lengths(alloc, &bare, column, value)
+            lengths(&bare, column, value)
         }
     }
 }
@@ -66,9 +66,9 @@ pub(crate) fn entry_lengths(
     row: u32,
     column: u32,
     value: Frac,
-) -> Result<(usize, usize), Memory>
-    ensures { IfOk result (λ both. (both.0 ≡ length (find_row row (node_at (nodes_content nodes.now) node).rows).entries)
-        × (both.1 ≡ length (set_entry column value (find_row row (node_at (nodes_content nodes.now) node).rows).entries))) }
+) -> (usize, usize)
+    ensures less { result.0 ≡ length (find_row row (node_at (nodes_content nodes.now) node).rows).entries }
+    ensures more { result.1 ≡ length (set_entry column value (find_row row (node_at (nodes_content nodes.now) node).rows).entries) }
 {
     match node_of(nodes, node) {
         Some(found) => row_lengths(alloc, &found.rows, row, column, value),

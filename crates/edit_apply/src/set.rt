@@ -11,6 +11,20 @@ use frac128::{Frac, Memory};
 use scen_defs::{Node, NodeRow};
 use std::alloc::Global;
 
+/// The place of a row among a node's rows.
+fn row_place(rows: &[NodeRow], row: u32) -> usize
+    requires { Once row (map (λ (r : NodeRow). r.row) rows.now) }
+    ensures within { result < length rows.now }
+    ensures row { (found : NodeRow) → found ≡ get_or rows.now result found → found.row ≡ row }
+{
+    for (place, found) in rows.iter().enumerate() {
+        if found.row == row {
+            return place;
+        }
+    }
+    unreachable!()
+}
+
 /// Gives a row these ends, where it has the number.
 fn set_row(found: &mut NodeRow, row: u32, ends: &(Option<Frac>, Option<Frac>))
     ensures { found.new ≡ change_row row (with_ends ends.now) found.old }
@@ -23,15 +37,16 @@ fn set_row(found: &mut NodeRow, row: u32, ends: &(Option<Frac>, Option<Frac>))
 
 /// Gives a row among a node's rows these ends.
 fn set_row_ends(rows: &mut [NodeRow], row: u32, ends: &(Option<Frac>, Option<Frac>))
+    requires { Once row (map (λ (r : NodeRow). r.row) rows.old) }
     ensures { rows.new ≡ map (change_row row (with_ends ends.now)) rows.old }
 {
-    for found in rows.iter_mut() {
-        set_row(found, row, ends);
-    }
+    let place = row_place(rows, row);
+    set_row(&mut rows[place], row, ends);
 }
 
 /// Gives a row of a node these ends.
 fn set_node_ends(node: &mut Node, row: u32, ends: &(Option<Frac>, Option<Frac>))
+    requires { Once row (map (λ (r : NodeRow). r.row) node.old.rows.items) }
     ensures { node_content node.new ≡ with_row_ends row ends.now (node_content node.old) }
 {
     set_row_ends(&mut node.rows, row, ends);
@@ -44,7 +59,8 @@ pub(crate) fn set_ends(
     row: u32,
     ends: &(Option<Frac>, Option<Frac>),
 )
-    requires { passes_at is_live place (nodes_content nodes.old) ≡ true }
+    requires live { passes_at is_live place (nodes_content nodes.old) ≡ true }
+    requires once { Once row (map (λ (r : NodeRow). r.row) (node_at (nodes_content nodes.old) place).rows) }
     ensures { nodes_content nodes.new ≡ change_node place (with_row_ends row ends.now) (nodes_content nodes.old) }
 {
     match &mut nodes[place as usize] {
@@ -100,20 +116,6 @@ pub(crate) fn set_cost(
         }
         None => Ok(()),
     }
-}
-
-/// The place of a row among a node's rows.
-fn row_place(rows: &[NodeRow], row: u32) -> usize
-    requires { Once row (map (λ (r : NodeRow). r.row) rows.now) }
-    ensures within { result < length rows.now }
-    ensures row { (found : NodeRow) → found ≡ get_or rows.now result found → found.row ≡ row }
-{
-    for (place, found) in rows.iter().enumerate() {
-        if found.row == row {
-            return place;
-        }
-    }
-    unreachable!()
 }
 
 /// Sets an entry of a row among a node's rows.

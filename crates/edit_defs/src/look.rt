@@ -1,10 +1,10 @@
 // The scenario of a name, and the node and the row that an entry belongs to.
-ghost use Rattle.std.specs.Prelude.{◌≡◌, is_some, IfSome, IfNone, MatchOption, get_or};
+ghost use Rattle.std.specs.Prelude.{◌≡◌, ◌<◌, true, map, length, is_some, IfSome, IfNone, MatchOption, get_or};
 ghost use Rattle.scen_defs.specs.Lists.{passes_at};
 ghost use Rattle.scen_defs.specs.Program.{is_live, node_at, node_content, nodes_content, no_node};
-ghost use Rattle.scen_defs.specs.Program.{scenario_content, scenarios_content, content, column_at};
-ghost use Rattle.scen_defs.specs.Valid.{row_at};
-ghost use Rattle.edit_defs.specs.After.{is_known, scenario_named, no_scenario, stage_of_entry, home_of};
+ghost use Rattle.scen_defs.specs.Program.{Scenario as ScenarioContent, scenario_content, scenarios_content, content, column_at};
+ghost use Rattle.scen_defs.specs.Valid.{row_at, Differ, IsProgram};
+ghost use Rattle.edit_defs.specs.After.{is_known, is_named, scenario_named, no_scenario, stage_of_entry, home_of};
 ghost use Rattle.edit_defs.specs.Shifts.{find_row, no_row};
 ghost use Rattle.edit_defs.specs.Touches.{path_of};
 
@@ -24,6 +24,73 @@ pub fn find<'a>(scenarios: &'a [Scenario], name: &Name) -> Option<&'a Scenario>
         }
     }
     None
+}
+
+/// Whether a scenario of the name stands at the place.
+fn is_at(scenarios: &[Scenario], place: usize, name: &[u8]) -> bool
+    ensures { result ≡ passes_at (is_named name.now) place (scenarios_content scenarios.now) }
+{
+    if place >= scenarios.len() {
+        return false;
+    }
+    name == scenarios[place].name.as_bytes()
+}
+
+/// The place of a scenario of the name, at the guess or before it.
+fn place_before(scenarios: &[Scenario], guess: usize, name: &[u8]) -> Option<usize>
+    ensures here { IfSome result (λ place. passes_at (is_named name.now) place (scenarios_content scenarios.now) ≡ true) }
+    ensures within { IfSome result (λ place. place < length scenarios.now) }
+{
+    let mut left = scenarios.len();
+    if guess < left {
+        left = guess + 1;
+    }
+    while left > 0 {
+        left -= 1;
+        if is_at(scenarios, left, name) {
+            return Some(left);
+        }
+    }
+    None
+}
+
+/// The place of the first scenario of the name.
+fn place_anywhere(scenarios: &[Scenario], name: &[u8]) -> Option<usize>
+    ensures known { is_some result ≡ is_known name.now (scenarios_content scenarios.now) }
+    ensures here { IfSome result (λ place. passes_at (is_named name.now) place (scenarios_content scenarios.now) ≡ true) }
+    ensures within { IfSome result (λ place. place < length scenarios.now) }
+{
+    for (place, scenario) in scenarios.iter().enumerate() {
+        if name == scenario.name.as_bytes() {
+            return Some(place);
+        }
+    }
+    None
+}
+
+/// The place of a scenario of the name. It is looked for at the guess, before it, and then from the first place on: the better the guess,
+/// the sooner it is found.
+pub fn place_near(scenarios: &[Scenario], guess: usize, name: &[u8]) -> Option<usize>
+    ensures known { is_some result ≡ is_known name.now (scenarios_content scenarios.now) }
+    ensures here { IfSome result (λ place. passes_at (is_named name.now) place (scenarios_content scenarios.now) ≡ true) }
+    ensures within { IfSome result (λ place. place < length scenarios.now) }
+{
+    match place_before(scenarios, guess, name) {
+        Some(place) => Some(place),
+        None => place_anywhere(scenarios, name),
+    }
+}
+
+/// The scenario of a name, looked for as by `place_near`, where no two have the same name.
+fn find_near<'a>(scenarios: &'a [Scenario], guess: usize, name: &Name) -> Option<&'a Scenario>
+    requires { Differ (map (λ (s : ScenarioContent). s.name) (scenarios_content scenarios.now)) }
+    ensures scenario { IfSome result (λ found. scenario_named name.now (scenarios_content scenarios.now) ≡ scenario_content found.now) }
+    ensures none { IfNone result (scenario_named name.now (scenarios_content scenarios.now) ≡ no_scenario) }
+{
+    match place_near(scenarios, guess, name.as_bytes()) {
+        Some(place) => Some(&scenarios[place]),
+        None => None,
+    }
 }
 
 /// The stage of a column, 0 where there is none.
@@ -95,6 +162,18 @@ pub fn home(program: &Program, name: &Name, entry: Entry) -> u32
 {
     let stage = stage_of(program, entry);
     match find(&program.scenarios, name) {
+        Some(scenario) => node_on(&scenario.path, stage),
+        None => node_on(&[], stage),
+    }
+}
+
+/// The node of an entry, where the scenario is looked for as by `place_near`.
+pub fn home_near(program: &Program, guess: usize, name: &Name, entry: Entry) -> u32
+    requires { IsProgram (content program.now) }
+    ensures { result ≡ home_of (content program.now) name.now entry }
+{
+    let stage = stage_of(program, entry);
+    match find_near(&program.scenarios, guess, name) {
         Some(scenario) => node_on(&scenario.path, stage),
         None => node_on(&[], stage),
     }

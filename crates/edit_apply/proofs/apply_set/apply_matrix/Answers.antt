@@ -1,22 +1,20 @@
-use Rattle.std.proofs.Common.{◌≡◌, Bool, true, false, Option, Some, None, ap, sym, subst, ◌∙◌}
-use Rattle.core_defs.specs.declared.cause.Cause.{Cause}
+use Rattle.std.proofs.Common.{None, ap, sym, ◌∙◌}
 use Rattle.core_defs.specs.declared.cause.Cause.TheVariants.{ScenarioLimit}
 use Rattle.scen_defs.specs.Program.{Program, content, nodes_content}
-use Rattle.edit_defs.specs.declared.counts.Counts.{Counts}
 use Rattle.edit_defs.specs.Causes.{refused_if}
 use Rattle.edit_defs.specs.Limits.{are_many, counts}
 use Rattle.edit_apply.proofs.Counting.{matrix_after}
 use Rattle.edit_apply.proofs.apply_set.apply_matrix.Goals as goal
 
 pub returns-then-are_many-clause-cause : goal.returns-then-are_many-clause-cause
-returns-then-are_many-clause-cause c = ap (λ b. refused_if b ScenarioLimit None) (ap are_many (sym (matrix_after (content c.args.program.now) c.args.scenario.now c.args.row c.args.column c.args.value c.home-place.result c.in_ok-less.less c.in_ok-less.more c.in_ok-all.field-0 c.args.counted.now (nodes_content c.deref.result.now) (ap nodes_content c.deref.ensures.value)
-    c.requires.program c.requires.applies c.home-place.ensures c.requires.counted c.in_ok-less.ensures.0 c.in_ok-less.ensures.1 c.in_ok-all.ensures)) ∙ sym c.are_many.ensures ∙ c.if-are_many.true)
+returns-then-are_many-clause-cause c = ap (λ b. refused_if b ScenarioLimit None) (ap are_many (sym (matrix_after (content c.args.program.now) c.args.scenario.now c.args.row c.args.column c.args.value c.args.place c.entry_lengths-less.result.0 c.entry_lengths-less.result.1 c.in_ok-all.field-0 c.args.counted.now (nodes_content c.deref.result.now) (ap nodes_content c.deref.ensures.value)
+    c.requires.program c.requires.applies c.requires.place c.requires.counted c.entry_lengths-less.ensures.less c.entry_lengths-less.ensures.more c.in_ok-all.ensures)) ∙ sym c.are_many.ensures ∙ c.if-are_many.true)
 
 pub returns-clause-cause : goal.returns-clause-cause
-returns-clause-cause c = ap (λ b. refused_if b ScenarioLimit None) (ap are_many (sym (matrix_after (content c.args.program.now) c.args.scenario.now c.args.row c.args.column c.args.value c.home-place.result c.in_ok-less.less c.in_ok-less.more c.in_ok-all.field-0 c.args.counted.now (nodes_content c.deref.result.now) (ap nodes_content c.deref.ensures.value)
-    c.requires.program c.requires.applies c.home-place.ensures c.requires.counted c.in_ok-less.ensures.0 c.in_ok-less.ensures.1 c.in_ok-all.ensures)) ∙ sym c.are_many.ensures ∙ c.if-are_many.false)
+returns-clause-cause c = ap (λ b. refused_if b ScenarioLimit None) (ap are_many (sym (matrix_after (content c.args.program.now) c.args.scenario.now c.args.row c.args.column c.args.value c.args.place c.entry_lengths-less.result.0 c.entry_lengths-less.result.1 c.in_ok-all.field-0 c.args.counted.now (nodes_content c.deref.result.now) (ap nodes_content c.deref.ensures.value)
+    c.requires.program c.requires.applies c.requires.place c.requires.counted c.entry_lengths-less.ensures.less c.entry_lengths-less.ensures.more c.in_ok-all.ensures)) ∙ sym c.are_many.ensures ∙ c.if-are_many.false)
 
 pub returns-clause-counted : goal.returns-clause-counted
-returns-clause-counted c = matrix_after (content c.args.program.now) c.args.scenario.now c.args.row c.args.column c.args.value c.home-place.result c.in_ok-less.less c.in_ok-less.more c.in_ok-all.field-0 c.args.counted.now (nodes_content c.deref.result.now) (ap nodes_content c.deref.ensures.value)
-    c.requires.program c.requires.applies c.home-place.ensures c.requires.counted c.in_ok-less.ensures.0 c.in_ok-less.ensures.1 c.in_ok-all.ensures
+returns-clause-counted c = matrix_after (content c.args.program.now) c.args.scenario.now c.args.row c.args.column c.args.value c.args.place c.entry_lengths-less.result.0 c.entry_lengths-less.result.1 c.in_ok-all.field-0 c.args.counted.now (nodes_content c.deref.result.now) (ap nodes_content c.deref.ensures.value)
+    c.requires.program c.requires.applies c.requires.place c.requires.counted c.entry_lengths-less.ensures.less c.entry_lengths-less.ensures.more c.in_ok-all.ensures
     ∙ ap (λ (p : Program). counts p.nodes) (sym c.in_ok-set_matrix_entry.ensures.ok)
