@@ -1,6 +1,6 @@
 pub mod Long
 pub mod Leading
-pub mod Places
+pub mod TableLemmas
 pub mod Fields
 pub mod Counts
 pub mod Copies

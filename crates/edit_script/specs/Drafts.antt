@@ -13,6 +13,7 @@ use Rattle.edit_script.specs.declared.draft.Draft.{Draft}
 use Rattle.edit_script.specs.declared.stop.Stop.{Stop}
 use Rattle.edit_script.specs.declared.stop.Stop.TheVariants as stop
 use Rattle.edit_script.specs.Script.{Stand}
+use Rattle.edit_script.specs.Tables.{HasTables}
 use Rattle.edit_script.specs.Allowed.{AreAllowed, program_after}
 
 abbrev pub stand : Draft → Stand
@@ -24,10 +25,11 @@ stand draft = record {
   reported = draft.reported;
 }
 
--- its program is one, the counts are those of its nodes, and its numbers are small
+-- its program is one, the counts are those of its nodes, the tables have its names, and its numbers are small
 pub record IsDraft (draft : Draft) : Type 0 where
   pub program : IsProgram (content draft.program)
   pub counted : draft.counted ≡ counts (content draft.program).nodes
+  pub tables : HasTables (content draft.program) draft.tables
   pub commands : draft.commands ≤ 10000
   pub items : length draft.items.items ≤ draft.commands
   pub work : draft.work ≤ draft.commands * 1000000

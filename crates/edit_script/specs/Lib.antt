@@ -1,6 +1,7 @@
 pub mod Numbers
 pub mod Commands
 pub mod Asked
+pub mod Tables
 pub mod Script
 pub mod Allowed
 pub mod Drafts

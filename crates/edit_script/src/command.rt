@@ -7,10 +7,12 @@ ghost use Rattle.edit_script.specs.Commands.{HasName, word_of, first_word, work_
 ghost use Rattle.edit_script.specs.declared.command.Command.TheVariants.{Report};
 ghost use Rattle.edit_script.specs.Asked.{AsksOf};
 ghost use Rattle.edit_script.specs.Drafts.{Gives};
+ghost use Rattle.edit_script.specs.Tables.{HasTables};
 
 use crate::edits::{add_line, drop_line, prob_line, set_line};
 use crate::numbers::count_of;
 use crate::stop::Stop;
+use crate::tables::Tables;
 use core_defs::Cause;
 use edit_defs::Edit;
 use scen_defs::Program;
@@ -98,26 +100,41 @@ fn solve_line(line: &Line) -> Result<Command, Cause>
 }
 
 /// The command that a line is by its first word.
-fn worded(alloc: Global, program: &Program, line: &Line, word: Word) -> Result<Command, Stop>
+fn worded(
+    alloc: Global,
+    program: &Program,
+    tables: &Tables,
+    place: usize,
+    line: &Line,
+    word: Word,
+) -> Result<Command, Stop>
     requires program { IsProgram (content program.now) }
+    requires tables { HasTables (content program.now) tables.now }
     requires named { HasName (seen line.now).fields }
     ensures gives { Gives result (worded (content program.now) (seen line.now).fields word) }
     ensures asks { IfOk result (AsksOf (content program.now)) }
 {
     match word {
-        Word::Set => Ok(Command::Change(set_line(alloc, program, line)?)),
-        Word::Prob => Ok(Command::Change(prob_line(alloc, program, line)?)),
-        Word::Drop => Ok(Command::Change(drop_line(alloc, program, line)?)),
+        Word::Set => Ok(Command::Change(set_line(alloc, program, tables, place, line)?)),
+        Word::Prob => Ok(Command::Change(prob_line(alloc, program, place, line)?)),
+        Word::Drop => Ok(Command::Change(drop_line(alloc, program, place, line)?)),
         Word::Add => Ok(Command::Change(add_line(alloc, program, line)?)),
         Word::Work => Ok(Command::Work(work_line(line)?)),
         Word::Solve => Ok(solve_line(line)?),
     }
 }
 
-/// The command that a line is.
+/// The command that a line is. The scenario that it names is looked for as by `place_near`.
 #[tactic(auto, unfolding(crate::specs::Commands::command_of))]
-pub(crate) fn command_of(alloc: Global, program: &Program, line: &Line) -> Result<Command, Stop>
+pub(crate) fn command_of(
+    alloc: Global,
+    program: &Program,
+    tables: &Tables,
+    place: usize,
+    line: &Line,
+) -> Result<Command, Stop>
     requires program { IsProgram (content program.now) }
+    requires tables { HasTables (content program.now) tables.now }
     requires named { HasName (seen line.now).fields }
     ensures gives { Gives result (command_of (content program.now) (seen line.now).fields) }
     ensures asks { IfOk result (AsksOf (content program.now)) }
@@ -125,5 +142,5 @@ pub(crate) fn command_of(alloc: Global, program: &Program, line: &Line) -> Resul
     let Some(word) = first_word(line) else {
         return Err(Stop::Fault(Cause::CommandUnknown));
     };
-    worded(alloc, program, line, word)
+    worded(alloc, program, tables, place, line, word)
 }

@@ -1,8 +1,9 @@
 // What the commands so far come to.
 use crate::command::{Command, command_of};
 use crate::stop::Stop;
+use crate::tables::Tables;
 use core_defs::Cause;
-use edit_apply::{ApplyFault, apply_counted, count};
+use edit_apply::{ApplyFault, apply_near, count};
 use edit_defs::{Act, Counts, Edit, Item, Script};
 use frac128::Memory;
 use scen_defs::{Kind, Program};
@@ -24,6 +25,7 @@ pub(crate) struct Draft {
     /// The program after their edits, and how much it has over all its nodes.
     program: Program,
     counted: Counts,
+    tables: Tables,
     /// How many they are.
     commands: u32,
     items: Vec<Item>,
@@ -53,10 +55,12 @@ impl Draft {
     {
         let program = derive(alloc, program, Kind::Cost)?;
         let counted = count(&program.nodes)?;
+        let tables = Tables::of(alloc, &program)?;
         Ok(Draft {
             alloc,
             program,
             counted,
+            tables,
             commands: 0,
             items: Vec::new(alloc),
             work: 0,
@@ -64,8 +68,8 @@ impl Draft {
         })
     }
 
-    /// An edit, which is refused where the program has a cause.
-    fn change(&mut self, edit: Edit) -> Result<(), Stop>
+    /// An edit, which is refused where the program has a cause. The scenario of a SET is looked for at the place first.
+    fn change(&mut self, edit: Edit, place: usize) -> Result<(), Stop>
         requires good { IsDraft self.old }
         requires few { self.old.commands < 10000 }
         requires asks { Asks (content self.old.program) edit }
@@ -76,11 +80,18 @@ impl Draft {
         if self.program.nodes.len() > MOST_PLACES {
             return Err(Stop::Memory);
         }
-        match apply_counted(self.alloc, &mut self.program, &mut self.counted, &edit) {
+        match apply_near(
+            self.alloc,
+            &mut self.program,
+            &mut self.counted,
+            &edit,
+            place,
+        ) {
             Ok(()) => {}
             Err(ApplyFault::Refused(cause)) => return Err(Stop::Fault(cause)),
             Err(ApplyFault::Memory) => return Err(Stop::Memory),
         }
+        self.tables.note(&edit, &self.program.scenarios)?;
         self.items.push(Item {
             work: self.work,
             act: Act::Change(edit),
@@ -124,7 +135,7 @@ impl Draft {
     }
 
     /// A command behind those before it.
-    fn follow(&mut self, command: Command) -> Result<(), Stop>
+    fn follow(&mut self, command: Command, place: usize) -> Result<(), Stop>
         requires good { IsDraft self.old }
         requires few { self.old.commands < 10000 }
         requires asks { AsksOf (content self.old.program) command }
@@ -133,7 +144,7 @@ impl Draft {
         ensures leads { OnOk result (KeepsLeads self.old self.new) }
     {
         match command {
-            Command::Change(edit) => self.change(edit),
+            Command::Change(edit) => self.change(edit, place),
             Command::Work(solves) => {
                 self.add_work(solves);
                 Ok(())
@@ -154,8 +165,9 @@ impl Draft {
         if self.commands >= MOST_COMMANDS {
             return Err(Stop::Fault(Cause::ScriptLimit));
         }
-        let command = command_of(self.alloc, &self.program, line)?;
-        self.follow(command)
+        let place = self.tables.place(&self.program.scenarios, line);
+        let command = command_of(self.alloc, &self.program, &self.tables, place, line)?;
+        self.follow(command, place)
     }
 
     /// The script, with a report at its end.

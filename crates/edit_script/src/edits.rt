@@ -7,13 +7,15 @@ ghost use Rattle.edit_defs.specs.Causes.{Asks};
 ghost use Rattle.edit_script.specs.Commands.{HasName, set_edit, prob_edit, drop_edit, add_edit};
 ghost use Rattle.edit_script.specs.Commands.{set_line, prob_line, drop_line, add_line};
 ghost use Rattle.edit_script.specs.Drafts.{Gives};
+ghost use Rattle.edit_script.specs.Tables.{HasTables};
 
 use crate::entries::{known_entry, later_period};
 use crate::numbers::{inner_number, number_of};
 use crate::stop::Stop;
+use crate::tables::Tables;
 use core_defs::Cause;
 use edit_apply::is_known;
-use edit_defs::Edit;
+use edit_defs::{Edit, place_near};
 use scen_defs::Program;
 use smps_words::{Line, Name};
 use std::alloc::Global;
@@ -23,20 +25,23 @@ use std::alloc::Global;
 fn set_edit(
     alloc: Global,
     program: &Program,
+    tables: &Tables,
+    place: usize,
     name: &[u8],
     column: &[u8],
     row: &[u8],
     word: &[u8],
 ) -> Result<Edit, Stop>
-    requires { IsProgram (content program.now) }
+    requires program { IsProgram (content program.now) }
+    requires tables { HasTables (content program.now) tables.now }
     ensures gives { Gives result (set_edit (content program.now) name.now column.now row.now word.now) }
     ensures asks { IfOk result (Asks (content program.now)) }
 {
-    let scenario = Name::new(alloc, name)?;
-    if !is_known(&program.scenarios, &scenario) {
+    let Some(_) = place_near(&program.scenarios, place, name) else {
         return Err(Stop::Fault(Cause::ScenarioUnknown));
-    }
-    let entry = known_entry(program, column, row)?;
+    };
+    let scenario = Name::new(alloc, name)?;
+    let entry = known_entry(program, tables, column, row)?;
     let value = number_of(word)?;
     Ok(Edit::Set {
         scenario,
@@ -47,14 +52,20 @@ fn set_edit(
 
 /// A PROB of its fields.
 #[tactic(auto, unfolding(crate::specs::Commands::prob_edit))]
-fn prob_edit(alloc: Global, program: &Program, name: &[u8], word: &[u8]) -> Result<Edit, Stop>
+fn prob_edit(
+    alloc: Global,
+    program: &Program,
+    place: usize,
+    name: &[u8],
+    word: &[u8],
+) -> Result<Edit, Stop>
     ensures gives { Gives result (prob_edit (content program.now) name.now word.now) }
     ensures asks { IfOk result (Asks (content program.now)) }
 {
-    let scenario = Name::new(alloc, name)?;
-    if !is_known(&program.scenarios, &scenario) {
+    let Some(_) = place_near(&program.scenarios, place, name) else {
         return Err(Stop::Fault(Cause::ScenarioUnknown));
-    }
+    };
+    let scenario = Name::new(alloc, name)?;
     let probability = inner_number(word)?;
     Ok(Edit::Prob {
         scenario,
@@ -64,14 +75,14 @@ fn prob_edit(alloc: Global, program: &Program, name: &[u8], word: &[u8]) -> Resu
 
 /// A DROP of its field.
 #[tactic(auto, unfolding(crate::specs::Commands::drop_edit))]
-fn drop_edit(alloc: Global, program: &Program, name: &[u8]) -> Result<Edit, Stop>
+fn drop_edit(alloc: Global, program: &Program, place: usize, name: &[u8]) -> Result<Edit, Stop>
     ensures gives { Gives result (drop_edit (content program.now) name.now) }
     ensures asks { IfOk result (Asks (content program.now)) }
 {
-    let scenario = Name::new(alloc, name)?;
-    if !is_known(&program.scenarios, &scenario) {
+    let Some(_) = place_near(&program.scenarios, place, name) else {
         return Err(Stop::Fault(Cause::ScenarioUnknown));
-    }
+    };
+    let scenario = Name::new(alloc, name)?;
     Ok(Edit::Drop { scenario })
 }
 
@@ -112,39 +123,56 @@ fn add_edit(
 
 /// A line of SET.
 #[tactic(auto, using(crate::proofs::Long::long_set), unfolding(crate::specs::Commands::set_line))]
-pub(crate) fn set_line(alloc: Global, program: &Program, line: &Line) -> Result<Edit, Stop>
-    requires { IsProgram (content program.now) }
+pub(crate) fn set_line(
+    alloc: Global,
+    program: &Program,
+    tables: &Tables,
+    place: usize,
+    line: &Line,
+) -> Result<Edit, Stop>
+    requires program { IsProgram (content program.now) }
+    requires tables { HasTables (content program.now) tables.now }
     ensures gives { Gives result (set_line (content program.now) (seen line.now).fields) }
     ensures asks { IfOk result (Asks (content program.now)) }
 {
     let Some([_, name, column, row, word]) = line.fields() else {
         return Err(Stop::Fault(Cause::FieldCount));
     };
-    set_edit(alloc, program, name, column, row, word)
+    set_edit(alloc, program, tables, place, name, column, row, word)
 }
 
 /// A line of PROB.
 #[tactic(auto, using(crate::proofs::Long::long_prob), unfolding(crate::specs::Commands::prob_line))]
-pub(crate) fn prob_line(alloc: Global, program: &Program, line: &Line) -> Result<Edit, Stop>
+pub(crate) fn prob_line(
+    alloc: Global,
+    program: &Program,
+    place: usize,
+    line: &Line,
+) -> Result<Edit, Stop>
     ensures gives { Gives result (prob_line (content program.now) (seen line.now).fields) }
     ensures asks { IfOk result (Asks (content program.now)) }
 {
     let Some([_, name, word]) = line.fields() else {
         return Err(Stop::Fault(Cause::FieldCount));
     };
-    prob_edit(alloc, program, name, word)
+    prob_edit(alloc, program, place, name, word)
 }
 
 /// A line of DROP.
 #[tactic(auto, using(crate::proofs::Long::long_drop), unfolding(crate::specs::Commands::drop_line))]
-pub(crate) fn drop_line(alloc: Global, program: &Program, line: &Line) -> Result<Edit, Stop>
+pub(crate) fn drop_line(
+    alloc: Global,
+    program: &Program,
+    place: usize,
+    line: &Line,
+) -> Result<Edit, Stop>
     ensures gives { Gives result (drop_line (content program.now) (seen line.now).fields) }
     ensures asks { IfOk result (Asks (content program.now)) }
 {
     let Some([_, name]) = line.fields() else {
         return Err(Stop::Fault(Cause::FieldCount));
     };
-    drop_edit(alloc, program, name)
+    drop_edit(alloc, program, place, name)
 }
 
 /// A line of ADD.

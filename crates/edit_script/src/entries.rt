@@ -4,38 +4,14 @@ ghost use Rattle.smps_words.specs.Names.{place_of};
 ghost use Rattle.scen_defs.specs.Program.{content};
 ghost use Rattle.scen_defs.specs.Valid.{IsProgram};
 ghost use Rattle.edit_defs.specs.Causes.{HasNumbers};
-ghost use Rattle.edit_script.specs.Commands.{column_names, row_names, is_rhs_name, entry_of, known_entry, if_later};
+ghost use Rattle.edit_script.specs.Commands.{is_rhs_name, entry_of, known_entry, if_later};
+ghost use Rattle.edit_script.specs.Tables.{HasTables};
 
+use crate::tables::Tables;
 use core_defs::Cause;
 use edit_apply::is_late;
-use scen_defs::{Column, Program, Row};
+use scen_defs::Program;
 use smps_words::{Entry, Name};
-
-/// The number of a column.
-fn column_place(columns: &[Column], word: &[u8]) -> Option<usize>
-    ensures place { result ≡ place_of (column_names columns.now) word.now }
-    ensures within { IfSome result (λ j. j < length columns.now) }
-{
-    for (place, column) in columns.iter().enumerate() {
-        if word == column.name.as_bytes() {
-            return Some(place);
-        }
-    }
-    None
-}
-
-/// The number of a row.
-fn row_place(rows: &[Row], word: &[u8]) -> Option<usize>
-    ensures place { result ≡ place_of (row_names rows.now) word.now }
-    ensures within { IfSome result (λ i. i < length rows.now) }
-{
-    for (place, row) in rows.iter().enumerate() {
-        if word == row.name.as_bytes() {
-            return Some(place);
-        }
-    }
-    None
-}
 
 /// The number of a period.
 fn period_place(periods: &[Name], word: &[u8]) -> Option<usize>
@@ -58,18 +34,19 @@ fn is_rhs_name(program: &Program, name: &[u8]) -> bool
 }
 
 /// The entry that a column and a row name.
-fn entry_of(program: &Program, column: &[u8], row: &[u8]) -> Option<Entry>
-    requires { IsProgram (content program.now) }
+fn entry_of(program: &Program, tables: &Tables, column: &[u8], row: &[u8]) -> Option<Entry>
+    requires program { IsProgram (content program.now) }
+    requires tables { HasTables (content program.now) tables.now }
     ensures entry { result ≡ entry_of (content program.now) column.now row.now }
     ensures numbers { IfSome result (HasNumbers (content program.now)) }
 {
-    if let Some(number) = column_place(&program.columns, column) {
+    if let Some(number) = tables.columns.place(column) {
         if row == program.objective.as_bytes() {
             return Some(Entry::Cost {
                 column: number as u32,
             });
         }
-        let Some(place) = row_place(&program.rows, row) else {
+        let Some(place) = tables.rows.place(row) else {
             return None;
         };
         return Some(Entry::Matrix {
@@ -80,7 +57,7 @@ fn entry_of(program: &Program, column: &[u8], row: &[u8]) -> Option<Entry>
     if !is_rhs_name(program, column) {
         return None;
     }
-    let Some(place) = row_place(&program.rows, row) else {
+    let Some(place) = tables.rows.place(row) else {
         return None;
     };
     Some(Entry::Rhs { row: place as u32 })
@@ -88,12 +65,18 @@ fn entry_of(program: &Program, column: &[u8], row: &[u8]) -> Option<Entry>
 
 /// The entry that two fields name, whose column isn't of a later period than its row.
 #[tactic(auto, unfolding(crate::specs::Commands::known_entry))]
-pub(crate) fn known_entry(program: &Program, column: &[u8], row: &[u8]) -> Result<Entry, Cause>
-    requires { IsProgram (content program.now) }
+pub(crate) fn known_entry(
+    program: &Program,
+    tables: &Tables,
+    column: &[u8],
+    row: &[u8],
+) -> Result<Entry, Cause>
+    requires program { IsProgram (content program.now) }
+    requires tables { HasTables (content program.now) tables.now }
     ensures entry { result ≡ known_entry (content program.now) column.now row.now }
     ensures numbers { IfOk result (HasNumbers (content program.now)) }
 {
-    let Some(entry) = entry_of(program, column, row) else {
+    let Some(entry) = entry_of(program, tables, column, row) else {
         return Err(Cause::EditEntryUnknown);
     };
     if is_late(program, entry) {

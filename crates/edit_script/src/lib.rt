@@ -8,5 +8,6 @@ mod entries;
 mod numbers;
 mod reading;
 mod stop;
+mod tables;
 
 pub use reading::read_script;

@@ -12,6 +12,7 @@
 //! - in three periods: an edit of a shared node; a new scenario that shares two nodes; one that goes; one that gets 1/2, so that the
 //!   others, each 1/8 then, are multiplied by 1/2 divided by 7/8
 //! - nodes that no scenario passes any more go; a new scenario has copies in both later periods
+//! - scenarios that moved up as others went, and one whose name was free again
 //! - intervals of rows with a range, under both names of the right-hand sides; the lines may begin with a blank or not
 
 /// In the form of the table.
@@ -163,6 +164,34 @@ dropped
 2 6 c2=3 c3=1 r1 0=1 1=1 2=1 [6,*] r2 3=1 [1,*]
 1 0 c1=2 r0 0=1 1=1 [4,*]
 2 11 c2=3 c3=1 r1 0=1 1=1 2=1 3=2 [6,*] r2 3=1 [1,*]
+#three|0 DROP S2; 0 SET S8 r1 7; 0 ADD S2 S7 1/8 2; 0 DROP S1; 0 SET S2 r2 9; 0 SET S8 m2,3 2; 0 SOLVE
+DROP S2
+SET S8 RHS R3 7
+ADD S2 S7 1/8 P3
+DROP S1
+SET S2 RHS R4 9
+SET S8 W R4 2
+%PERIODS 3 COLUMNS 4 ROWS 3 NODES 10 SCENARIOS 7
+SCENARIO S3 1/7 0 1 4
+SCENARIO S4 1/7 0 1 5
+SCENARIO S5 1/7 0 6 7
+SCENARIO S6 1/7 0 6 8
+SCENARIO S7 1/7 0 6 9
+SCENARIO S8 1/7 0 6 10
+SCENARIO S2 1/7 0 6 11
+END
+0 - c0=15/8
+1 0 c1=2 r0 0=1 1=1 [2,*]
+dropped
+dropped
+2 1 c2=3 c3=1 r1 0=1 1=1 2=1 [6,*] r2 3=1 [0,*]
+2 1 c2=3 c3=1 r1 0=1 1=1 2=1 [6,*] r2 3=1 [1,*]
+1 0 c1=2 r0 0=1 1=1 [4,*]
+2 6 c2=3 c3=1 r1 0=1 1=1 2=1 [3,*] r2 3=1 [0,*]
+2 6 c2=3 c3=1 r1 0=1 1=1 2=1 [3,*] r2 3=1 [1,*]
+2 6 c2=3 c3=1 r1 0=1 1=1 2=1 [6,*] r2 3=1 [0,*]
+2 6 c2=3 c3=1 r1 0=1 1=1 2=1 [7,*] r2 3=2 [1,*]
+2 6 c2=3 c3=1 r1 0=1 1=1 2=1 [6,*] r2 3=1 [9,*]
 #alone|0 SET S1 r0 100000000000000000000000000000000000000; 0 SET S1 r1 -100000000000000000000000000000000000000; \
 0 SET S1 r2 5; 0 SOLVE
 SET S1 RHS CAP 1E38

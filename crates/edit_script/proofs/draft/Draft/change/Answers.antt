@@ -6,6 +6,7 @@ use Rattle.edit_defs.specs.declared.edit.Item.{Item}
 use Rattle.edit_script.specs.Drafts.{Leads}
 use Rattle.edit_script.specs.Script.{edit_item}
 use Rattle.edit_script.proofs.Leading.{leads_edit, nodes_length, one_more, still_program}
+use Rattle.edit_script.proofs.TableLemmas.{still_tables}
 use Rattle.edit_script.proofs.draft.Draft.change.Goals as goal
 
 pub returns-clause-good : goal.returns-clause-good
@@ -13,8 +14,9 @@ returns-clause-good c =
     let old = c.args.self.now in
     let places : length (content old.program).nodes ≤ 1000000 = grind (arith, common_steps, nodes_length old.program.nodes.items, c.len.ensures, c.if-len-gt-MOST_PLACES.false) in
     record {
-      program = still_program (content old.program) (content c.apply_counted.new.program) c.args.edit c.requires.good.program places c.requires.asks c.in-Ok.ensures.cause c.in-Ok.ensures.ok;
+      program = still_program (content old.program) (content c.apply_near.new.program) c.args.edit c.requires.good.program places c.requires.asks c.in-Ok.ensures.cause c.in-Ok.ensures.ok;
       counted = c.in-Ok.ensures.counted;
+      tables = still_tables (content old.program) (content c.apply_near.new.program) c.args.edit old.tables c.note.new.self c.requires.good.tables c.in-Ok.ensures.ok c.in_ok-note.ensures.columns c.in_ok-note.ensures.rows;
       commands = omega (arith, c.requires.few);
       items = one_more old.items.items c.push.new.self.items (edit_item old.work c.args.edit) old.commands c.in_ok-push.ensures.items c.requires.good.items;
       work = omega arith;
@@ -24,5 +26,5 @@ pub returns-clause-leads : goal.returns-clause-leads
 returns-clause-leads c =
     let old = c.args.self.now in
     let places : length (content old.program).nodes ≤ 1000000 = grind (arith, common_steps, nodes_length old.program.nodes.items, c.len.ensures, c.if-len-gt-MOST_PLACES.false) in
-    λ start l. subst (λ (items : List Item). Leads start items (content c.apply_counted.new.program)) (sym c.in_ok-push.ensures.items)
-    (leads_edit start (content old.program) (content c.apply_counted.new.program) old.items.items old.work c.args.edit places c.requires.asks c.in-Ok.ensures.cause c.in-Ok.ensures.ok l)
+    λ start l. subst (λ (items : List Item). Leads start items (content c.apply_near.new.program)) (sym c.in_ok-push.ensures.items)
+    (leads_edit start (content old.program) (content c.apply_near.new.program) old.items.items old.work c.args.edit places c.requires.asks c.in-Ok.ensures.cause c.in-Ok.ensures.ok l)

@@ -22,6 +22,7 @@ returns-clause-good c =
       program = subst IsProgram (sym is) c.requires;
       counted = subst (λ (nodes : List (Option NodeOf)). c.in_ok-counted.counted ≡ counts (nodes_content nodes)) c.deref.ensures.value c.in_ok-counted.ensures;
       commands = omega arith;
+      tables = c.in_ok-tables.ensures;
       items = subst (λ (items : List Item). length items ≤ 0) (sym c.new.ensures.items) (omega arith);
       work = omega arith;
     }
@@ -30,3 +31,6 @@ pub returns-clause-leads : goal.returns-clause-leads
 returns-clause-leads c =
     let is : content c.in_ok-program.program ≡ content c.args.program.now = c.in_ok-program.ensures ∙ is_copy (content c.args.program.now) in
     leads_start (content c.args.program.now) (content c.in_ok-program.program) c.new.result.items c.new.ensures.items is
+
+pub of-requires : goal.of-requires
+of-requires c = subst IsProgram (sym (c.in_ok-program.ensures ∙ is_copy (content c.args.program.now))) c.requires
