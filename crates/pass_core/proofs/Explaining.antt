@@ -30,15 +30,15 @@ use Rattle.proved_report.specs.declared.open.Open.{Open}
 use Rattle.proved_report.specs.declared.open.Open.TheVariants as reason
 use Rattle.run_data.specs.Frames.{Frame}
 use Rattle.pass_core.specs.declared.budget.Budget.{Budget}
-use Rattle.pass_core.specs.declared.ends.Priced.{Priced}
-use Rattle.pass_core.specs.declared.ends.Bounded.{Bounded}
-use Rattle.pass_core.specs.declared.ends.Ends.{Ends}
-use Rattle.pass_core.specs.declared.last.Last.{Last}
-use Rattle.pass_core.specs.declared.last.Lasts.{Lasts}
+use Rattle.run_ends.specs.declared.ends.Priced.{Priced}
+use Rattle.run_ends.specs.declared.ends.Bounded.{Bounded}
+use Rattle.run_ends.specs.declared.ends.Ends.{Ends}
+use Rattle.run_ends.specs.declared.last.Last.{Last}
+use Rattle.run_ends.specs.declared.last.Lasts.{Lasts}
 use Rattle.pass_core.specs.declared.state.State.{State}
 use Rattle.pass_core.specs.Counting.{first_stop, first_or, after_answer}
-use Rattle.pass_core.specs.Ends.{raises, greater_end, after_root, after_policy}
-use Rattle.pass_core.specs.Lasts.{with_last, kept}
+use Rattle.run_ends.specs.Ends.{raises, greater_end, after_root, after_policy}
+use Rattle.run_ends.specs.Lasts.{with_last, kept}
 use Rattle.pass_core.specs.Explained.{IsTask, ComesOfSolve, cut_given, point_found, GivesCut, FindsPoint, PointsAreFound, IsCutOfSolve, AreOfSolves}
 use Rattle.pass_core.specs.Explained.{PassesInOffer, FailsToOpen, PassesInRun}
 use Rattle.pass_core.specs.Explained.{IsExplained, AreExplained, IsUnstopped, KeepsExplained}

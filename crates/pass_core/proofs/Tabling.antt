@@ -31,13 +31,14 @@ use Rattle.pass_table.proofs.Valid.{valid_committed, valid_opened}
 use Rattle.one_worker.specs.Turn.{AreChildren, first_flight, read_by_each, read_each, EndsTurn, drops, commits, adds, TakesTurn}
 use Rattle.one_worker.proofs.Turning.{AreReads, node_read, readings_of, has_read, turn_reads, turn_flown, turn_keeps}
 use Rattle.proved_report.specs.declared.open.Open.{Open}
-use Rattle.pass_core.specs.declared.ends.Ends.{Ends}
-use Rattle.pass_core.specs.declared.last.Lasts.{Lasts}
+use Rattle.run_ends.specs.declared.ends.Ends.{Ends}
+use Rattle.run_ends.specs.declared.last.Lasts.{Lasts}
 use Rattle.pass_core.specs.declared.state.Counts.{Counts}
 use Rattle.pass_core.specs.declared.state.State.{State}
-use Rattle.pass_core.specs.Counting.{is_added, after_answer}
-use Rattle.pass_core.specs.Tabled.{pool_number, HasPools, IsTabledBy, KeepsRun, KeepsTable, KeepsPools, RaisesPool, Drops, IsSolving, committed_with, EndsSolve, IsBegunBy, EndsBegun, Opens, HasRoom, StepsTo}
+use Rattle.pass_core.specs.Counting.{is_added, after_answer, after_report}
+use Rattle.pass_core.specs.Tabled.{pool_number, HasPools, IsTabledBy, KeepsRun, KeepsTable, KeepsPools, RaisesPool, Drops, IsSolving, committed_with, EndsSolve, IsBegunBy, EndsBegun, Opens, HasRoom, StepsTo, GoesBySteps}
 use Rattle.pass_core.specs.Tabled.TakesStep.{rests, waits, opens, turns}
+use Rattle.pass_core.specs.Tabled.TakesSteps.{stays, goes}
 use Rattle.pass_core.specs.Tabled.Opens.{not_opened, is_opened}
 use Rattle.pass_core.proofs.Pooling.{tells, offered_risen, offered_others, all_numbers}
 use Rattle.pass_core.proofs.Parentage.{children_are}
@@ -433,6 +434,18 @@ ready_tabled p m old new t e z = subst (λ (x : State). IsTabledBy p x m) (sym e
   unused = λ y. let no : false ≡ true = sym y ∙ z in absurd (cc);
 })
 
+-- a report: what stopped the method and how many solves there were are in no table
+pub closed_tabled : (p : Program) (m : Machine) (old new : State) → IsTabledBy p old m
+    → new ≡ record old { stop = old.lasting; counts = after_report old.counts } → IsTabledBy p new m
+closed_tabled p m old new t e = subst (λ (x : State). IsTabledBy p x m) (sym e) (record {
+  valid = t.valid;
+  fits = t.fits;
+  idle = t.idle;
+  machine = record { live = t.machine.live; parent = t.machine.parent; number = t.machine.number };
+  pools = t.pools;
+  unused = t.unused;
+})
+
 -- then the table may be another one that fits
 pub refit : (p : Program) (m : Machine) (s : State) (table : Table) → IsTabledBy p s m → s.is_begun ≡ true → Fits table m
     → IsTabledBy p (record s { table = table }) m
@@ -562,3 +575,14 @@ stuck_ends p s m n i frame b new why table drop e =
     solve_ends p s m n i frame b new
     (left_ends s new (read_machine p s m n i frame b) (begun_flight p s m n i frame b) (numbers_read (pools_of s.kind s.banks) (children_in s.frame n)) why table
     (begun_solving p s m n i frame b (numbers_read (pools_of s.kind s.banks) (children_in s.frame n)) refl) (reads_number p s m n i frame b) drop e)
+
+-- one more step
+pub goes_further : (p : Program) (m : Machine) (old new : State) (told : Bool) → GoesBySteps p m old
+    → ((j : Machine) → IsTabledBy p old j → StepsTo p j told new) → GoesBySteps p m new
+goes_further p m old new told g step =
+    let s = step g.machine g.tabled in
+    record { machine = s.machine; steps = goes told g.machine s.machine g.steps s.step; tabled = s.tabled }
+
+-- none
+pub goes_nowhere : (p : Program) (m : Machine) (s : State) → IsTabledBy p s m → GoesBySteps p m s
+goes_nowhere p m s h = record { machine = m; steps = stays; tabled = h }

@@ -30,11 +30,11 @@ use Rattle.proved_report.specs.declared.open.Open.TheVariants as reason
 use Rattle.run_data.specs.Frames.{Frame}
 use Rattle.run_data.specs.NodeData.{node_datum}
 use Rattle.pass_core.specs.declared.budget.Budget.{Budget}
-use Rattle.pass_core.specs.declared.ends.Ends.{Ends}
-use Rattle.pass_core.specs.declared.last.Last.{Last}
+use Rattle.run_ends.specs.declared.ends.Ends.{Ends}
+use Rattle.run_ends.specs.declared.last.Last.{Last}
 use Rattle.pass_core.specs.declared.state.State.{State}
-use Rattle.pass_core.specs.Costs.{joined_cost}
-use Rattle.pass_core.specs.Ends.{no_ends}
+use Rattle.run_ends.specs.Costs.{joined_cost}
+use Rattle.run_ends.specs.Ends.{no_ends}
 
 -- ---- the program of a node
 

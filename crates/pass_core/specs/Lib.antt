@@ -1,7 +1,3 @@
-pub mod Lasts
-pub mod Ends
-pub mod Costs
-pub mod Settled
 pub mod Counting
 pub mod Versions
 pub mod Explained

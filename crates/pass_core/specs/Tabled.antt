@@ -69,6 +69,17 @@ pub record StepsTo (p : Program) (m : Machine) (told : Bool) (s : State) : Type 
   pub step : TakesStep m told machine
   pub tabled : IsTabledBy p s machine
 
+-- steps, one behind the other
+pub data TakesSteps (m : Machine) : Machine → Type 0 where
+  stays : TakesSteps m m
+  goes : (told : Bool) (j k : Machine) → TakesSteps m j → TakesStep j told k → TakesSteps m k
+
+-- the machine took some steps, and the table fits it behind them
+pub record GoesBySteps (p : Program) (m : Machine) (s : State) : Type 0 where
+  pub machine : Machine
+  pub steps : TakesSteps m machine
+  pub tabled : IsTabledBy p s machine
+
 -- ---- between a Begin and the end of the solve
 -- the frame, the run and how many pools there are stay
 pub record KeepsRun (old new : State) : Type 0 where

@@ -12,14 +12,13 @@ ghost use Rattle.one_worker.specs.Parents.{AreParents};
 ghost use Rattle.pass_core.specs.Explained.{IsUnstopped};
 ghost use Rattle.pass_core.specs.Tabled.{IsTabled, IsUnused};
 
-use crate::ends::Ends;
-use crate::last::Lasts;
 use crate::state::State;
 use cut_defs::{Due, Part, Touch};
 use edit_defs::Touched;
 use frac128::Memory;
 use one_worker::Turns;
 use run_data::Frame;
+use run_ends::{Ends, Lasts};
 use scen_defs::{Kind, Program};
 use std::alloc::Global;
 

@@ -8,13 +8,13 @@ ghost use Rattle.pass_table.specs.Machine.{Machine};
 ghost use Rattle.pass_core.specs.Explained.{AreExplained, FailsToOpen, IsCutOfSolve, KeepsExplained};
 ghost use Rattle.pass_core.specs.Tabled.{IsTabledBy, KeepsTable, KeepsPools, Opens};
 
-use crate::last::Lasts;
 use crate::state::State;
 use cut_proof::{CutFault, SharedCut};
 use dual_assemble::{assemble, ground_cut};
 use frac128::Memory;
 use proved_report::Open;
 use run_data::datum_of;
+use run_ends::Lasts;
 use scen_defs::{Kind, Place, Program, Values};
 use scen_tree::Tree;
 use std::alloc::Global;

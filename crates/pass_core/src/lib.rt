@@ -4,13 +4,10 @@
 mod budget;
 mod close;
 mod commit;
-mod cost;
 mod edit;
-mod ends;
 mod ground;
-mod last;
 mod state;
 
 pub use budget::Budget;
-pub use close::{Closed, Settled};
+pub use run_ends::{Closed, Settled};
 pub use state::State;

@@ -1,6 +1,6 @@
 use Rattle.std.proofs.Common.{Result, Err, ap, subst, ◌∙◌}
 use Rattle.frac128.specs.declared.form.FormFault.{FormFault}
-use Rattle.pass_core.specs.Lasts.{kept, KeepsPoint}
+use Rattle.run_ends.specs.Lasts.{kept, KeepsPoint}
 use Rattle.pass_core.proofs.state.State.keep.Goals as goal
 
 pub returns-in-Err-Passed-clause-passed : goal.returns-in-Err-Passed-clause-passed

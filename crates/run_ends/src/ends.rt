@@ -1,7 +1,7 @@
 //! The ends of the least cost that are known, and what shows that there is none.
 ghost use Rattle.std.specs.Prelude.{◌≡◌};
 ghost use Rattle.rationals.specs.Rational.{zero_ℚ};
-ghost use Rattle.pass_core.specs.Ends.{no_ends, below, wants, raises, with_lower, meet, falls};
+ghost use Rattle.run_ends.specs.Ends.{no_ends, below, wants, raises, with_lower, meet, falls};
 
 use cut_proof::SharedCut;
 use frac128::Frac;
@@ -9,31 +9,31 @@ use scen_defs::Values;
 
 /// A policy with what it costs.
 #[derive(Drop)]
-pub(crate) struct Priced {
-    pub(crate) cost: Frac,
-    pub(crate) policy: Values,
+pub struct Priced {
+    pub cost: Frac,
+    pub policy: Values,
 }
 
 /// A cut of the root with its value.
 #[derive(Drop)]
-pub(crate) struct Bounded {
-    pub(crate) value: Frac,
-    pub(crate) cut: SharedCut,
+pub struct Bounded {
+    pub value: Frac,
+    pub cut: SharedCut,
 }
 
 /// The ends that are known, and what shows that there is none.
 #[derive(Drop)]
-pub(crate) struct Ends {
+pub struct Ends {
     /// The least cost of a joined policy of a Feasible or Cost run, with the earliest policy of that cost.
-    pub(crate) upper: Option<Priced>,
+    pub upper: Option<Priced>,
     /// The greatest root value of a Cost run, with the earliest cut of that value.
-    pub(crate) lower: Option<Bounded>,
+    pub lower: Option<Bounded>,
     /// The cost of the joined policy of the Recession run, at the last commit that left it complete.
-    pub(crate) direction: Option<Priced>,
+    pub direction: Option<Priced>,
     /// The cut of the root's last solve in the present run.
-    pub(crate) root: Option<SharedCut>,
+    pub root: Option<SharedCut>,
     /// The root has no point in a Feasible run: its cut shows that.
-    pub(crate) nowhere: Option<SharedCut>,
+    pub nowhere: Option<SharedCut>,
 }
 
 /// Whether one number is less than another.
@@ -55,7 +55,7 @@ fn is_raising(lower: &Option<Bounded>, value: Frac) -> bool
 
 impl Ends {
     /// Nothing is known.
-    pub(crate) fn none() -> Ends
+    pub fn none() -> Ends
         ensures { result ≡ no_ends }
     {
         Ends {
@@ -68,7 +68,7 @@ impl Ends {
     }
 
     /// Whether a policy of this cost would be the upper end: it is the first, or costs less.
-    pub(crate) fn wants(&self, cost: Frac) -> bool
+    pub fn wants(&self, cost: Frac) -> bool
         ensures { result ≡ wants self.now.upper cost }
     {
         match &self.upper {
@@ -78,7 +78,7 @@ impl Ends {
     }
 
     /// Takes a root value as the lower end, where it is the first or greater.
-    pub(crate) fn take_lower(&mut self, found: Bounded)
+    pub fn take_lower(&mut self, found: Bounded)
         ensures { self.new ≡ with_lower self.old found }
     {
         if is_raising(&self.lower, found.value) {
@@ -87,7 +87,7 @@ impl Ends {
     }
 
     /// Whether both ends are there and equal.
-    pub(crate) fn meet(&self) -> bool
+    pub fn meet(&self) -> bool
         ensures { result ≡ meet self.now.lower self.now.upper }
     {
         match (&self.lower, &self.upper) {
@@ -97,7 +97,7 @@ impl Ends {
     }
 
     /// Whether the direction's cost is below 0.
-    pub(crate) fn falls(&self) -> bool
+    pub fn falls(&self) -> bool
         ensures { result ≡ falls self.now.direction }
     {
         match &self.direction {

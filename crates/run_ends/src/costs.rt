@@ -1,7 +1,7 @@
 //! What the joined points of a run cost.
 ghost use Rattle.std.specs.Prelude.{◌≡◌, option_copied};
 ghost use Rattle.scen_defs.specs.Program.{content, place_content};
-ghost use Rattle.pass_core.specs.Costs.{part, node_number, joined_cost};
+ghost use Rattle.run_ends.specs.Costs.{part, node_number, joined_cost};
 
 use crate::last::Lasts;
 use frac128::{Form, Frac, Passed};
@@ -37,7 +37,7 @@ fn node_number(place: usize) -> u32
 
 /// What the points of all nodes cost together: by node the sum by column of cost times value, and the total times that sum,
 /// each added as a step. The totals are those of the tree.
-pub(crate) fn cost(program: &Program, tree: &Tree, lasts: &Lasts) -> Result<Frac, Passed>
+pub fn cost(program: &Program, tree: &Tree, lasts: &Lasts) -> Result<Frac, Passed>
     ensures { result ≡ joined_cost (content program.now).nodes tree.now.chances.totals lasts.now.nodes.items }
 {
     let mut sum = Frac::zero();

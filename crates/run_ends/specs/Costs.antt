@@ -5,8 +5,8 @@ use Rattle.rationals.specs.Sparse.{Entry}
 use Rattle.rationals.specs.Forms.{dot_walk}
 use Rattle.rationals.specs.Passes.{Operation, add_product_walk, then_walk}
 use Rattle.scen_defs.specs.Program.{Node}
-use Rattle.pass_core.specs.declared.last.Last.{Last}
-use Rattle.pass_core.specs.Lasts.{last_at, last_point}
+use Rattle.run_ends.specs.declared.last.Last.{Last}
+use Rattle.run_ends.specs.Lasts.{last_at, last_point}
 
 -- s and, for a node with this total and this point, the total times what the point costs, added as a step; nothing of a node that
 -- was dropped or has no point

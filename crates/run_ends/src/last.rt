@@ -3,29 +3,30 @@ ghost use Rattle.std.specs.Prelude.{◌≡◌, [], None, Some, IfOk, OnErr, map,
 ghost use Rattle.frac128.specs.Faults.{IfNotMemory};
 ghost use Rattle.rationals.specs.Forms.{add_scaled_walk};
 ghost use Rattle.rationals.specs.Rational.{one_ℚ};
-ghost use Rattle.pass_core.specs.Lasts.{last_at, last_point, along_of, trial_of, with_last, kept, KeepsPoint};
+ghost use Rattle.run_ends.specs.Lasts.{last_at, last_point, along_of, trial_of, with_last, kept, KeepsPoint};
 
 use frac128::{Form, FormFault, Frac, Memory};
 use std::alloc::Global;
 
 /// What a node's last solve in the present run gave, where it has a point.
 #[derive(Drop)]
-struct Last {
+pub struct Last {
     /// The values of the node's own columns.
-    point: Form,
+    pub point: Form,
     /// These, and the values of the columns of all nodes above, as the solve had them.
-    along: Form,
+    pub along: Form,
 }
 
 /// The last solves of a run, node by node.
 #[derive(Drop)]
-pub(crate) struct Lasts {
-    nodes: Vec<Option<Last>>,
+pub struct Lasts {
+    /// By the number of the node; none where it has no point.
+    pub nodes: Vec<Option<Last>>,
 }
 
 impl Lasts {
     /// No node has a last solve.
-    pub(crate) fn none(alloc: Global, nodes: u32) -> Result<Lasts, Memory>
+    pub fn none(alloc: Global, nodes: u32) -> Result<Lasts, Memory>
         ensures { IfOk result (λ lasts. lasts.nodes.items ≡ replicate nodes None) }
     {
         let mut all = Vec::new(alloc);
@@ -36,7 +37,7 @@ impl Lasts {
     }
 
     /// The values of the columns above a node with this parent; the root has none.
-    pub(crate) fn trial(&self, alloc: Global, parent: Option<u32>) -> Result<Form, Memory>
+    pub fn trial(&self, alloc: Global, parent: Option<u32>) -> Result<Form, Memory>
         ensures { IfOk result (λ trial. trial ≡ trial_of self.now.nodes.items parent) }
     {
         match parent {
@@ -56,7 +57,7 @@ impl Lasts {
     }
 
     /// Keeps a point of a node that was solved at this trial.
-    pub(crate) fn keep(&mut self, node: u32, trial: &Form, point: Form) -> Result<(), FormFault>
+    pub fn keep(&mut self, node: u32, trial: &Form, point: Form) -> Result<(), FormFault>
         ensures walk { KeepsPoint (kept self.old.nodes.items node trial.now point) result self.new.nodes.items }
         ensures err { OnErr result (self.new ≡ self.old) }
     {
@@ -70,7 +71,7 @@ impl Lasts {
     }
 
     /// The node has no point.
-    pub(crate) fn forget(&mut self, node: u32)
+    pub fn forget(&mut self, node: u32)
         ensures { self.new.nodes.items ≡ with_last self.old.nodes.items node None }
     {
         self.put(node, None);
@@ -86,7 +87,7 @@ impl Lasts {
     }
 
     /// The own values of a node's last solve.
-    pub(crate) fn point(&self, node: usize) -> Option<&Form>
+    pub fn point(&self, node: usize) -> Option<&Form>
         ensures { option_copied result ≡ last_point (last_at self.now.nodes.items node) }
     {
         match self.nodes.get(node) {
@@ -96,7 +97,7 @@ impl Lasts {
     }
 
     /// The points of all nodes, by number.
-    pub(crate) fn points(&self, alloc: Global) -> Result<Vec<Option<Form>>, Memory>
+    pub fn points(&self, alloc: Global) -> Result<Vec<Option<Form>>, Memory>
         ensures { IfOk result (λ all. all.items ≡ map last_point self.now.nodes.items) }
     {
         let mut all = Vec::new(alloc);

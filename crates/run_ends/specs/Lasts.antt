@@ -9,7 +9,7 @@ use Rattle.frac128.specs.declared.form.FormFault.{FormFault}
 use Rattle.frac128.specs.declared.form.FormFault.TheVariants.{Passed, Memory}
 use Rattle.scen_defs.specs.Values.{At}
 use Rattle.dual_assemble.specs.Values.{numbers_by_node, point_entries}
-use Rattle.pass_core.specs.declared.last.Last.{Last}
+use Rattle.run_ends.specs.declared.last.Last.{Last}
 
 -- node n's last solve
 abbrev pub last_at : List (Option Last) → ℕ → Option Last

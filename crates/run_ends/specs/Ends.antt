@@ -7,9 +7,9 @@ use Rattle.scen_defs.specs.Lists.{pick}
 use Rattle.scen_defs.specs.declared.report.Kind.{Kind}
 use Rattle.scen_defs.specs.declared.report.Kind.TheVariants.{Feasible, Recession, Cost}
 use Rattle.cut_defs.specs.Stored.{Stored}
-use Rattle.pass_core.specs.declared.ends.Priced.{Priced}
-use Rattle.pass_core.specs.declared.ends.Bounded.{Bounded}
-use Rattle.pass_core.specs.declared.ends.Ends.{Ends}
+use Rattle.run_ends.specs.declared.ends.Priced.{Priced}
+use Rattle.run_ends.specs.declared.ends.Bounded.{Bounded}
+use Rattle.run_ends.specs.declared.ends.Ends.{Ends}
 
 -- nothing is known
 abbrev pub no_ends : Ends

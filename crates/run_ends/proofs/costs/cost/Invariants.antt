@@ -1,7 +1,7 @@
 use Rattle.std.proofs.Common.{◌≡◌, drop}
 use Rattle.scen_defs.specs.Program.{content, nodes_content}
-use Rattle.pass_core.specs.Costs.{node_costs_from, joined_cost}
-use Rattle.pass_core.proofs.cost.cost.Given as goal
+use Rattle.run_ends.specs.Costs.{node_costs_from, joined_cost}
+use Rattle.run_ends.proofs.costs.cost.Given as goal
 
 abbrev pub invariant-loop-place : goal.invariant-loop-place
 invariant-loop-place l =

@@ -1,0 +1,5 @@
+pub mod Lasts
+pub mod Ends
+pub mod Costs
+pub mod Settled
+pub mod Claims
