@@ -144,7 +144,7 @@ has_read m k f cs numbers children reads present = record {
 
 -- ---- a whole turn
 -- behind a Begin: no other worker has a solve in flight
-begun_others : (m : Machine) (n w : ℕ) → IsIdle m → (w ≡ 0 → ⊥) → (begun m 0 n).flight w ≡ None
+pub begun_others : (m : Machine) (n w : ℕ) → IsIdle m → (w ≡ 0 → ⊥) → (begun m 0 n).flight w ≡ None
 begun_others m n w idle ne = other_at m.flight 0 _ w ne ∙ idle w
 
 pub turn_reads : (m : Machine) (n : ℕ) (cs : List ℕ) → IsValid m → IsIdle m → IsNext m n
@@ -167,7 +167,7 @@ ends_valid m f added k valid flown drops = valid_dropped m 0 valid
 ends_valid m f added k valid flown (commits point) = valid_committed m 0 f point valid flown
 ends_valid m f added k valid flown (adds point low) = valid_raised (committed m 0 f point) f.node (valid_committed m 0 f point valid flown)
 
-freed : (m : Machine) → ((w : ℕ) → (w ≡ 0 → ⊥) → m.flight w ≡ None) → (w : ℕ) → with_at m.flight 0 None w ≡ None
+pub freed : (m : Machine) → ((w : ℕ) → (w ≡ 0 → ⊥) → m.flight w ≡ None) → (w : ℕ) → with_at m.flight 0 None w ≡ None
 freed m others w = go (cases_eq w 0)
   where
     go : (w ≡ 0) ⊎ (w ≡ 0 → ⊥) → with_at m.flight 0 None w ≡ None

@@ -1,7 +1,13 @@
 //! Laws, as contracts of functions that do nothing.
 ghost use Rattle.one_worker.specs.Turn.{TurnsKeepValid};
+ghost use Rattle.one_worker.specs.Work.{TurnsAddCuts};
 
 /// A turn keeps a machine valid, and leaves no solve in flight.
 pub fn turns_keep_valid()
     ensures { TurnsKeepValid }
+{}
+
+/// Turns that leave a last solve and add no cut are at most as many, one behind the other, as there are live nodes.
+pub fn turns_add_cuts()
+    ensures { TurnsAddCuts }
 {}

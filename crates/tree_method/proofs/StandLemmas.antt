@@ -1,6 +1,6 @@
 -- What stands on a program stands, behind an edit, on the program after it.
-use Rattle.std.proofs.Common.{◌≡◌, ℕ, ◌≤◌, zero, suc, Bool, true, false, List, [], ◌∷◌, map, length, Option, Some, None}
-use Rattle.std.proofs.Common.{refl, sym, ap, subst, ◌∙◌, inl, inr, Ok}
+use Rattle.std.proofs.Common.{◌≡◌, ℕ, ◌<◌, ◌≤◌, zero, suc, Bool, true, false, List, [], ◌∷◌, map, length, Option, Some, None}
+use Rattle.std.proofs.Common.{refl, sym, ap, subst, ◌∙◌, inl, inr, Result, Ok, Err, OnOk, arith}
 use Rattle.rationals.specs.Rational.{ℚ}
 use Rattle.smps_words.specs.declared.entry.Entry.{Entry}
 use Rattle.smps_words.specs.declared.entry.Entry.TheVariants.{Cost, Matrix, Rhs}
@@ -15,20 +15,25 @@ use Rattle.edit_defs.specs.declared.edit.Edit.{Edit}
 use Rattle.edit_defs.specs.declared.edit.Edit.TheVariants.{Set, Prob, Drop, Add}
 use Rattle.edit_defs.specs.After.{after, change_node, with_value, home_of}
 use Rattle.edit_defs.specs.Applies.{Applies}
+use Rattle.edit_defs.proofs.Books.{grows}
 use Rattle.proved_report.specs.declared.open.Open.{Open}
 use Rattle.proved_report.specs.declared.open.Open.TheVariants.{Solves, Pivots, Passed}
 use Rattle.node_lp.specs.declared.solved.Solved.TheVariants.{PivotsEnded}
 use Rattle.scen_defs.specs.declared.report.Place.TheVariants.{Cost as AtCost}
 use Rattle.run_data.specs.declared.versions.Version.{Version}
 use Rattle.run_data.specs.Frames.{Frame, parent_of, stage_of, columns_from, frame_of}
+use Rattle.pass_table.specs.Machine.{Machine}
+use Rattle.pass_table.specs.Marks.{nothing}
 use Rattle.pass_core.specs.declared.budget.Budget.{Budget}
 use Rattle.pass_core.specs.Explained.{ComesOfSolve, PassesInRun, IsExplained, AreExplained, KeepsExplained}
+use Rattle.pass_core.specs.declared.state.State.{State}
+use Rattle.pass_core.specs.Tabled.{IsTabled, IsTabledBy, StepsTo}
 use Rattle.pass_core.proofs.Explaining.{unstopped_is_explained}
 use Rattle.tree_method.specs.declared.found.Found.{Found}
 use Rattle.tree_method.specs.declared.method.Working.{Working}
 use Rattle.tree_method.specs.declared.method.Method.{Method}
 use Rattle.tree_method.specs.declared.method.Method.TheVariants.{Working as AtWork}
-use Rattle.tree_method.specs.Edited.{is_grown, IsEdited, HasNoTree}
+use Rattle.tree_method.specs.Edited.{is_grown, KeepsTabled, IsEdited, HasNoTree}
 use Rattle.tree_method.specs.Laws.{TouchesCarry}
 use Rattle.tree_method.specs.Stands.{LeavesOpen, TellsWhy, WorksOn, StandsOn}
 use Rattle.tree_method.proofs.Standing.{touches_stand, versions_behind}
@@ -96,23 +101,59 @@ frame_behind p e false g f h = h ∙ sym (frame_stays p e g)
 -- ---- the method
 -- a step of its state
 pub works_still : (p : Program) (budget : Budget) (old new : Working) → new.tree ≡ old.tree → KeepsExplained p old.tree old.state new.state
-    → WorksOn p budget old → WorksOn p budget new
-works_still p budget old new t k w = record {
+    → (IsProgram p → old.state.frame ≡ frame_of p → IsTabled p old.state → IsTabled p new.state) → WorksOn p budget old → WorksOn p budget new
+works_still p budget old new t k f w = record {
   tree = w.tree ∙ ap Ok (sym t);
   frame = k.0 ∙ w.frame;
   budget_is = k.1 ∙ w.budget_is;
   versions = subst (λ (vs : List Version). length p.nodes ≤ length vs) (sym k.2) w.versions;
   explained = subst (λ (tree : Tree). AreExplained p tree new.state) (sym t) (k.3 w.explained);
+  tabled = λ i few. f i w.frame (w.tabled i few);
 }
 
--- an edit
-works_behind : (p : Program) (e : Edit) (budget : Budget) (old new : Working) → WorksOn p budget old → IsEdited p e old new → WorksOn (after p e) budget new
-works_behind p e budget old new w h = record {
+-- a step leaves the table fitting
+pub step_tabled : (p : Program) (old new : State) (told : Bool) → ((m : Machine) → IsTabledBy p old m → StepsTo p m told new)
+    → IsTabled p old → IsTabled p new
+step_tabled p old new told step h = let s = step h.0 h.1 in (s.machine, s.tabled)
+
+-- an edit: its versions are in no table
+versions_tabled : (q : Program) (old new : State) → new ≡ record old { versions = new.versions } → IsTabled q old → IsTabled q new
+versions_tabled q old new e h = let t = h.1 in (
+  h.0,
+  subst (λ (x : State). IsTabledBy q x h.0) (sym e) (record {
+    valid = t.valid;
+    fits = t.fits;
+    idle = t.idle;
+    machine = record { live = t.machine.live; parent = t.machine.parent; number = t.machine.number };
+    pools = t.pools;
+    unused = t.unused;
+  }),
+)
+
+-- what is kept of the table behind an edit, where the versions of what it touches rose before
+pub tabled_behind : (p q : Program) (g h : Bool) (old mid new : State) → q ≡ p → h ≡ g → mid ≡ record old { versions = mid.versions }
+    → KeepsTabled q h mid new → KeepsTabled p g old new
+tabled_behind p q g h old mid new a b e k = λ r t f few.
+    subst (λ (x : Program). IsTabled x new) a
+    (k r (versions_tabled r old mid e t) (λ n. ap frame_of a ∙ f (sym b ∙ n) ∙ sym (ap (λ (s : State). s.frame) e))
+    (subst (λ (x : Program). length x.nodes < nothing) (sym a) few))
+
+pub tabled_if_ok : {X E : Type 0} (r : Result X E) (p : Program) (g : Bool) (old new : State)
+    → ((q : Program) → IsTabled q old → (g ≡ false → frame_of p ≡ old.frame) → length p.nodes < nothing → OnOk r (IsTabled p new))
+    → OnOk r (KeepsTabled p g old new)
+tabled_if_ok (Ok x) p g old new h = h
+tabled_if_ok (Err e) p g old new h = tt
+
+works_behind : (p : Program) (e : Edit) (budget : Budget) (old new : Working) → IsProgram p → WorksOn p budget old → IsEdited p e old new
+    → KeepsTabled (after p e) (is_grown e) old.state new.state → WorksOn (after p e) budget new
+works_behind p e budget old new i w h k = record {
   tree = h.tree;
   frame = h.frame ∙ frame_behind p e (is_grown e) refl old.state.frame w.frame;
   budget_is = h.budget ∙ w.budget_is;
   versions = subst (λ (vs : List Version). length (after p e).nodes ≤ length vs) (sym h.versions) (versions_behind p e old.state.versions w.versions);
   explained = unstopped_is_explained (after p e) new.tree new.state h.reasons;
+  tabled = λ j few. k p (w.tabled i (let g : length p.nodes ≤ length (after p e).nodes = grows p e in omega (arith, g, few)))
+      (λ g. frame_stays p e g ∙ sym w.frame) few;
 }
 
 -- and what its touches carry
@@ -121,10 +162,10 @@ pub touches_carry : (p : Program) (e : Edit) (budget : Budget) (old new : Workin
 touches_carry p e budget old new i a w h =
     subst (TouchesCarry p e old.state.versions) (sym h.versions) (touches_stand p e old.state.versions i a w.versions)
 
-pub works_on : (p q : Program) (e : Edit) (old : Method) (w new : Working) → old ≡ AtWork w → q ≡ after p e → IsEdited p e w new
-    → (budget : Budget) → StandsOn p budget old → WorksOn q budget new
-works_on p q e old w new is a h budget s =
-    subst (λ (r : Program). WorksOn r budget new) (sym a) (works_behind p e budget w new (subst (StandsOn p budget) is s) h)
+pub works_on : (p q : Program) (e : Edit) (old : Method) (w new : Working) → IsProgram p → old ≡ AtWork w → q ≡ after p e → IsEdited p e w new
+    → KeepsTabled (after p e) (is_grown e) w.state new.state → (budget : Budget) → StandsOn p budget old → WorksOn q budget new
+works_on p q e old w new i is a h k budget s =
+    subst (λ (r : Program). WorksOn r budget new) (sym a) (works_behind p e budget w new i (subst (StandsOn p budget) is s) h k)
 
 pub treeless_leaves_open : (p : Program) (budget : Budget) (why : Open) → HasNoTree p why → LeavesOpen p budget why
 treeless_leaves_open p budget why h =

@@ -1,5 +1,5 @@
 -- The method behind an edit of its program: which pools are swept for what the edit touches.
-use Rattle.std.specs.Prelude.{◌≡◌, Bool, true, false, length, List, Option, Ok, Err}
+use Rattle.std.specs.Prelude.{◌≡◌, ◌<◌, Bool, true, false, length, List, Option, Ok, Err}
 use Rattle.rationals.specs.Passes.{Operation}
 use Rattle.scen_defs.specs.Lists.{pick}
 use Rattle.scen_defs.specs.declared.report.Place.TheVariants.{Dual}
@@ -22,8 +22,11 @@ use Rattle.proved_report.specs.declared.open.Open.{Open}
 use Rattle.proved_report.specs.declared.open.Open.TheVariants.{Passed}
 use Rattle.cut_banks.specs.declared.banks.Banks.{Banks}
 use Rattle.cut_banks.specs.Banks.{edited_banks}
+use Rattle.pass_table.specs.Marks.{nothing}
+use Rattle.pass_core.specs.declared.state.State.{State}
 use Rattle.pass_core.specs.Versions.{next_touches, next_versions}
 use Rattle.pass_core.specs.Explained.{IsUnstopped}
+use Rattle.pass_core.specs.Tabled.{IsTabled}
 use Rattle.tree_method.specs.declared.method.Working.{Working}
 
 -- whether nodes come or go with an edit
@@ -58,6 +61,11 @@ fit_versions grows nodes versions = pick grows (grown (length nodes) versions) v
 -- the versions of what the edit touches rise
 abbrev pub raised_versions : Program → Edit → List Version → List Version
 raised_versions p e versions = fit_versions (is_grown e) (after p e).nodes (next_versions (touches p e) versions)
+
+-- Where the table of a state fits a machine of some program, and it is told where nodes came or went, the table behind an edit fits a
+-- machine of the program behind it, which has no more nodes than a table has numbers for.
+abbrev pub KeepsTabled : Program → Bool → State → State → Type 0
+KeepsTabled p grows old new = (q : Program) → IsTabled q old → (grows ≡ false → frame_of p ≡ old.frame) → length p.nodes < nothing → IsTabled p new
 
 -- The method at work behind an edit of the program on which it was at work. Its frame is made anew where nodes came or went.
 pub record IsEdited (p : Program) (e : Edit) (old new : Working) : Type 0 where

@@ -1,7 +1,8 @@
 -- On which program the method stands, why it leaves a report of it open, and how it goes on behind an edit.
-use Rattle.std.specs.Prelude.{◌≡◌, ◌⊎◌, ℕ, ◌≤◌, length, Ok}
+use Rattle.std.specs.Prelude.{◌≡◌, ◌⊎◌, ℕ, ◌<◌, ◌≤◌, length, Ok}
 use Rattle.rationals.specs.Passes.{Operation}
 use Rattle.scen_defs.specs.Program.{Program}
+use Rattle.scen_defs.specs.Valid.{IsProgram}
 use Rattle.scen_defs.specs.declared.report.Place.{Place}
 use Rattle.scen_defs.specs.declared.report.Place.TheVariants.{Cost}
 use Rattle.scen_tree.specs.Trees.{Tree, tree_walk}
@@ -10,7 +11,10 @@ use Rattle.proved_report.specs.declared.open.Open.{Open}
 use Rattle.proved_report.specs.declared.open.Open.TheVariants.{Solves, Pivots, Passed}
 use Rattle.run_data.specs.Frames.{frame_of}
 use Rattle.pass_core.specs.declared.budget.Budget.{Budget}
+use Rattle.pass_table.specs.Machine.{Machine}
+use Rattle.pass_table.specs.Marks.{nothing}
 use Rattle.pass_core.specs.Explained.{ComesOfSolve, PassesInRun, AreExplained}
+use Rattle.pass_core.specs.Tabled.{IsTabled, IsTabledBy, GoesBySteps}
 use Rattle.tree_method.specs.declared.found.Found.{Found}
 use Rattle.tree_method.specs.declared.method.Working.{Working}
 use Rattle.tree_method.specs.declared.method.Method.{Method}
@@ -48,19 +52,28 @@ pub record TellsWhy (p : Program) (budget : Budget) (found : Found) : Type 0 whe
   pub place : found.place ≡ Cost commits
 
 -- ---- the method
--- at work on a program with this budget: the tree and the frame are the program's, there are versions of all its nodes, and each reason
--- that is kept is explained
+-- at work on a program with this budget: the tree and the frame are the program's, there are versions of all its nodes, each reason
+-- that is kept is explained, and the table fits a machine of the program, where that has no more nodes than a table has numbers for
 pub record WorksOn (p : Program) (budget : Budget) (w : Working) : Type 0 where
   pub tree : tree_walk p ≡ Ok w.tree
   pub frame : w.state.frame ≡ frame_of p
   pub budget_is : w.state.budget ≡ budget
   pub versions : length p.nodes ≤ length w.state.versions
   pub explained : AreExplained p w.tree w.state
+  pub tabled : IsProgram p → length p.nodes < nothing → IsTabled p w.state
 
 -- it is at work on the program, or tells why it can't be
 abbrev pub StandsOn : Program → Budget → Method → Type 0
 StandsOn p budget (AtWork w) = WorksOn p budget w
 StandsOn p budget (Idle why own) = (own ≡ budget) × LeavesOpen p budget why
+
+-- The method goes on by steps of a machine of the program: the one that its table fits takes them, and the table fits it behind them. One
+-- that can't go on stays as it is.
+abbrev pub WorksBySteps : Program → Method → Method → Type 0
+WorksBySteps p (AtWork old) (AtWork new) =
+    (m : Machine) → IsProgram p → old.state.frame ≡ frame_of p → IsTabledBy p old.state m → GoesBySteps p m new.state
+WorksBySteps p (AtWork old) (Idle why own) = ⊥
+WorksBySteps p (Idle why own) new = new ≡ Idle why own
 
 -- A method behind an edit of its program: one at work goes on, unless the program after the edit has no tree; one that couldn't go on
 -- begins with the program after the edit.

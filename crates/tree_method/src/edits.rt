@@ -1,5 +1,5 @@
 //! How the method goes on behind an edit of its program.
-ghost use Rattle.std.specs.Prelude.{◌≡◌, IfOk, OnOk, MatchOption};
+ghost use Rattle.std.specs.Prelude.{◌≡◌, IfOk, IfNone, OnOk, MatchOption};
 ghost use Rattle.scen_defs.specs.Program.{content};
 ghost use Rattle.scen_defs.specs.Valid.{IsProgram};
 ghost use Rattle.edit_defs.specs.After.{after};
@@ -12,7 +12,7 @@ ghost use Rattle.pass_core.specs.declared.budget.Budget.{Budget as BudgetOf};
 ghost use Rattle.pass_core.specs.Explained.{IsUnstopped};
 ghost use Rattle.run_data.specs.Frames.{frame_of};
 ghost use Rattle.scen_defs.specs.Lists.{pick};
-ghost use Rattle.tree_method.specs.Edited.{is_grown, dues_of, fit_versions, IsEdited, HasNoTree};
+ghost use Rattle.tree_method.specs.Edited.{is_grown, dues_of, fit_versions, KeepsTabled, IsEdited, HasNoTree};
 ghost use Rattle.tree_method.specs.Stands.{StandsOn, GoesOn, CarriesVersions};
 
 use crate::method::{Method, Working, treeless};
@@ -73,6 +73,7 @@ impl Working {
             ≡ fit_versions is_grown (content program.now).nodes self.old.state.versions) }
         ensures banks { OnOk result (self.new.state.banks
             ≡ edited_banks is_grown (content program.now).nodes dues.now self.old.state.banks) }
+        ensures tabled { OnOk result (KeepsTabled (content program.now) is_grown self.old.state self.new.state) }
     {
         self.tree = tree;
         self.state.edited(alloc, program, dues, is_grown)
@@ -94,6 +95,8 @@ impl Working {
         ensures counted { OnOk result (counted.new ≡ counts (content program.new).nodes) }
         ensures method { IfOk result (λ stop. MatchOption stop (IsEdited (content program.old) edit.now self.old self.new)
             (HasNoTree (after (content program.old) edit.now))) }
+        ensures tabled { IfOk result (λ stop. IfNone stop
+            (KeepsTabled (after (content program.old) edit.now) (is_grown edit.now) self.old.state self.new.state)) }
     {
         let dues = self.dues(alloc, program, edit)?;
         applied(alloc, program, counted, edit)?;

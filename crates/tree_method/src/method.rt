@@ -1,10 +1,13 @@
 //! The nested method at work on a program.
 ghost use Rattle.std.specs.Prelude.{◌≡◌, IfOk, OnOk};
 ghost use Rattle.scen_defs.specs.Program.{content};
-ghost use Rattle.scen_defs.specs.Valid.{IsSmall};
+ghost use Rattle.scen_defs.specs.Valid.{IsProgram, IsSmall};
+ghost use Rattle.run_data.specs.Frames.{frame_of};
+ghost use Rattle.pass_table.specs.Machine.{Machine};
 ghost use Rattle.pass_core.specs.declared.budget.Budget.{Budget as BudgetOf};
 ghost use Rattle.tree_method.specs.Edited.{IsTreeless};
-ghost use Rattle.tree_method.specs.Stands.{WorksOn, StandsOn, TellsWhy};
+ghost use Rattle.pass_core.specs.Tabled.{IsTabledBy, GoesBySteps};
+ghost use Rattle.tree_method.specs.Stands.{WorksOn, StandsOn, WorksBySteps, TellsWhy};
 
 use crate::found::{Found, nothing};
 use frac128::Memory;
@@ -48,8 +51,10 @@ pub(crate) fn treeless(fault: TreeFault) -> Result<Open, Memory>
 impl Working {
     /// Takes steps until so many solves were committed since the last item, or nothing is left to find.
     fn run(&mut self, alloc: Global, program: &Program, work: u64) -> Result<(), Memory>
-        ensures { let p = content program.now in (budget : BudgetOf)
+        ensures stays { let p = content program.now in (budget : BudgetOf)
             → WorksOn p budget self.old → OnOk result (WorksOn p budget self.new) }
+        ensures steps { let p = content program.now in (m : Machine) → IsProgram p → self.old.state.frame ≡ frame_of p
+            → IsTabledBy p self.old.state m → OnOk result (GoesBySteps p m self.new.state) }
     {
         for _ in 0..u64::MAX {
             if self.state.is_ripe(work) || !self.state.advance(alloc, program, &self.tree)? {
@@ -65,6 +70,8 @@ impl Working {
             → WorksOn p budget self.old → IfOk result (TellsWhy p budget) }
         ensures stays { let p = content program.now in (budget : BudgetOf)
             → WorksOn p budget self.old → OnOk result (WorksOn p budget self.new) }
+        ensures steps { let p = content program.now in (m : Machine) → IsProgram p → self.old.state.frame ≡ frame_of p
+            → IsTabledBy p self.old.state m → OnOk result (GoesBySteps p m self.new.state) }
     {
         self.run(alloc, program, ENDLESS)?;
         let place = Place::Cost(self.state.commits());
@@ -97,8 +104,9 @@ impl Method {
 
     /// Works on the program until so many solves were committed since the last item, or nothing is left to find.
     pub fn work(&mut self, alloc: Global, program: &Program, work: u64) -> Result<(), Memory>
-        ensures { let p = content program.now in (budget : BudgetOf)
+        ensures stays { let p = content program.now in (budget : BudgetOf)
             → StandsOn p budget self.old → OnOk result (StandsOn p budget self.new) }
+        ensures steps { OnOk result (WorksBySteps (content program.now) self.old self.new) }
     {
         match self {
             Method::Working(working) => working.run(alloc, program, work),
@@ -112,6 +120,7 @@ impl Method {
             → StandsOn p budget self.old → IfOk result (TellsWhy p budget) }
         ensures stays { let p = content program.now in (budget : BudgetOf)
             → StandsOn p budget self.old → OnOk result (StandsOn p budget self.new) }
+        ensures steps { OnOk result (WorksBySteps (content program.now) self.old self.new) }
     {
         match self {
             Method::Working(working) => working.find(alloc, program),

@@ -3,7 +3,8 @@ use Rattle.scen_defs.specs.Program.{content}
 use Rattle.script_steps.proofs.StepLemmas.{edit_applies}
 use Rattle.tree_method.specs.declared.method.Method.{Method}
 use Rattle.tree_method.specs.declared.method.Method.TheVariants.{Working as AtWork}
-use Rattle.tree_method.specs.Edited.{IsEdited}
+use Rattle.edit_defs.specs.After.{after}
+use Rattle.tree_method.specs.Edited.{is_grown, KeepsTabled, IsEdited}
 use Rattle.tree_method.specs.Stands.{StandsOn, CarriesVersions}
 use Rattle.tree_method.proofs.StandLemmas.{works_on, touches_carry}
 use Rattle.tree_method.proofs.method.Method.edit.Goals as goal
@@ -11,8 +12,10 @@ use Rattle.tree_method.proofs.method.Method.edit.Goals as goal
 pub returns-in_default-clause-stands : goal.returns-in_default-clause-stands
 returns-in_default-clause-stands c =
     let edited : IsEdited (content c.args.program.now) c.args.edit.now c.in-Working.working c.edit.new.self = search rules in
+    let tabled : KeepsTabled (after (content c.args.program.now) c.args.edit.now) (is_grown c.args.edit.now) c.in-Working.working.state c.edit.new.self.state =
+    search rules in
     works_on (content c.args.program.now) (content c.edit.new.program) c.args.edit.now c.args.self.now c.in-Working.working c.edit.new.self
-    c.in-Working.is c.in_ok-why-in-Working.ensures.after edited
+    c.requires.program c.in-Working.is c.in_ok-why-in-Working.ensures.after edited tabled
 
 pub returns-in_default-clause-touches : goal.returns-in_default-clause-touches
 returns-in_default-clause-touches c = λ budget s.
