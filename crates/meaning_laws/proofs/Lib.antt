@@ -1,0 +1,5 @@
+pub mod Times
+pub mod Entries
+pub mod Cases
+pub mod Programs
+pub mod Laws
