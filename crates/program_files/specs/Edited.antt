@@ -1,14 +1,16 @@
 -- The script and the reports that two further texts mean for the program, and why they mean none.
-use Rattle.std.specs.Prelude.{◌≡◌, ◌⊎◌, ℕ, List, [], Option, Some, None, Ok, Err}
+use Rattle.std.specs.Prelude.{◌≡◌, ◌⊎◌, ℕ, List, [], Option, Some, None, Result, Ok, Err, map}
 use Rattle.core_defs.specs.declared.cause.Refusal.{Refusal}
 use Rattle.core_defs.specs.declared.program.Core.{Core}
 use Rattle.scen_defs.specs.Program.{Program, content}
 use Rattle.scen_defs.specs.declared.program.Program.{Program as ProgramOf}
+use Rattle.scen_defs.specs.declared.program.Column.{Column}
+use Rattle.scen_defs.specs.declared.program.Row.{Row}
 use Rattle.scen_defs.specs.declared.report.Report.{Report}
 use Rattle.edit_defs.specs.declared.edit.Item.{Item}
 use Rattle.edit_script.specs.Script.{script_of}
 use Rattle.script_steps.specs.Solves.{solve_count}
-use Rattle.report_reader.specs.Reports.{reports_of}
+use Rattle.report_reader.specs.Reports.{read_text, reports_of}
 use Rattle.report_reader.specs.Stated.{IsStated}
 use Rattle.input_files.specs.declared.kind.FileKind.{FileKind}
 use Rattle.input_files.specs.declared.kind.FileKind.TheVariants as kind
@@ -29,6 +31,23 @@ MeansScript texts p items = script_of (or_empty texts.edits) p ≡ Ok items
 pub record MeansReports (texts : Texts) (most : ℕ) (program : ProgramOf) (reports : List Report) : Type 0 where
   pub read : reports_of most program (or_empty texts.report) ≡ Ok reports
   pub stated : IsStated program (or_empty texts.report) reports
+
+-- the reports of a report file, so many at most, with the names of the program's columns and rows; where there is none, these are none
+abbrev pub reports_for : ℕ → Program → Option (List ℕ) → Result (List Report) Refusal
+reports_for most p text = read_text (record {
+  columns = map (λ (column : Column). column.name) p.columns;
+  rows = map (λ (row : Row). row.name) p.rows;
+  most = most;
+}) (or_empty text)
+
+-- The texts mean a program, the edit list a script for it, and the report file is read as reports, at most one for each SOLVE.
+pub record AreMeant (texts : Texts) : Type 0 where
+  pub program : Program
+  pub means : MeansProgram texts program
+  pub items : List Item
+  pub script : MeansScript texts program items
+  pub reports : List Report
+  pub read : reports_for (solve_count items) program texts.report ≡ Ok reports
 
 -- The edit list has this fault, for the program that the texts mean.
 pub record RefusesEdits (texts : Texts) (file : FileKind) (refusal : Refusal) (known : Option Core) : Type 0 where

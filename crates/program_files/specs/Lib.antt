@@ -2,3 +2,4 @@ pub mod Meant
 pub mod Refused
 pub mod Edited
 pub mod Views
+pub mod Laws

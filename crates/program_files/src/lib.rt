@@ -3,7 +3,9 @@
 #![tactic(auto)]
 
 mod edited;
+mod laws;
 mod reading;
 
 pub use edited::{read_edits, read_told};
+pub use laws::texts_mean_one_program;
 pub use reading::{Unread, read_program};
