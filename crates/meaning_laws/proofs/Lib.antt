@@ -2,4 +2,5 @@ pub mod Times
 pub mod Entries
 pub mod Cases
 pub mod Programs
+pub mod Singles
 pub mod Laws

@@ -1,5 +1,5 @@
 -- Texts mean one program at most, and what is meant isn't refused.
-use Rattle.std.proofs.Common.{◌≡◌, ◌∙◌, ap, sym, ℕ, false, List, [], ◌∷◌, length, replicate, Option, Some, None, Result, Ok, Err, inl, inr}
+use Rattle.std.proofs.Common.{◌≡◌, ◌∙◌, ap, sym, ℕ, false, List, [], ◌∷◌, length, replicate, Option, Some, None, Result, Ok, Err, inl, inr, refl, subst}
 use Rattle.smps_words.specs.Line.{reading_of}
 use Rattle.core_defs.specs.declared.cause.Refusal.{Refusal}
 use Rattle.core_defs.specs.declared.program.Core.{Core}
@@ -15,6 +15,9 @@ use Rattle.stoch_defs.specs.File.{IsStochReading, read_random}
 use Rattle.stoch_defs.proofs.Texts as stoch_texts
 use Rattle.build_defs.specs.Built.{built, exceeds}
 use Rattle.meaning_laws.proofs.Laws.{same_cores_mean_the_same as alike}
+use Rattle.meaning_laws.proofs.Singles.{no_end_passes}
+use Rattle.rationals.specs.Passes.{Operation}
+use Rattle.smps_build.specs.Single.{single_walk}
 use Rattle.scen_defs.specs.Program.{Program, content}
 use Rattle.scen_defs.specs.declared.report.Report.{Report}
 use Rattle.edit_defs.specs.declared.edit.Item.{Item}
@@ -106,6 +109,14 @@ one_program : (texts : Texts) (program other : Program) → MeansProgram texts p
 one_program texts program other m n =
     ok_same program other (sym (is_built texts program m n.core n.core_means n.periods n.periods_mean n.random n.random_means) ∙ n.built_is)
 
+alone : (texts : Texts) (program : Program) → MeansProgram texts program → texts.time ≡ None → texts.stoch ≡ None → (core : Core) → MeansCore texts.core core → (operation : Operation) → single_walk core ≡ Err operation → ⊥
+alone texts program m time stoch core core_means operation err =
+    let periods_mean : MeansPeriods core texts.time (single_stages core) = subst (λ (t : Option (List ℕ)). MeansPeriods core t (single_stages core)) (sym time) refl in
+    let cases_mean : MeansRandom core (single_stages core) texts.stoch (Blocks []) =
+    subst (λ (s : Option (List ℕ)). MeansRandom core (single_stages core) s (Blocks [])) (sym stoch) refl in
+    no_end_passes core (80 ∷ 49 ∷ []) (replicate (length core.columns.items) 0) program operation
+    (is_built texts program m core core_means (single_stages core) periods_mean (Blocks []) cases_mean) err
+
 module _ (texts : Texts) (program : Program) (m : MeansProgram texts program) (file : FileKind) (refusal : Refusal) (known : Option Core) where
   no_fault : RefusesProgram texts file refusal known → ⊥
   no_fault (inl fault) = fault.not_read m.core_means.read
@@ -140,4 +151,4 @@ none_refused texts meant file refusal known (inr (inr fault)) =
     no_report_fault texts meant.program meant.means file refusal known meant.items meant.script meant.reports meant.read fault
 
 pub texts_mean_one_program : TextsMeanOneProgram
-texts_mean_one_program = record { one = one_program; no_fault = no_fault; none_refused = none_refused }
+texts_mean_one_program = record { one = one_program; no_fault = no_fault; none_refused = none_refused; alone = alone }
