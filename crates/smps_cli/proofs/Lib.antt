@@ -2,6 +2,7 @@ pub mod NodeLemmas
 pub mod PrintLemmas
 pub mod AnswerLemmas
 pub mod CompleteLemmas
+pub mod MeantLemmas
 pub mod GivenLemmas
 pub mod EndLemmas
 pub mod WriteLemmas

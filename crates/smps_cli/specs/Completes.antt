@@ -1,16 +1,23 @@
--- When a run must end with a report.
-use Rattle.std.specs.Prelude.{◌≡◌, ◌≤◌, ◌⊎◌, ℕ, List, length, Option, Some, None}
+-- When a run must end with its whole output.
+use Rattle.std.specs.Prelude.{◌≡◌, ◌≤◌, ◌⊎◌, ⊤, ℕ, List, length, Option, Some, None}
 use Rattle.smps_words.specs.Line.{reading_of}
 use Rattle.smps_io.specs.Files.{Files, bytes_of}
 use Rattle.core_defs.specs.Fault.{IsCoreFile}
 use Rattle.command_words.specs.declared.command.Budget.{Budget}
+use Rattle.command_words.specs.declared.command.Page.{Page}
+use Rattle.command_words.specs.declared.command.Plan.{Plan}
+use Rattle.command_words.specs.declared.command.Task.{Task}
 use Rattle.command_words.specs.declared.command.Task.TheVariants.{Solve}
 use Rattle.command_words.specs.Commands.{FileNames, command_of}
-use Rattle.command_words.specs.Commands.Asked.{OnFiles}
-use Rattle.input_files.specs.Fetched.{file_limit}
+use Rattle.command_words.specs.Commands.Asked.{OnFiles, MakeThis}
+use Rattle.input_files.specs.Fetched.{Texts, AreGiven, file_limit}
 use Rattle.core_defs.specs.declared.cause.Cause.TheVariants.{Passes}
 use Rattle.rationals.specs.Passes.{Operation}
 use Rattle.input_files.specs.declared.kind.FileKind.TheVariants.{Core}
+use Rattle.scen_defs.specs.Program.{Program}
+use Rattle.program_files.specs.Meant.{MeansProgram}
+use Rattle.program_files.specs.Edited.{AreMeant}
+use Rattle.smps_cli.specs.Makes.{workload, texts_of}
 use Rattle.smps_cli.specs.declared.status.Status.{Status}
 use Rattle.smps_cli.specs.declared.status.Status.TheVariants.{Done, SomeOpen, Refused, Memory}
 
@@ -35,3 +42,33 @@ pub record AsksForReport (content : Option Files) (words : List (List ℕ)) : Ty
 abbrev pub EndsOrWantsMemory : Status → Type 0
 EndsOrWantsMemory status =
     (status ≡ Done) ⊎ (status ≡ SomeOpen) ⊎ (status ≡ Memory) ⊎ ((p : Operation) × (status ≡ Refused Core 0 (Passes p)))
+
+-- ---- all commands
+
+-- The words ask for something of files that mean a program, and the shelf tells their bytes.
+pub record AsksOfProgram (content : Option Files) (words : List (List ℕ)) : Type 0 where
+  pub names : FileNames
+  pub task : Task
+  pub command : command_of words ≡ Some (OnFiles names task)
+  -- the shelf tells what it holds: these bytes, of which none are too long
+  pub files : Files
+  pub told : content ≡ Some files
+  pub texts : Texts
+  pub given : AreGiven (Some files) names texts
+  -- they mean a program, a script for it, and reports
+  pub meant : AreMeant texts
+
+-- a text of the workload is asked for; or else its texts mean a program
+abbrev pub IsPageOrMeant : Option Page → Plan → Type 0
+IsPageOrMeant (Some page) plan = ⊤
+IsPageOrMeant None plan = (program : Program) × MeansProgram (texts_of (workload plan)) program
+
+-- The words ask for a workload: for one of its texts, or for the summary of the program that these mean.
+pub record AsksForWorkload (words : List (List ℕ)) : Type 0 where
+  pub plan : Plan
+  pub command : command_of words ≡ Some (MakeThis plan)
+  pub meant : IsPageOrMeant plan.page plan
+
+-- the command ended with its whole output, or memory was wanting
+abbrev pub AnswersOrWantsMemory : Status → Type 0
+AnswersOrWantsMemory status = (status ≡ Done) ⊎ (status ≡ SomeOpen) ⊎ (status ≡ Memory)

@@ -7,6 +7,7 @@ ghost use Rattle.command_words.specs.Commands.{command_of};
 ghost use Rattle.smps_cli.specs.Sources.{fetch_order};
 ghost use Rattle.smps_cli.specs.Answers.{Answers, HasTexts};
 ghost use Rattle.smps_cli.specs.Completes.{AsksForReport, EndsOrWantsMemory};
+ghost use Rattle.smps_cli.specs.Completes.{AsksOfProgram, AsksForWorkload, AnswersOrWantsMemory};
 ghost use Rattle.input_files.specs.declared.kind.FileKind.{FileKind};
 
 use crate::answer::answered;
@@ -22,7 +23,8 @@ use std::rt::Runtime;
 /// written.
 ///
 /// A core file within the limit whose rows' ends fit into 128 bits ends with a report where neither the shelf
-/// nor the sink fails, unless memory is wanting.
+/// nor the sink fails, unless memory is wanting. So each command ends with its whole output, of files within the limit that mean
+/// a program, a script for it, and reports with its names.
 pub fn run<R: Runtime, H: Shelf, K: Sink>(
     rt: &R,
     alloc: Global,
@@ -43,6 +45,13 @@ pub fn run<R: Runtime, H: Shelf, K: Sink>(
         → (¬ Rose (H.faults shelf.old) (H.faults shelf.new))
         → (¬ Rose (K.faults sink.old) (K.faults sink.new))
         → EndsOrWantsMemory result }
+    ensures ends { AsksOfProgram (H.content shelf.old) (map string_bytes words.now)
+        → (¬ Rose (H.faults shelf.old) (H.faults shelf.new))
+        → (¬ Rose (K.faults sink.old) (K.faults sink.new))
+        → AnswersOrWantsMemory result }
+    ensures makes { AsksForWorkload (map string_bytes words.now)
+        → (¬ Rose (K.faults sink.old) (K.faults sink.new))
+        → AnswersOrWantsMemory result }
     ensures answers { Answers (H.content shelf.old) (map string_bytes words.now)
         (K.written sink.old) (K.written sink.new) (K.taken sink.old) (K.taken sink.new) result }
 {

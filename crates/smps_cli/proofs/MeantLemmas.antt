@@ -1,0 +1,216 @@
+-- A run on files that mean a program, and whose shelf didn't fail, answers what it is asked for.
+use Rattle.std.proofs.Common.{◌≡◌, ◌<◌, ◌≤◌, ℕ, Bool, true, false, ◌&&◌, if◌then◌else◌, List, [], ◌∷◌, length, Option, Some, None, inl, inr, refl, sym, ap, ◌∙◌, subst, arith}
+use Rattle.smps_io.specs.Files.{Files, bytes_of}
+use Rattle.core_defs.specs.declared.cause.Cause.{Cause}
+use Rattle.core_defs.specs.declared.cause.Refusal.{Refusal}
+use Rattle.core_defs.specs.declared.program.Core.{Core}
+use Rattle.command_words.specs.declared.command.Budget.{Budget}
+use Rattle.command_words.specs.declared.command.Page.{Page}
+use Rattle.command_words.specs.declared.command.Plan.{Plan}
+use Rattle.command_words.specs.declared.command.Task.{Task}
+use Rattle.command_words.specs.declared.command.Task.TheVariants as task
+use Rattle.command_words.specs.declared.command.Verb.{Verb}
+use Rattle.command_words.specs.declared.command.Verb.TheVariants as verbs
+use Rattle.command_words.specs.declared.flag.Flag.TheVariants as flags
+use Rattle.command_words.specs.Words.{Given, then_some, settings_of, value_with, are_once, verb_named}
+use Rattle.command_words.specs.Commands.{FileNames, Asked, all_allowed, sources_by, task_of, plan_of, asked_with, command_with, command_of}
+use Rattle.command_words.specs.Commands.Asked.{OnFiles, MakeThis}
+use Rattle.input_files.specs.declared.kind.FileKind.{FileKind}
+use Rattle.input_files.specs.declared.kind.FileKind.TheVariants as kind
+use Rattle.input_files.specs.Fetched.{Texts, IsGiven, IsGivenIf, AreGiven, IsLong, file_limit}
+use Rattle.scen_defs.specs.Program.{Program}
+use Rattle.program_files.specs.Meant.{MeansProgram}
+use Rattle.program_files.specs.Edited.{AreMeant, RefusesFiles}
+use Rattle.program_files.proofs.MeaningLemmas.{texts_mean_one_program}
+use Rattle.smps_cli.specs.declared.status.Status.{Status}
+use Rattle.smps_cli.specs.declared.status.Status.TheVariants.{Done, SomeOpen, Words, Refused, TooLong, ReadFault, WriteFault, Memory}
+use Rattle.smps_cli.specs.Answers.{MayAnswer, MayAnswerFor, MayBeSolved, MayCome, MaySolve}
+use Rattle.smps_cli.specs.Checks.{PrintsChecks}
+use Rattle.smps_cli.specs.Ends.{MayEnd, RefusesTexts}
+use Rattle.smps_cli.specs.Makes.{PrintsSummary, MayMake, workload, texts_of}
+use Rattle.smps_cli.specs.Printed.{IsRefusedAt}
+use Rattle.smps_cli.specs.Shown.{PrintsProgram}
+use Rattle.smps_cli.specs.Trees.{PrintsReports}
+use Rattle.smps_cli.specs.Completes.{AsksOfProgram, IsPageOrMeant, AsksForWorkload, AnswersOrWantsMemory}
+
+-- ---- what the shelf gives
+
+module _ (files : Files) where
+  given_one : (name bytes other : List ℕ) → IsGiven (Some files) name bytes → IsGiven (Some files) name other → bytes ≡ other
+  given_one name bytes other g h = g.told ∙ sym h.told
+
+  given_if : (name bytes other : Option (List ℕ)) → IsGivenIf (Some files) name bytes → IsGivenIf (Some files) name other → bytes ≡ other
+  given_if None None None g h = refl
+  given_if None None (Some other) g h = absurd h
+  given_if None (Some bytes) other g h = absurd g
+  given_if (Some name) None other g h = absurd g
+  given_if (Some name) (Some bytes) None g h = absurd h
+  given_if (Some name) (Some bytes) (Some other) g h = ap Some (given_one name bytes other g h)
+
+  texts_are : (names : FileNames) (texts other : Texts) → AreGiven (Some files) names texts → AreGiven (Some files) names other → texts ≡ other
+  texts_are names texts other g h =
+      let core = given_one names.core texts.core other.core g.core h.core in
+      let time = given_if names.time texts.time other.time g.time h.time in
+      let stoch = given_if names.stoch texts.stoch other.stoch g.stoch h.stoch in
+      let edits = given_if names.edits texts.edits other.edits g.edits h.edits in
+      let report = given_if names.report texts.report other.report g.report h.report in
+      λ i. record { core = core i; time = time i; stoch = stoch i; edits = edits i; report = report i }
+
+  not_over : (name bytes : List ℕ) → IsGiven (Some files) name bytes → file_limit < length (bytes_of files name) → ⊥
+  not_over name bytes g over =
+      let within : length (bytes_of files name) ≤ file_limit = subst (λ (told : List ℕ). length told ≤ file_limit) g.told g.within in absurd (omega (arith, over, within))
+
+  not_over_if : (named text : Option (List ℕ)) (name : List ℕ) → named ≡ Some name → IsGivenIf (Some files) named text → file_limit < length (bytes_of files name) → ⊥
+  not_over_if None text name e g over = absurd (cc)
+  not_over_if (Some other) None name e g over = absurd g
+  not_over_if (Some other) (Some bytes) name e g over =
+      let same : other ≡ name = cc in
+      not_over other bytes g (subst (λ (n : List ℕ). file_limit < length (bytes_of files n)) (sym same) over)
+
+  not_long : (names : FileNames) (texts : Texts) → AreGiven (Some files) names texts → (k : FileKind) → IsLong (Some files) names k → ⊥
+  not_long names texts g kind.Core long = not_over_if (Some names.core) (Some texts.core) long.0 long.1 g.core long.2
+  not_long names texts g kind.Time long = not_over_if names.time texts.time long.0 long.1 g.time long.2
+  not_long names texts g kind.Stoch long = not_over_if names.stoch texts.stoch long.0 long.1 g.stoch long.2
+  not_long names texts g kind.Edits long = not_over_if names.edits texts.edits long.0 long.1 g.edits long.2
+  not_long names texts g kind.Report long = not_over_if names.report texts.report long.0 long.1 g.report long.2
+  not_long names texts g kind.Trace long = let e = long.1 in absurd (cc)
+
+-- a file that isn't named gives no text
+not_given : (content : Option Files) (name text : Option (List ℕ)) → name ≡ None → IsGivenIf content name text → text ≡ None
+not_given content None None e g = refl
+not_given content None (Some text) e g = absurd g
+not_given content (Some name) None e g = absurd g
+not_given content (Some name) (Some text) e g = absurd (cc)
+
+-- ---- a stoch file goes with a time file alone
+
+abbrev GoesAlone : Option Asked → Type 0
+GoesAlone None = Unit {0}
+GoesAlone (Some (OnFiles names asked)) = names.time ≡ None → names.stoch ≡ None
+GoesAlone (Some (MakeThis plan)) = Unit {0}
+
+then_alone : {A : Type 0} (o : Option A) (f : A → Option Asked) → ((x : A) → GoesAlone (f x)) → GoesAlone (then_some o f)
+then_alone None f h = tt
+then_alone (Some x) f h = h x
+
+sources_alone : (core time stoch edits report : Option (List ℕ)) (found : Option Task)
+    → GoesAlone (then_some (sources_by core time stoch edits report) (λ names. then_some found (λ asked. Some (OnFiles names asked))))
+sources_alone None time stoch edits report found = tt
+sources_alone (Some core) None (Some stoch) edits report found = tt
+sources_alone (Some core) None None edits report found = then_alone found _ (λ asked e. refl)
+sources_alone (Some core) (Some time) stoch edits report found = then_alone found _ (λ asked e. absurd (cc))
+
+asked_alone : (verb : Verb) (settings : List Given) → GoesAlone (asked_with verb settings)
+asked_alone verbs.Solve settings = sources_alone (value_with flags.Core settings) (value_with flags.Time settings) (value_with flags.Stoch settings) (value_with flags.Edits settings) (value_with flags.Report settings) (task_of verbs.Solve settings)
+asked_alone verbs.Check settings = sources_alone (value_with flags.Core settings) (value_with flags.Time settings) (value_with flags.Stoch settings) (value_with flags.Edits settings) (value_with flags.Report settings) (task_of verbs.Check settings)
+asked_alone verbs.Show settings = sources_alone (value_with flags.Core settings) (value_with flags.Time settings) (value_with flags.Stoch settings) (value_with flags.Edits settings) (value_with flags.Report settings) (task_of verbs.Show settings)
+asked_alone verbs.Make settings = then_alone (plan_of settings) (λ plan. Some (MakeThis plan)) (λ plan. tt)
+
+if_alone : (b : Bool) (asked : Option Asked) → GoesAlone asked → GoesAlone (if b then asked else None)
+if_alone true asked h = h
+if_alone false asked h = tt
+
+command_alone : (words : List (List ℕ)) → GoesAlone (command_of words)
+command_alone [] = tt
+command_alone (word ∷ words) =
+    then_alone (verb_named word) (λ verb. then_some (settings_of words) (command_with verb)) (λ verb.
+    then_alone (settings_of words) (command_with verb) (λ settings.
+    if_alone (all_allowed verb settings && are_once settings) (asked_with verb settings) (asked_alone verb settings)))
+
+-- ---- what the texts come to
+
+-- nothing is refused
+IsUnrefused : Texts → Type 0
+IsUnrefused texts = (file : FileKind) (refusal : Refusal) (known : Option Core) → RefusesFiles texts file refusal known → ⊥
+
+-- nor a core file alone
+IsUnpassed : Texts → Type 0
+IsUnpassed texts = texts.time ≡ None → texts.stoch ≡ None → (line : ℕ) (cause : Cause) → IsRefusedAt texts.core line cause → ⊥
+
+module _ (texts : Texts) (sound : IsUnrefused texts) where
+  by_end : (prints : Status → List ℕ → Type 0) (status : Status) (output : List ℕ) → MayEnd prints (RefusesTexts texts) status output → AnswersOrWantsMemory status
+  unfolding IsUnrefused
+  by_end prints Done output may = inl refl
+  by_end prints SomeOpen output may = inr (inl refl)
+  by_end prints Words output may = absurd may
+  by_end prints (Refused file line cause) output may = absurd (sound file (record { line = line; cause = cause }) may.known may.refused)
+  by_end prints (TooLong file) output may = absurd may
+  by_end prints (ReadFault file) output may = absurd may
+  by_end prints WriteFault output may = absurd may
+  by_end prints Memory output may = absurd may
+
+  module _ (fits : IsUnpassed texts) where
+    by_core : (pivots : ℕ) → texts.time ≡ None → texts.stoch ≡ None → (status : Status) (output : List ℕ) → MayBeSolved pivots texts.core status output → AnswersOrWantsMemory status
+    unfolding IsUnpassed
+    by_core pivots time stoch Done output may = inl refl
+    by_core pivots time stoch SomeOpen output may = inr (inl refl)
+    by_core pivots time stoch Words output may = absurd may
+    by_core pivots time stoch (Refused file line cause) output may = absurd (fits time stoch line cause may.1)
+    by_core pivots time stoch (TooLong file) output may = absurd may
+    by_core pivots time stoch (ReadFault file) output may = absurd may
+    by_core pivots time stoch WriteFault output may = absurd may
+    by_core pivots time stoch Memory output may = absurd may
+
+    by_solve : (budget : Budget) (time edits : Option (List ℕ)) → (time ≡ None → (texts.time ≡ None) × (texts.stoch ≡ None))
+        → (status : Status) (output : List ℕ) → MaySolve time edits budget texts status output → AnswersOrWantsMemory status
+    by_solve budget None None none status output may = by_core budget.pivots (none refl).0 (none refl).1 status output may
+    by_solve budget None (Some edits) none status output may = by_end (PrintsReports budget texts) status output may
+    by_solve budget (Some time) edits none status output may = by_end (PrintsReports budget texts) status output may
+
+    by_task : (names : FileNames) (asked : Task) → (names.time ≡ None → (texts.time ≡ None) × (texts.stoch ≡ None))
+        → (status : Status) (output : List ℕ) → MayCome names asked texts status output → AnswersOrWantsMemory status
+    by_task names (task.Solve budget) none status output may = by_solve budget names.time names.edits none status output may
+    by_task names task.Check none status output may = by_end (PrintsChecks texts) status output may
+    by_task names task.Show none status output may = by_end (PrintsProgram texts) status output may
+
+meant_unrefused : (texts : Texts) → AreMeant texts → IsUnrefused texts
+unfolding IsUnrefused
+meant_unrefused texts meant = texts_mean_one_program.none_refused texts meant
+
+unpassed : (texts : Texts) → AreMeant texts → (line : ℕ) (cause : Cause) → texts.time ≡ None → texts.stoch ≡ None → IsRefusedAt texts.core line cause → ⊥
+unpassed texts meant line cause time stoch (inl unread) = unread.not_read meant.means.core_means.read
+unpassed texts meant line cause time stoch (inr passing) =
+    texts_mean_one_program.alone texts meant.program meant.means time stoch passing.core (record { read = passing.read; means = passing.means })
+    passing.operation passing.passes
+
+meant_unpassed : (texts : Texts) → AreMeant texts → IsUnpassed texts
+unfolding IsUnpassed
+meant_unpassed texts meant time stoch line cause = unpassed texts meant line cause time stoch
+
+module _ (content : Option Files) (words : List (List ℕ)) (asks : AsksOfProgram content words) where
+  alone : asks.names.time ≡ None → asks.names.stoch ≡ None
+  alone = subst GoesAlone asks.command (command_alone words)
+
+  by_command : (status : Status) (output : List ℕ) → ((file : FileKind) → status ≡ ReadFault file → ⊥)
+      → MayAnswerFor (Some (OnFiles asks.names asks.task)) (Some asks.files) status output → AnswersOrWantsMemory status
+  by_command status output given (inl fault) = absurd (given fault.0 fault.2)
+  by_command status output given (inr (inl long)) = absurd (not_long asks.files asks.names asks.texts asks.given long.0 long.1)
+  by_command status output given (inr (inr came)) =
+      let same : asks.texts ≡ came.0 = texts_are asks.files asks.names asks.texts came.0 asks.given came.1 in
+      by_task came.0 (subst IsUnrefused same (meant_unrefused asks.texts asks.meant)) (subst IsUnpassed same (meant_unpassed asks.texts asks.meant))
+      asks.names asks.task
+      (λ time. (not_given (Some asks.files) asks.names.time came.0.time time came.1.time, not_given (Some asks.files) asks.names.stoch came.0.stoch (alone time) came.1.stoch))
+      status output came.2
+
+  pub comes_to_an_answer : (status : Status) (output : List ℕ) → ((file : FileKind) → status ≡ ReadFault file → ⊥) → MayAnswer content words status output → AnswersOrWantsMemory status
+  comes_to_an_answer status output given may =
+      by_command status output given
+      (subst (λ (told : Option Files). MayAnswerFor (Some (OnFiles asks.names asks.task)) told status output) asks.told
+      (subst (λ (command : Option Asked). MayAnswerFor command content status output) asks.command may))
+
+-- ---- workloads
+
+made_unrefused : (plan : Plan) (program : Program) → MeansProgram (texts_of (workload plan)) program → IsUnrefused (texts_of (workload plan))
+unfolding IsUnrefused
+made_unrefused plan program means file refusal known (inl fault) = texts_mean_one_program.no_fault (texts_of (workload plan)) program means file refusal known fault
+made_unrefused plan program means file refusal known (inr (inl fault)) = let e = fault.text_is in absurd (cc)
+made_unrefused plan program means file refusal known (inr (inr fault)) = let e = fault.text_is in absurd (cc)
+
+by_page : (plan : Plan) (page : Option Page) → IsPageOrMeant page plan → (status : Status) (output : List ℕ) → MayMake page plan status output → AnswersOrWantsMemory status
+by_page plan (Some page) meant status output may = inl may.1
+by_page plan None meant status output may = by_end (texts_of (workload plan)) (made_unrefused plan meant.0 meant.1) (PrintsSummary plan) status output may
+
+pub comes_to_a_workload : (content : Option Files) (words : List (List ℕ)) → AsksForWorkload words → (status : Status) (output : List ℕ) → MayAnswer content words status output → AnswersOrWantsMemory status
+comes_to_a_workload content words asks status output may =
+    by_page asks.plan asks.plan.page asks.meant status output
+    (subst (λ (command : Option Asked). MayAnswerFor command content status output) asks.command may)
