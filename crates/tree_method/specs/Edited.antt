@@ -65,7 +65,8 @@ raised_versions p e versions = fit_versions (is_grown e) (after p e).nodes (next
 -- Where the table of a state fits a machine of some program, and it is told where nodes came or went, the table behind an edit fits a
 -- machine of the program behind it, which has no more nodes than a table has numbers for.
 abbrev pub KeepsTabled : Program → Bool → State → State → Type 0
-KeepsTabled p grows old new = (q : Program) → IsTabled q old → (grows ≡ false → frame_of p ≡ old.frame) → length p.nodes < nothing → IsTabled p new
+KeepsTabled p grows old new = (q : Program) → IsTabled q old → (grows ≡ false → frame_of p ≡ old.frame) → length p.nodes < nothing
+    → IsTabled p new
 
 -- The method at work behind an edit of the program on which it was at work. Its frame is made anew where nodes came or went.
 pub record IsEdited (p : Program) (e : Edit) (old new : Working) : Type 0 where
