@@ -5,3 +5,4 @@ pub mod ReportLemmas
 pub mod CountLemmas
 pub mod ClaimLemmas
 pub mod PassingLemmas
+pub mod EqualLemmas

@@ -1,5 +1,5 @@
 -- The report of lists that were tested, from one that is left open without ends and lists.
-use Rattle.std.specs.Prelude.{◌≡◌, ℕ, ◌<◌, ◌^◌, length, Option, Some, None}
+use Rattle.std.specs.Prelude.{◌≡◌, ℕ, ◌<◌, ◌^◌, true, length, Option, Some, None}
 use Rattle.rationals.specs.Rational.{ℚ}
 use Rattle.rationals.specs.Order.{same}
 use Rattle.scen_defs.specs.Lists.{pick}
@@ -93,6 +93,11 @@ claimed_report program number nodes scenarios place why solves (Endless policy d
 pub record IsClaimed (program : Program) (number : ℕ) (place : Place) (why : Open) (solves : ℕ) (claim : Claim) (report : Report)
     : Type 0 where
   pub is : report ≡ claimed_report program number report.nodes report.scenarios place why solves claim
+
+-- where both ends are there and equal, the finding is OPTIMAL
+abbrev pub EqualIsOptimal : Report → Type 0
+EqualIsOptimal report = (lower upper : ℚ) → report.lower ≡ Some lower → report.upper ≡ Some upper → same lower upper ≡ true
+    → report.finding ≡ Optimal
 
 -- the report has this number and the counts of the program
 pub record IsFilled (program : Program) (number : ℕ) (report : Report) : Type 0 where

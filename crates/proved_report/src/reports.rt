@@ -8,7 +8,7 @@ ghost use Rattle.report_defs.specs.Truth.{IsTrue, HasCounts};
 ghost use Rattle.proved_report.specs.Open.{given};
 ghost use Rattle.report_defs.specs.Seen.{seen};
 ghost use Rattle.proved_report.specs.Reports.{ends_finding, upper_report, lower_report, ends_report, ray_report};
-ghost use Rattle.proved_report.specs.Reports.{direction_report, falling_report, IsClaimed, IsFilled, IsBlank};
+ghost use Rattle.proved_report.specs.Reports.{direction_report, falling_report, IsClaimed, EqualIsOptimal, IsFilled, IsBlank};
 
 use crate::claim::Claim;
 use crate::counts::{live_nodes, scenario_count};
@@ -44,6 +44,7 @@ pub fn report(
     ensures names { IfOk result (ListsHaveNames program.now) }
     ensures truth { IsTree (seen program.now) → IfOk result (IsTrue (seen program.now) (given why solves)) }
     ensures exact { IfOk result (IsClaimed program.now number place why solves claim) }
+    ensures equal { IfOk result EqualIsOptimal }
 {
     match claim {
         Claim::Ends { policy, dual } => ends(

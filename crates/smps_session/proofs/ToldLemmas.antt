@@ -18,6 +18,7 @@ use Rattle.report_text.specs.Text.{report_text}
 use Rattle.pass_core.specs.declared.budget.Budget.{Budget}
 use Rattle.smps_session.specs.Reasons.{told_reasons}
 use Rattle.smps_session.specs.declared.told.Told.{Told}
+use Rattle.proved_report.specs.Reports.{EqualIsOptimal}
 use Rattle.smps_session.specs.Told.{IsTold, AreTold}
 use Rattle.smps_session.specs.Courses.{Course, course_at, TellsOne, IsBehind}
 
@@ -29,8 +30,8 @@ on_ok (Err e) A a = tt
 pub is_told : (budget : Budget) (number : ℕ) (program : ProgramOf) (report : Report) (told : Told)
     → report.number ≡ number → told.text.items ≡ report_text program report → told.finding ≡ report.finding
     → HasCounts (view_of (content program)) report → IsTrue (view_of (content program)) (told_reasons program budget) report
-    → IsTold budget number (content program) told
-is_told budget number program report told n t f counts truth = record {
+    → EqualIsOptimal report → IsTold budget number (content program) told
+is_told budget number program report told n t f counts truth equal = record {
   program = program;
   content_is = refl;
   report = report;
@@ -39,6 +40,7 @@ is_told budget number program report told n t f counts truth = record {
   finding = f;
   counts = counts;
   truth = truth;
+  equal = equal;
 }
 
 -- a list of less than one item has none

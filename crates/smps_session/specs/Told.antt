@@ -3,6 +3,7 @@ use Rattle.std.specs.Prelude.{◌≡◌, ℕ, ◌+◌, List, [], ◌∷◌}
 use Rattle.scen_defs.specs.Program.{Program, content, view_of}
 use Rattle.scen_defs.specs.declared.program.Program.{Program as ProgramOf}
 use Rattle.scen_defs.specs.declared.report.Report.{Report}
+use Rattle.proved_report.specs.Reports.{EqualIsOptimal}
 use Rattle.report_defs.specs.Truth.{IsTrue, HasCounts}
 use Rattle.report_text.specs.Text.{report_text}
 use Rattle.edit_defs.specs.declared.edit.Act.TheVariants.{Change, Solve}
@@ -24,6 +25,8 @@ pub record IsTold (budget : Budget) (number : ℕ) (p : Program) (told : Told) :
   -- its ends are shown by its lists, its finding by its reason; and its counts are the program's
   pub counts : HasCounts (view_of p) report
   pub truth : IsTrue (view_of p) (told_reasons program budget) report
+  -- it isn't left open where its ends are equal
+  pub equal : EqualIsOptimal report
 
 -- a first one, and those behind it
 abbrev pub IsThen : (Told → Type 0) → (List Told → Type 0) → List Told → Type 0

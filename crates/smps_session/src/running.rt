@@ -4,6 +4,7 @@ ghost use Rattle.scen_defs.specs.Fits.{ListsHaveNames};
 ghost use Rattle.scen_defs.specs.Program.{IsTree, content, view_of};
 ghost use Rattle.scen_defs.specs.Valid.{IsSmall};
 ghost use Rattle.report_defs.specs.Truth.{IsTrue, HasCounts};
+ghost use Rattle.proved_report.specs.Reports.{EqualIsOptimal};
 ghost use Rattle.tree_method.specs.Stands.{StandsOn};
 ghost use Rattle.smps_session.specs.Reasons.{told_reasons};
 
@@ -25,6 +26,7 @@ pub fn session(alloc: Global, program: &Program, solves: u64, pivots: u64) -> Re
     ensures names { IfOk result (ListsHaveNames program.now) }
     ensures truth { let p = content program.now in IsSmall p → IsTree (view_of p)
         → IfOk result (IsTrue (view_of p) (told_reasons program.now (record { solves = solves; pivots = pivots }))) }
+    ensures equal { IfOk result EqualIsOptimal }
 {
     let budget = Budget { solves, pivots };
     let mut method = Method::begin(alloc, program, budget)?;
@@ -44,6 +46,7 @@ pub(crate) fn reported(
     ensures names { IfOk result (ListsHaveNames program.now) }
     ensures truth { let p = content program.now in StandsOn p budget method.old → IsTree (view_of p)
         → IfOk result (IsTrue (view_of p) (told_reasons program.now budget)) }
+    ensures equal { IfOk result EqualIsOptimal }
     ensures stands { let p = content program.now in StandsOn p budget method.old → OnOk result (StandsOn p budget method.new) }
 {
     let found = method.find(alloc, program)?;

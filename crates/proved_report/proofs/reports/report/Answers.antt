@@ -9,6 +9,7 @@ use Rattle.proved_report.specs.Open.{given}
 use Rattle.proved_report.specs.Reports.{IsFilled, IsClaimed}
 use Rattle.proved_report.proofs.ReportLemmas.{counted}
 use Rattle.proved_report.proofs.ClaimLemmas.{claimed_true, claimed_names}
+use Rattle.proved_report.proofs.EqualLemmas.{claimed_equal}
 use Rattle.proved_report.proofs.reports.report.Goals as goal
 
 pub returns-in-Ends-clause-counts : goal.returns-in-Ends-clause-counts
@@ -60,3 +61,15 @@ pub returns-in-Nowhere-clause-exact : goal.returns-in-Nowhere-clause-exact
 returns-in-Nowhere-clause-exact c =
     IfOk-weaker c.nowhere.result (IsClaimed c.args.program.now c.args.number Dual c.args.why c.args.solves (Nowhere c.in-Nowhere.ray)) (IsClaimed c.args.program.now c.args.number c.args.place c.args.why c.args.solves c.args.claim)
     (λ report h. rw c.in-Nowhere.is (record { is = h.is })) c.nowhere.ensures.exact
+
+pub returns-in-Ends-clause-equal : goal.returns-in-Ends-clause-equal
+returns-in-Ends-clause-equal c = claimed_equal c.args.program.now c.args.number c.args.place c.args.why c.args.solves
+    (Ends c.in-Ends.policy c.in-Ends.dual) c.ends.result c.ends.ensures.exact
+
+pub returns-in-Nowhere-clause-equal : goal.returns-in-Nowhere-clause-equal
+returns-in-Nowhere-clause-equal c = claimed_equal c.args.program.now c.args.number Dual c.args.why c.args.solves
+    (Nowhere c.in-Nowhere.ray) c.nowhere.result c.nowhere.ensures.exact
+
+pub returns-in-Endless-clause-equal : goal.returns-in-Endless-clause-equal
+returns-in-Endless-clause-equal c = claimed_equal c.args.program.now c.args.number c.args.place c.args.why c.args.solves
+    (Endless c.in-Endless.policy c.in-Endless.direction) c.endless.result c.endless.ensures.exact

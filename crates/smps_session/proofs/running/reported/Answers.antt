@@ -17,6 +17,9 @@ pub returns-clause-truth : goal.returns-clause-truth
 returns-clause-truth c = λ stands tree. true_told c.args.program.now c.args.budget c.in_ok-found.found c.args.number c.report.result
     (c.in_ok-found.ensures.why c.args.budget stands) c.report.ensures.exact (c.report.ensures.truth tree)
 
+pub returns-clause-equal : goal.returns-clause-equal
+returns-clause-equal c = c.report.ensures.equal
+
 pub returns-clause-stands : goal.returns-clause-stands
 returns-clause-stands c = λ stands. on_ok c.report.result (StandsOn (content c.args.program.now) c.args.budget c.find.new.self)
     (c.in_ok-found.ensures.stays c.args.budget stands)

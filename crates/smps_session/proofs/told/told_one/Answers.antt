@@ -9,6 +9,7 @@ returns-clause-told c = is_told c.args.budget c.args.number c.args.program.now c
     c.in_ok-report.ensures.number (rw c.new-text.ensures.items at c.in_ok-print_report.ensures.ok) refl
     (c.in_ok-report.ensures.counts c.requires.program.small)
     (c.in_ok-report.ensures.truth c.requires.stands (programs_are_trees (content c.args.program.now) c.requires.program).0)
+    c.in_ok-report.ensures.equal
 
 pub returns-clause-stands : goal.returns-clause-stands
 returns-clause-stands c = c.in_ok-report.ensures.stands c.requires.stands
