@@ -1,7 +1,7 @@
 -- How many commits a stretch has: each but those of the solves that were in flight at its start is of another node.
 use Rattle.std.proofs.Common.{◌≡◌, ℕ, ◌+◌, ◌<◌, ◌≤◌, ◌⊎◌, inl, inr, Bool, true, false, Option, Some, None, arith, refl, sym, ap, subst, ◌∙◌}
 use Rattle.std.proofs.lemmas.Bool.{cases_eq, false≢true}
-use Rattle.pass_table.specs.Machine.{Flight, Machine, IsLive, IsChild, IsFlown, MayBegin, with_at, begun, read_by, read, dropped, committed, IsValid}
+use Rattle.pass_table.specs.Machine.{Flight, Machine, IsLive, IsChild, IsFlown, MayBegin, with_at, begun, read_by, read, dropped, committed, IsValid, IsAbove, IsOpen}
 use Rattle.pass_table.specs.Progress.{count_below, Stretch, empty, begins, reads, commits, drops, stops, IsBounded, WorkAddsCuts}
 use Rattle.pass_table.proofs.Stale.{same_at, other_at}
 use Rattle.pass_table.proofs.Events.{flight_left}
@@ -53,9 +53,9 @@ come_empty start nodes workers valid bounded = record {
   kept = λ e n h. absurd (false≢true h);
 }
 
-come_begun : (start : Machine) (nodes workers : ℕ) (m : Machine) (unread : Unread) (w n : ℕ) (on : ℕ → Bool) → w < workers → m.flight w ≡ None → MayBegin m n
+come_begun : (start : Machine) (nodes workers : ℕ) (m : Machine) (unread : Unread) (w n : ℕ) (on : ℕ → Bool) → w < workers → m.flight w ≡ None → MayBegin m n → ((a : ℕ) → IsAbove m.parent a n → IsOpen m a)
     → HasCome start nodes workers m unread false on → HasCome start nodes workers (begun m w n) (with_at unread w (λ c. true)) false (with_at on n true)
-come_begun start nodes workers m unread w n on less free may come = record {
+come_begun start nodes workers m unread w n on less free may opens come = record {
   valid = valid_begun m w n come.valid free may;
   bounded = record { live = come.bounded.live; flown = λ v g e. below v g (flight_or m w (started m n) v g e) };
   same = come.same;
@@ -80,7 +80,7 @@ come_begun start nodes workers m unread w n on less free may come = record {
     alive k h (inr ne) = come.live k (sym (other_at on n true k ne) ∙ h)
 
     kept : (k : ℕ) → with_at on n true k ≡ true → (k ≡ n) ⊎ (k ≡ n → ⊥) → IsKept (begun m w n) (with_at unread w (λ c. true)) k
-    kept k h (inl e) = new_begun m unread w n k may e
+    kept k h (inl e) = new_begun m unread w n k opens e
     kept k h (inr ne) = kept_begun m unread w n k free (come.kept refl k (sym (other_at on n true k ne) ∙ h))
 
 come_read : (start : Machine) (nodes workers : ℕ) (m : Machine) (unread : Unread) (stopped : Bool) (w : ℕ) (f : Flight) (c : ℕ) (on : ℕ → Bool) → m.flight w ≡ Some f
@@ -123,8 +123,8 @@ come_dropped start nodes workers m unread stopped after w f on has old come = re
 come : (workers : ℕ) (start : Machine) (nodes : ℕ) → IsValid start → IsBounded start nodes workers → (k : Machine) (unread : Unread) (stopped : Bool) → Stretch workers start k unread stopped
     → (on : ℕ → Bool) × HasCome start nodes workers k unread stopped on
 come workers start nodes valid bounded k unread stopped empty = ((λ n. false), come_empty start nodes workers valid bounded)
-come workers start nodes valid bounded k unread stopped (begins m u w n s less free may) =
-    let h = come workers start nodes valid bounded m u false s in (with_at h.0 n true, come_begun start nodes workers m u w n h.0 less free may h.1)
+come workers start nodes valid bounded k unread stopped (begins m u w n s less free may opens) =
+    let h = come workers start nodes valid bounded m u false s in (with_at h.0 n true, come_begun start nodes workers m u w n h.0 less free may opens h.1)
 come workers start nodes valid bounded k unread stopped (reads m u x w f c s has) =
     let h = come workers start nodes valid bounded m u x s in (h.0, come_read start nodes workers m u x w f c h.0 has h.1)
 come workers start nodes valid bounded k unread stopped (commits m u x w f p s flown whole) =

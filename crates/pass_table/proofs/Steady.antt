@@ -1,7 +1,7 @@
 -- Nodes that a stretch has begun: each is fresh below fresh nodes, or its solve is still in flight.
 use Rattle.std.proofs.Common.{◌≡◌, ℕ, ◌⊎◌, inl, inr, Bool, true, false, Some, None, arith, refl, sym, ap, subst, ◌∙◌}
 use Rattle.std.proofs.lemmas.Bool.{cases_eq, false≢true}
-use Rattle.pass_table.specs.Machine.{IsAbove, Last, Flight, Machine, IsChild, IsFresh, IsFlown, MayBegin, with_at, begun, read_by, read, dropped, committed, IsValid}
+use Rattle.pass_table.specs.Machine.{IsAbove, Last, Flight, Machine, IsChild, IsFresh, IsFlown, IsOpen, MayBegin, with_at, begun, read_by, read, dropped, committed, IsValid}
 use Rattle.pass_table.proofs.Above.{above_above}
 use Rattle.pass_table.proofs.Stale.{same_at, other_at, last_by, above_less, fresh_on}
 use Rattle.pass_table.proofs.Events.{some_same, none_some, fresh_begun, fresh_read, fresh_dropped}
@@ -48,15 +48,15 @@ kept_begun m unread w n k free (inr (v, (f, young))) = inr (
     apart : v ≡ w → ⊥
     apart e = none_some f (sym free ∙ ap m.flight (sym e) ∙ young.flown.flight)
 
-pub new_begun : (m : Machine) (unread : Unread) (w n k : ℕ) → MayBegin m n → k ≡ n → IsKept (begun m w n) (with_at unread w (λ c. true)) k
-new_begun m unread w n k may e = inr (
+pub new_begun : (m : Machine) (unread : Unread) (w n k : ℕ) → ((a : ℕ) → IsAbove m.parent a n → IsOpen m a) → k ≡ n → IsKept (begun m w n) (with_at unread w (λ c. true)) k
+new_begun m unread w n k opens e = inr (
   w,
   (
     started m n,
     record {
       flown = record { flight = same_at m.flight w (Some (started m n)) w refl; run = refl; node = sym e };
       seen = λ a up. refl;
-      above = λ a up. fresh_begun m w n a (may.above a (let P : ℕ → Type 0 = λ x. IsAbove m.parent a x in subst P e up)).0;
+      above = λ a up. fresh_begun m w n a (opens a (let P : ℕ → Type 0 = λ x. IsAbove m.parent a x in subst P e up)).0;
       read = λ c h. absurd (false≢true (sym h ∙ ap (λ (u : ℕ → Bool). u c) (same_at unread w (λ d. true) w refl)));
     },
   ),

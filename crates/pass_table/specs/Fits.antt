@@ -44,6 +44,7 @@ pub record Lists : Type 0 where
   pub ungood : List Bool
   pub commits : ℕ
   pub run : ℕ
+  pub from : ℕ
 
 -- the children's pools still have the numbers that the last solve read
 abbrev pub AreRead : Machine → ℕ → Type 0
@@ -64,6 +65,7 @@ pub record Agrees (l : Lists) (m : Machine) : Type 0 where
   pub ungood : Covers m l.ungood (IsTop m (IsGood m))
   pub commits : l.commits ≡ m.commits
   pub run : l.run ≡ m.run
+  pub from : l.from ≡ m.from
 
 abbrev pub lists_of : Table → Lists
 lists_of t = record {
@@ -71,11 +73,12 @@ lists_of t = record {
   solves = t.solves.items;
   flying = t.flying.items;
   flights = t.flights.items;
-  candidates = t.candidates;
+  candidates = t.candidates.flags;
   unopen = t.unopen;
   ungood = t.ungood;
   commits = t.commits;
   run = t.run;
+  from = t.candidates.from;
 }
 
 -- and the two answers are right
@@ -94,6 +97,7 @@ pub record IsStart (parents : List ℕ) (m : Machine) : Type 0 where
   pub places : (n : ℕ) → IsLive m n → n < length parents
   pub root : IsLive m 0
   pub run : m.run ≡ 1
+  pub from : m.from ≡ 0
   pub commits : m.commits ≡ 0
   pub last : (n : ℕ) → m.last n ≡ unsolved
   pub flight : (worker : ℕ) → m.flight worker ≡ None
@@ -107,7 +111,7 @@ pub record HasRead (m : Machine) (f : Flight) (numbers : List ℕ) (readings : L
   pub present : (i : ℕ) → i < length readings
       → slice_index numbers (reading_at readings i).child ≡ m.number (reading_at readings i).child
 
--- what a Begin answers and leaves: the least node that may be begun, or that there is none
+-- what a Begin answers and leaves: the node that is begun next, or that none may be begun
 abbrev pub Begins : Machine → ℕ → Option ℕ → Table → Type 0
 Begins m worker None t = ((n : ℕ) → MayBegin m n → ⊥) × Fits t m
 Begins m worker (Some n) t = IsNext m n × Fits t (begun m worker n)

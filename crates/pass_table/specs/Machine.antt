@@ -1,6 +1,6 @@
 -- The machine, as far as beginning, committing, closed and complete go: the plain statement. Nodes are numbers, and a
 -- parent's number is below its child's. Here all is a function of nodes and workers, and every question looks at all nodes.
-use Rattle.std.specs.Prelude.{◌≡◌, ℕ, ◌+◌, ◌<◌, ◌≤◌, Bool, true, false, cond, eqb, Option, Some, None}
+use Rattle.std.specs.Prelude.{◌≡◌, ℕ, ◌+◌, ◌<◌, ◌≤◌, ◌⊎◌, Bool, true, false, cond, eqb, Option, Some, None}
 
 -- a node above another one: its parent, or a node above its parent. The root is node 0.
 pub data IsAbove (parent : ℕ → ℕ) (a : ℕ) : ℕ → Type 0 where
@@ -37,6 +37,8 @@ pub record Machine : Type 0 where
   pub number : ℕ → ℕ
   -- by worker
   pub flight : ℕ → Option Flight
+  -- nodes are begun in rounds, each by rising numbers; the present round goes on from this number
+  pub from : ℕ
 
 abbrev pub IsLive : Machine → ℕ → Type 0
 IsLive m n = m.live n ≡ true
@@ -87,19 +89,23 @@ pub record MayBegin (m : Machine) (n : ℕ) : Type 0 where
   pub live : IsLive m n
   pub stale : ¬ IsFresh m n
   pub idle : ¬ IsFlying m n
-  pub above : (a : ℕ) → IsAbove m.parent a n → IsOpen m a
+  pub above : (a : ℕ) → IsAbove m.parent a n → IsGood m a
 
--- the least node that may be begun
+-- number k comes before number n in rounds that go on from this number: those from it on come first, and then those below it
+abbrev pub ComesBefore : ℕ → ℕ → ℕ → Type 0
+ComesBefore from k n = ((from ≤ k) × ((k < n) ⊎ (n < from))) ⊎ ((k < n) × (n < from))
+
+-- the node that is begun next: no other one that may be begun comes before it
 pub record IsNext (m : Machine) (n : ℕ) : Type 0 where
   pub may : MayBegin m n
-  pub least : (k : ℕ) → k < n → ¬ MayBegin m k
+  pub first : (k : ℕ) → ComesBefore m.from k n → ¬ MayBegin m k
 
 -- ---- the events
 -- a function with one value changed
 unfoldable pub with_at : {A : Type 0} → (ℕ → A) → ℕ → A → ℕ → A
 with_at f at v n = cond (eqb n at) v (f n)
 
--- a Begin: the commit numbers of all present last solves are noted
+-- a Begin: the commit numbers of all present last solves are noted, and the round goes on behind the node
 abbrev pub begun : Machine → ℕ → ℕ → Machine
 begun m worker node = record m {
   flight = with_at m.flight worker (Some (record {
@@ -108,6 +114,7 @@ begun m worker node = record m {
     above = λ a. (m.last a).commit;
     below = λ c. 0;
   }));
+  from = node + 1;
 }
 
 -- a Read of a child's pool, by a solve in flight
@@ -137,9 +144,9 @@ raised m pool = record m { number = with_at m.number pool (m.number pool + 1) }
 abbrev pub unsolved : Last
 unsolved = record { commit = 0; point = false; above = λ a. 0; below = λ c. 0 }
 
--- a new run: all last solves are forgotten; the pools are those of its bank
+-- a new run: all last solves are forgotten; the pools are those of its bank; a round begins
 abbrev pub opened : Machine → (ℕ → ℕ) → Machine
-opened m number = record m { run = m.run + 1; last = λ n. unsolved; number = number }
+opened m number = record m { run = m.run + 1; last = λ n. unsolved; number = number; from = 0 }
 
 -- ---- what each event keeps
 pub record IsValid (m : Machine) : Type 0 where

@@ -1,6 +1,6 @@
 -- How long events go on while no pool's number rises and no run is opened: work isn't spent without end on the same cuts.
 use Rattle.std.specs.Prelude.{◌≡◌, ℕ, zero, suc, ◌+◌, ◌<◌, ◌≤◌, Bool, true, false, cond, Some, None}
-use Rattle.pass_table.specs.Machine.{Flight, Machine, IsLive, IsChild, IsFlown, MayBegin, IsValid, with_at, begun, read, committed}
+use Rattle.pass_table.specs.Machine.{IsAbove, Flight, Machine, IsLive, IsOpen, IsChild, IsFlown, MayBegin, IsValid, with_at, begun, read, committed}
 use Rattle.pass_table.specs.Machine.{dropped}
 
 -- how many numbers below a bound have the flag
@@ -13,9 +13,10 @@ count_below flags (suc n) = count_below flags n + cond (flags n) 1 0
 pub data Stretch (workers : ℕ) (start : Machine) : Machine → (ℕ → ℕ → Bool) → Bool → Type 0 where
   -- no event yet
   empty : Stretch workers start start (λ worker c. false) false
-  -- a Begin, where there was no stop, by a worker without a solve in flight, of a node that may be begun: it has all to read
+  -- a Begin, where there was no stop, by a worker without a solve in flight, of a node that may be begun and below open ones alone:
+  -- it has all to read
   begins : (m : Machine) (unread : ℕ → ℕ → Bool) (worker n : ℕ) → Stretch workers start m unread false → worker < workers
-      → m.flight worker ≡ None → MayBegin m n
+      → m.flight worker ≡ None → MayBegin m n → ((a : ℕ) → IsAbove m.parent a n → IsOpen m a)
       → Stretch workers start (begun m worker n) (with_at unread worker (λ c. true)) false
   -- a Read
   reads : (m : Machine) (unread : ℕ → ℕ → Bool) (stopped : Bool) (worker : ℕ) (f : Flight) (c : ℕ)

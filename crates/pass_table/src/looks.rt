@@ -2,28 +2,30 @@
 //! way, so that each number that was put in is taken out once at most.
 ghost use Rattle.std.specs.Prelude.{◌≡◌, ℕ, ◌<◌, ◌↔◌, ◌⊎◌, Bool, true, false, IsTrue, length, slice_index_or};
 ghost use Rattle.std.specs.Prelude.{MatchOption};
-ghost use Rattle.pass_table.specs.Marks.{HasNone, IsLeast};
+ghost use Rattle.pass_table.specs.Marks.{HasNone};
+ghost use Rattle.pass_table.specs.Rounds.{IsFirst};
 ghost use Rattle.pass_table.specs.Walks.{IsRising, IsGoodAt, IsFreshAt, IsOpenAt, IsReachedAt, IsReadyAt, KeepsAll};
 
-use crate::Marks;
 use crate::table::Solve;
 use crate::walks::{is_fresh, is_good, is_open, is_reached};
+use crate::{Marks, Rounds};
 
-/// The least node of the set that may be begun.
+/// The node of the set that comes first of those that may be begun.
 pub fn next_ready(
-    candidates: &mut Marks,
+    candidates: &mut Rounds,
     parents: &[u32],
     solves: &[Solve],
     flying: &[bool],
 ) -> Option<u32>
     requires sizes { (length solves.now ≡ length parents.now) × (length flying.now ≡ length parents.now)
-        × (length candidates.old ≡ length parents.now) }
+        × (length candidates.old.flags ≡ length parents.now) }
     requires rising { IsRising parents.now }
-    ensures keeps { KeepsAll (IsReadyAt parents.now solves.now flying.now) candidates.old candidates.new }
-    ensures first { MatchOption result (HasNone candidates.new) (λ n. IsLeast candidates.new n
+    ensures keeps { KeepsAll (IsReadyAt parents.now solves.now flying.now) candidates.old.flags candidates.new.flags }
+    ensures from { candidates.new.from ≡ candidates.old.from }
+    ensures first { MatchOption result (HasNone candidates.new.flags) (λ n. IsFirst candidates.new n
         × IsReadyAt parents.now solves.now flying.now n) }
 {
-    'look: while let Some(node) = candidates.least() {
+    'look: while let Some(node) = candidates.first() {
         if is_ready(parents, solves, flying, node) {
             return Some(node);
         }

@@ -5,9 +5,9 @@ ghost use Rattle.pass_table.specs.Marks.{nothing};
 ghost use Rattle.pass_table.specs.Walks.{IsRising, blank};
 ghost use Rattle.pass_table.specs.Readings.{AreWithin};
 
-use crate::Marks;
 use crate::looks::{are_good, are_open, next_ready};
-use crate::readings::{are_present, insert_family};
+use crate::readings::{are_present, insert_family, insert_in_rounds};
+use crate::{Marks, Rounds};
 use std::alloc::{AllocError, Global};
 
 /// A node's last solve in the present run.
@@ -54,7 +54,7 @@ pub struct Table {
     flying: Vec<bool>,
     flights: Vec<Option<Underway>>,
     /// Has every node that may be begun.
-    candidates: Marks,
+    candidates: Rounds,
     /// Has every uppermost node that isn't fresh with a point.
     unopen: Marks,
     /// Has every uppermost node that wasn't made with its ancestors' present last solves, with a point.
@@ -65,7 +65,7 @@ pub struct Table {
     complete: bool,
     ghost solves_long: { length solves.items ≡ length parents.items },
     ghost flying_long: { length flying.items ≡ length parents.items },
-    ghost candidates_long: { length candidates ≡ length parents.items },
+    ghost candidates_long: { length candidates.flags ≡ length parents.items },
     ghost unopen_long: { length unopen ≡ length parents.items },
     ghost ungood_long: { length ungood ≡ length parents.items },
     ghost rising: { IsRising parents.items },
@@ -86,7 +86,7 @@ impl Table {
         ensures workers { IfOk result (λ t. length t.flights.items ≡ workers) }
     {
         let places = parents.len();
-        let mut candidates = Marks::new(alloc, places as u32)?;
+        let mut candidates = Rounds::new(alloc, places as u32)?;
         candidates.insert(0);
         let mut unopen = Marks::new(alloc, places as u32)?;
         unopen.insert(0);
@@ -172,7 +172,7 @@ impl Table {
         }
     }
 
-    /// Begins the least node that may be begun, and answers it.
+    /// Begins the node that is next, and answers it.
     pub fn begin(&mut self, worker: u32) -> Option<u32>
         requires worker { worker < length self.old.flights.items }
         requires idle { slice_index_or self.old.flights.items worker None ≡ None }
@@ -187,7 +187,7 @@ impl Table {
         ) else {
             return None;
         };
-        self.candidates.remove(node);
+        self.candidates.pass(node);
         self.flying[node as usize] = true;
         self.flights[worker as usize] = Some(Underway {
             node,
@@ -223,7 +223,7 @@ impl Table {
             point,
             low,
         };
-        insert_family(&mut self.candidates, flight.node, readings);
+        insert_in_rounds(&mut self.candidates, flight.node, readings);
         insert_family(&mut self.unopen, flight.node, readings);
         insert_family(&mut self.ungood, flight.node, readings);
         self.answer();
