@@ -22,6 +22,7 @@ pub record AreReads (m : Machine) (f : Flight) (cs : List ℕ) (k : Machine) : T
   pub commits : k.commits ≡ m.commits
   pub last : k.last ≡ m.last
   pub number : k.number ≡ m.number
+  pub from : k.from ≡ m.from
   pub flight : k.flight 0 ≡ Some (read_by_each m.number f cs)
   pub others : (w : ℕ) → (w ≡ 0 → ⊥) → k.flight w ≡ m.flight w
   pub valid : IsValid k
@@ -35,6 +36,7 @@ reads_are m f [] valid has = record {
   commits = refl;
   last = refl;
   number = refl;
+  from = refl;
   flight = has;
   others = λ w ne. refl;
   valid = valid;
@@ -49,6 +51,7 @@ reads_are m f (c ∷ cs) valid has =
       commits = rest.commits;
       last = rest.last;
       number = rest.number;
+      from = rest.from;
       flight = rest.flight;
       others = λ w ne. rest.others w ne ∙ other_at m.flight 0 _ w ne;
       valid = rest.valid;

@@ -1,14 +1,19 @@
--- Turns as a stretch of events: turns that add no cut are at most as many as there are live nodes.
-use Rattle.std.proofs.Common.{◌≡◌, ℕ, zero, suc, ◌+◌, ◌<◌, ◌≤◌, ◌⊎◌, inl, inr, Bool, true, false, Some, None, List, [], ◌∷◌, length, get_or, arith, refl, sym, ap, subst, ◌∙◌}
-use Rattle.std.proofs.lemmas.Bool.{cases_eq}
-use Rattle.pass_table.specs.Machine.{Flight, Machine, IsLive, IsChild, IsFlown, IsValid, with_at, begun, read_by, read, committed}
+-- Turns that add no cut: those of the round that is under way, of one node each, and those behind it, which are a stretch of events.
+use Rattle.std.proofs.Common.{◌≡◌, ℕ, zero, suc, ◌+◌, ◌*◌, ◌<◌, ◌≤◌, ◌⊎◌, inl, inr, Bool, true, false, Option, Some, None, List, [], ◌∷◌, length, get_or, arith, refl, sym, ap, subst, ◌∙◌}
+use Rattle.std.proofs.lemmas.Bool.{cases_eq, cases_lt}
+use Rattle.pass_table.specs.Machine.{IsAbove, Last, Flight, Machine, IsLive, IsChild, IsFresh, IsOpen, IsFlown, MayBegin, IsValid, with_at, begun, read_by, read, committed}
 use Rattle.pass_table.specs.Progress.{count_below, Stretch, empty, begins, reads, commits}
-use Rattle.pass_table.proofs.Stale.{same_at, other_at}
+use Rattle.pass_table.proofs.Stale.{same_at, other_at, above_live, above_less, may_before}
+use Rattle.pass_table.proofs.Above.{above_above}
+use Rattle.pass_table.proofs.Agree.{fresh_told}
+use Rattle.pass_table.proofs.Events.{may_begun}
+use Rattle.pass_table.proofs.ReadLaws.{may_read}
+use Rattle.pass_table.proofs.CountBelow.{count_next, count_rises}
 use Rattle.pass_table.proofs.Progressing.{progress}
 use Rattle.pass_table.proofs.Valid.{valid_committed}
 use Rattle.one_worker.specs.Turn.{IsIdle, AreChildren, first_flight, read_by_each, read_each}
 use Rattle.one_worker.specs.Work.{TakesVainTurn, VainTurns, none, more}
-use Rattle.one_worker.proofs.Turning.{AreReads, node_read, turn_reads, turn_flown, freed, begun_others}
+use Rattle.one_worker.proofs.Turning.{AreReads, node_read, below_read, turn_reads, turn_flown, freed, begun_others}
 
 -- ---- Reads
 -- a stretch goes on by Reads of these pools by the worker's solve, which has none of them left to read
@@ -52,6 +57,119 @@ reads_on start m f (c ∷ cs) unread s has =
     by_place left keeps read_all d (suc i) less e = read_all d i (omega (arith, less)) e
 
 -- ---- turns
+-- all nodes above are open
+abbrev BelowOpen : Machine → ℕ → Type 0
+BelowOpen m n = (a : ℕ) → IsAbove m.parent a n → IsOpen m a
+
+-- no node below this number may be begun
+abbrev IsSwept : Machine → ℕ → Type 0
+IsSwept m n = (k : ℕ) → k < n → MayBegin m k → ⊥
+
+none_flown : (x : Option Flight) (f : Flight) → x ≡ None → x ≡ Some f → ⊥
+none_flown x f e d = cc
+
+-- so the nodes above the one that is begun are open
+below_open : (m : Machine) (n : ℕ) → IsValid m → IsIdle m → MayBegin m n → IsSwept m n → BelowOpen m n
+below_open m n valid idle may swept a up = (fresh_told m a (λ stale. swept a (above_less m valid a n up may.live) (begins_too stale)), (may.above a up).1)
+  where
+    begins_too : (IsFresh m a → ⊥) → MayBegin m a
+    begins_too stale = record {
+      live = above_live m valid a n up may.live;
+      stale = stale;
+      idle = λ (w, (f, flown)). none_flown (m.flight w) f (idle w) flown.flight;
+      above = λ b more. may.above b (above_above m.parent b a n more up);
+    }
+
+-- Reads let nothing be begun
+may_read_each : (m : Machine) (f : Flight) (cs : List ℕ) (k : ℕ) → m.flight 0 ≡ Some f → MayBegin (read_each m f cs) k → MayBegin m k
+may_read_each m f [] k has may = may
+may_read_each m f (c ∷ cs) k has may =
+    may_read m 0 f c k has (may_read_each (read m 0 f c) (read_by f c (m.number c)) cs k (same_at m.flight 0 _ 0 refl) may)
+
+above_read : (number : ℕ → ℕ) (f : Flight) (cs : List ℕ) → (read_by_each number f cs).above ≡ f.above
+above_read number f [] = refl
+above_read number f (c ∷ cs) = above_read number (read_by f c (number c)) cs
+
+-- what stands behind a turn that adds no cut
+record IsBehind (m k : Machine) (n : ℕ) : Type 0 where
+  live : k.live ≡ m.live
+  from : k.from ≡ n + 1
+  node : IsLive m n
+  valid : IsValid k
+  idle : IsIdle k
+  swept : IsSwept m n → IsSwept k (n + 1)
+
+behind : (m k : Machine) → IsValid m → IsIdle m → (turn : TakesVainTurn m k) → IsBehind m k turn.node
+behind m k valid idle turn = subst (λ (x : Machine). IsBehind m x turn.node) (sym turn.is) (record {
+  live = all.live;
+  from = all.from;
+  node = turn.next.may.live;
+  valid = valid_committed reached 0 flight turn.point all.valid flown;
+  idle = freed reached (λ w ne. all.others w ne ∙ begun_others m turn.node w idle ne);
+  swept = λ swept j less may. by_number swept j less may (cases_eq j turn.node);
+})
+  where
+    flight : Flight
+    flight = read_by_each m.number (first_flight m turn.node) turn.children
+
+    reached : Machine
+    reached = read_each (begun m 0 turn.node) (first_flight m turn.node) turn.children
+
+    after : Machine
+    after = committed reached 0 flight turn.point
+
+    all : AreReads (begun m 0 turn.node) (first_flight m turn.node) turn.children reached
+    all = turn_reads m turn.node turn.children valid idle turn.next
+
+    flown : IsFlown reached flight.node 0 flight
+    flown = turn_flown m turn.node turn.children reached all
+
+    same : flight.node ≡ turn.node
+    same = node_read m.number (first_flight m turn.node) turn.children
+
+    solve : Last
+    solve = record { commit = reached.commits + 1; point = turn.point; above = flight.above; below = flight.below }
+
+    here : after.last flight.node ≡ solve
+    here = same_at reached.last flight.node solve flight.node refl
+
+    child_of : (c : ℕ) → IsChild after flight.node c → IsChild m turn.node c
+    child_of c h = record {
+      live = ap (λ (l : ℕ → Bool). l c) (sym all.live) ∙ h.live;
+      lower = h.lower;
+      parent = ap (λ (p : ℕ → ℕ). p c) (sym all.parent) ∙ h.parent ∙ same;
+    }
+
+    -- the node is fresh
+    fresh : IsFresh after flight.node
+    fresh = record {
+      made = record {
+        solved = omega (arith, ap (λ (x : Last). x.commit) here);
+        above = λ a up.
+            ap (λ (x : Last). x.commit) (other_at reached.last flight.node solve a (λ e. omega (arith, e, above_less reached all.valid a flight.node up alive)))
+            ∙ ap (λ (l : ℕ → Last). (l a).commit) all.last ∙ ap (λ (x : ℕ → ℕ). x a) (sym (above_read m.number (first_flight m turn.node) turn.children))
+            ∙ ap (λ (x : Last). x.above a) (sym here);
+      };
+      below = λ c h. let at = (turn.are_children c).0 (child_of c h) in
+          ap (λ (x : ℕ → ℕ). x c) all.number ∙ sym (below_read m.number (first_flight m turn.node) turn.children c at.0 at.1 at.2) ∙ ap (λ (x : Last). x.below c) (sym here);
+    }
+      where
+        alive : IsLive reached flight.node
+        alive = all.valid.flown_live flight.node 0 flight flown
+
+    -- what may be begun behind the turn, and is less, may be begun before
+    before : (j : ℕ) → j < turn.node → MayBegin after j → MayBegin m j
+    before j less may =
+        may_begun m 0 turn.node j (idle 0) (may_read_each (begun m 0 turn.node) (first_flight m turn.node) turn.children j (same_at m.flight 0 _ 0 refl)
+        (may_before reached all.valid 0 flight turn.point flown j (λ e. omega (arith, less, e, same)) (λ child. apart child) may))
+      where
+        apart : IsChild reached flight.node j → ⊥
+        apart child = omega (arith, less, all.valid.lower j child.lower child.live, child.parent, same)
+
+    by_number : IsSwept m turn.node → (j : ℕ) → j < turn.node + 1 → MayBegin after j → (j ≡ turn.node) ⊎ (j ≡ turn.node → ⊥) → ⊥
+    by_number swept j less may (inl e) = may.stale (subst (IsFresh after) (same ∙ sym e) fresh)
+    by_number swept j less may (inr ne) = let low : j < turn.node = omega (arith, less, ne) in swept j low (before j low may)
+
 -- a stretch of so many commits leads to a valid machine without a solve in flight
 record GoesOn (m k : Machine) (turns : ℕ) : Type 0 where
   unread : ℕ → ℕ → Bool
@@ -60,8 +178,8 @@ record GoesOn (m k : Machine) (turns : ℕ) : Type 0 where
   idle : IsIdle k
   count : k.commits ≡ m.commits + turns
 
-one_more : (start m k : Machine) (turns : ℕ) → GoesOn start m turns → TakesVainTurn m k → GoesOn start k (turns + 1)
-one_more start m k turns before turn = subst (λ (x : Machine). GoesOn start x (turns + 1)) (sym turn.is) (record {
+one_more : (start m k : Machine) (turns : ℕ) → GoesOn start m turns → (turn : TakesVainTurn m k) → BelowOpen m turn.node → GoesOn start k (turns + 1)
+one_more start m k turns before turn opens = subst (λ (x : Machine). GoesOn start x (turns + 1)) (sym turn.is) (record {
   unread = on.left;
   stretch = commits at on.left false 0 flight turn.point on.stretch flown (λ c child. whole c child);
   valid = valid_committed at 0 flight turn.point all.valid flown;
@@ -83,7 +201,7 @@ one_more start m k turns before turn = subst (λ (x : Machine). GoesOn start x (
 
     on : ReadsOn start (begun m 0 turn.node) (first_flight m turn.node) turn.children (with_at before.unread 0 (λ c. true))
     on = reads_on start (begun m 0 turn.node) (first_flight m turn.node) turn.children (with_at before.unread 0 (λ c. true))
-        (begins m before.unread 0 turn.node before.stretch (omega arith) (before.idle 0) turn.next.may) (same_at m.flight 0 _ 0 refl)
+        (begins m before.unread 0 turn.node before.stretch (omega arith) (before.idle 0) turn.next.may opens) (same_at m.flight 0 _ 0 refl)
 
     child_of : (c : ℕ) → IsChild at flight.node c → IsChild m turn.node c
     child_of c h = record {
@@ -95,15 +213,88 @@ one_more start m k turns before turn = subst (λ (x : Machine). GoesOn start x (
     whole : (c : ℕ) → IsChild at flight.node c → on.left 0 c ≡ false
     whole c h = let here = (turn.are_children c).0 (child_of c h) in on.read_all c here.0 here.1 here.2
 
-goes_on : (m k : Machine) (turns : ℕ) → IsValid m → IsIdle m → VainTurns m turns k → GoesOn m k turns
-goes_on m k turns valid idle none = record { unread = λ w c. false; stretch = empty; valid = valid; idle = idle; count = omega arith }
-goes_on m k turns valid idle (more before j l all turn) = one_more m j l before (goes_on m j before valid idle all) turn
+-- how turns that add no cut have gone on: within the round that was under way, or a whole one has begun since
+data HasGone (start : Machine) (nodes : ℕ) : ℕ → Machine → Type 0 where
+  in_round : (turns : ℕ) (m : Machine) → turns + count_below start.live start.from ≤ count_below start.live m.from → turns ≤ count_below start.live nodes
+      → HasGone start nodes turns m
+  behind_it : (turns since : ℕ) (j m : Machine) → turns ≤ count_below start.live nodes → j.live ≡ start.live → IsValid j → IsIdle j → IsSwept m m.from → GoesOn j m since
+      → HasGone start nodes (turns + since) m
+
+record Goes (start : Machine) (nodes turns : ℕ) (m : Machine) : Type 0 where
+  valid : IsValid m
+  idle : IsIdle m
+  live : m.live ≡ start.live
+  gone : HasGone start nodes turns m
+
+step : (start : Machine) (nodes : ℕ) → ((n : ℕ) → IsLive start n → n < nodes) → (turns : ℕ) (m k : Machine) → Goes start nodes turns m → TakesVainTurn m k
+    → Goes start nodes (turns + 1) k
+step start nodes within turns m k goes turn = record {
+  valid = to.valid;
+  idle = to.idle;
+  live = to.live ∙ goes.live;
+  gone = by_gone turns goes.gone;
+}
+  where
+    to : IsBehind m k turn.node
+    to = behind m k goes.valid goes.idle turn
+
+    n : ℕ
+    n = turn.node
+
+    -- a node that comes before none of the round is the first of all
+    swept_at : IsSwept m m.from → IsSwept m n
+    swept_at swept j less may = go (cases_lt j m.from)
+      where
+        go : (j < m.from) ⊎ (m.from ≤ j) → ⊥
+        go (inl low) = swept j low may
+        go (inr high) = turn.next.first j (inl (high, inl less)) may
+
+    swept_round : n < m.from → IsSwept m n
+    swept_round early j less may = turn.next.first j (inr (less, early)) may
+
+    on : IsSwept m n → IsSwept k k.from
+    on swept = subst (IsSwept k) (sym to.from) (to.swept swept)
+
+    live_at : start.live n ≡ true
+    live_at = ap (λ (l : ℕ → Bool). l n) (sym goes.live) ∙ to.node
+
+    one : count_below start.live (n + 1) ≡ count_below start.live n + 1
+    one = count_next start.live n live_at
+
+    last : count_below start.live (n + 1) ≤ count_below start.live nodes
+    last = count_rises start.live (n + 1) nodes (let h = within n live_at in omega (arith, h))
+
+    at_from : count_below start.live k.from ≡ count_below start.live (n + 1)
+    at_from = ap (count_below start.live) to.from
+
+    begin_round : (turns : ℕ) → turns ≤ count_below start.live nodes → IsSwept m n → HasGone start nodes (turns + 1) k
+    begin_round turns few swept = behind_it turns 1 m k few goes.live goes.valid goes.idle (on swept)
+        (one_more m m k 0 (record { unread = λ w c. false; stretch = empty; valid = goes.valid; idle = goes.idle; count = omega arith }) turn
+        (below_open m n goes.valid goes.idle turn.next.may swept))
+
+    by_gone : (turns : ℕ) → HasGone start nodes turns m → HasGone start nodes (turns + 1) k
+    by_gone t (in_round turns i few most) = go (cases_lt n m.from)
+      where
+        go : (n < m.from) ⊎ (m.from ≤ n) → HasGone start nodes (turns + 1) k
+        go (inl early) = begin_round turns most (swept_round early)
+        go (inr late) =
+            let rise = count_rises start.live m.from n late in
+            in_round (turns + 1) k (omega (arith, few, rise, one, at_from)) (omega (arith, few, rise, one, last))
+    by_gone t (behind_it first since j i few same valid idle swept goes) = subst (λ (t : ℕ). HasGone start nodes t k) (omega arith)
+        (behind_it first (since + 1) j k few same valid idle (on (swept_at swept)) (one_more j m k since goes turn
+        (below_open m n goes.valid goes.idle turn.next.may (swept_at swept))))
+
+have_gone : (m : Machine) (nodes : ℕ) → IsValid m → IsIdle m → ((n : ℕ) → IsLive m n → n < nodes) → (k : Machine) (turns : ℕ) → VainTurns m turns k → Goes m nodes turns k
+have_gone m nodes valid idle within k turns none =
+    record { valid = valid; idle = idle; live = refl; gone = in_round 0 m (omega arith) (omega arith) }
+have_gone m nodes valid idle within k turns (more before j l all turn) = step m nodes within before j l (have_gone m nodes valid idle within j before all) turn
 
 pub turns_add_cuts : (m k : Machine) (turns nodes : ℕ) → IsValid m → IsIdle m → ((n : ℕ) → IsLive m n → n < nodes) → VainTurns m turns k
-    → turns ≤ count_below m.live nodes
-turns_add_cuts m k turns nodes valid idle live all =
-    let on = goes_on m k turns valid idle all in
-    omega (arith, on.count, progress.from_idle m k nodes 1 on.unread false valid (record { live = live; flown = λ w f e. absurd (none_flown w f e) }) idle on.stretch)
+    → turns ≤ 2 * count_below m.live nodes
+turns_add_cuts m k turns nodes valid idle live all = by_gone turns k (have_gone m nodes valid idle live k turns all).gone
   where
-    none_flown : (w : ℕ) (f : Flight) → m.flight w ≡ Some f → ⊥
-    none_flown w f e = let i = idle w in cc
+    by_gone : (turns : ℕ) (k : Machine) → HasGone m nodes turns k → turns ≤ 2 * count_below m.live nodes
+    by_gone t i (in_round turns k few most) = omega (arith, most)
+    by_gone t i (behind_it first since j k few same valid' idle' swept on) =
+        let bound = progress.from_idle j k nodes 1 on.unread false valid' (record { live = λ n h. live n (ap (λ (l : ℕ → Bool). l n) (sym same) ∙ h); flown = λ w f e. absurd (none_flown (j.flight w) f (idle' w) e) }) idle' on.stretch in
+        omega (arith, few, bound, on.count, ap (λ (l : ℕ → Bool). count_below l nodes) same)

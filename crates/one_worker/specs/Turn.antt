@@ -1,4 +1,4 @@
--- A turn of the one worker: it begins the least node that may be begun, reads the pools of the node's children, and commits.
+-- A turn of the one worker: it begins the node that is next, reads the pools of the node's children, and commits.
 use Rattle.std.specs.Prelude.{◌≡◌, ◌↔◌, ℕ, ◌<◌, Bool, true, false, None, List, [], ◌∷◌}
 use Rattle.std.specs.List.{Contains}
 use Rattle.pass_table.specs.Machine.{Flight, Machine, IsChild, IsNext, IsValid, begun, read_by, read, dropped, committed, raised}

@@ -1,5 +1,5 @@
 -- How many turns of the one worker come behind one another without a new cut.
-use Rattle.std.specs.Prelude.{◌≡◌, ℕ, ◌+◌, ◌<◌, ◌≤◌, Bool, List}
+use Rattle.std.specs.Prelude.{◌≡◌, ℕ, ◌+◌, ◌*◌, ◌<◌, ◌≤◌, Bool, List}
 use Rattle.pass_table.specs.Machine.{Machine, IsLive, IsNext, IsValid, begun, committed}
 use Rattle.pass_table.specs.Progress.{count_below}
 use Rattle.one_worker.specs.Turn.{IsIdle, AreChildren, first_flight, read_by_each, read_each}
@@ -19,7 +19,8 @@ pub data VainTurns (start : Machine) : ℕ → Machine → Type 0 where
   none : VainTurns start 0 start
   more : (turns : ℕ) (m k : Machine) → VainTurns start turns m → TakesVainTurn m k → VainTurns start (turns + 1) k
 
--- they are at most as many as there are live nodes: behind so many the run is closed, or a turn adds a cut or leaves no last solve
+-- they are at most twice as many as there are live nodes, of which each has a turn in the round that is under way and one in the next:
+-- behind so many the run is closed, or a turn adds a cut or leaves no last solve
 abbrev pub TurnsAddCuts : Type 0
 TurnsAddCuts = (m k : Machine) (turns nodes : ℕ) → IsValid m → IsIdle m → ((n : ℕ) → IsLive m n → n < nodes)
-    → VainTurns m turns k → turns ≤ count_below m.live nodes
+    → VainTurns m turns k → turns ≤ 2 * count_below m.live nodes

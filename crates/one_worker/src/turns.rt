@@ -67,7 +67,7 @@ impl Turns {
         self.table.commits() < u64::MAX && self.table.run() < u64::MAX
     }
 
-    /// Begins the least node that may be begun, and answers it. None too where a solve is in flight.
+    /// Begins the node that is next, and answers it. None too where a solve is in flight.
     pub fn begin(&mut self) -> Option<u32>
         ensures { (m : Machine) → IsValid m → Fits self.old m → m.flight 0 ≡ None → Begins m 0 result self.new }
     {

@@ -1,5 +1,5 @@
 -- How many numbers below a bound have a flag.
-use Rattle.std.proofs.Common.{◌≡◌, ℕ, zero, suc, ◌+◌, ◌<◌, ◌≤◌, ◌⊎◌, inl, inr, Bool, true, false, cond, arith, refl, ap, ◌∙◌}
+use Rattle.std.proofs.Common.{◌≡◌, ℕ, zero, suc, ◌+◌, ◌<◌, ◌≤◌, ◌⊎◌, inl, inr, Bool, true, false, cond, arith, refl, sym, ap, subst, ◌∙◌}
 use Rattle.std.proofs.lemmas.Bool.{cases_eq, false≢true}
 use Rattle.pass_table.specs.Progress.{count_below}
 
@@ -50,3 +50,19 @@ count_more P Q i (suc n) less off on same = go (cases_eq n i) (λ l. count_more 
     go (inr ne) more =
         let e : ◌≡◌ {A = ℕ} (cond (P n) 1 0) (cond (Q n) 1 0) = ap (λ b. cond b 1 0) (same n ne) in
         omega (arith, e, more (omega (arith, ne)))
+
+pub count_next : (P : ℕ → Bool) (n : ℕ) → P n ≡ true → count_below P (n + 1) ≡ count_below P n + 1
+unfolding count_below
+count_next P n e = ap (λ x. count_below P x) (plus_one n) ∙ ap (λ b. count_below P n + cond b 1 0) e
+  where
+    plus_one : (n : ℕ) → n + 1 ≡ suc n
+    plus_one n = omega arith
+
+pub count_rises : (P : ℕ → Bool) (a b : ℕ) → a ≤ b → count_below P a ≤ count_below P b
+unfolding count_below
+count_rises P a zero h = let e : a ≡ zero = omega arith in let Q : ℕ → Type 0 = λ x. count_below P x ≤ count_below P zero in subst Q (sym e) (omega arith)
+count_rises P a (suc b) h = go (cases_eq a (suc b)) (λ low. count_rises P a b low)
+  where
+    go : (a ≡ suc b) ⊎ (a ≡ suc b → ⊥) → (a ≤ b → count_below P a ≤ count_below P b) → count_below P a ≤ count_below P b + cond (P b) 1 0
+    go (inl e) more = let Q : ℕ → Type 0 = λ x. count_below P x ≤ count_below P (suc b) in subst Q (sym e) (omega arith)
+    go (inr ne) more = omega (arith, more (omega (arith, h, ne)))

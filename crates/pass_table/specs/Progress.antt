@@ -1,7 +1,7 @@
 -- How long events go on while no pool's number rises and no run is opened: work isn't spent without end on the same cuts.
 use Rattle.std.specs.Prelude.{◌≡◌, ℕ, zero, suc, ◌+◌, ◌<◌, ◌≤◌, Bool, true, false, cond, Some, None}
-use Rattle.pass_table.specs.Machine.{IsAbove, Flight, Machine, IsLive, IsOpen, IsChild, IsFlown, MayBegin, IsValid, with_at, begun, read, committed}
-use Rattle.pass_table.specs.Machine.{dropped}
+use Rattle.pass_table.specs.Machine.{IsAbove, Flight, Machine, IsLive, IsOpen, IsChild, IsFlown, MayBegin, IsValid, with_at}
+use Rattle.pass_table.specs.Machine.{begun, read, committed, dropped}
 
 -- how many numbers below a bound have the flag
 unfoldable pub count_below : (ℕ → Bool) → ℕ → ℕ
