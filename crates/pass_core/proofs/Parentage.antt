@@ -196,6 +196,7 @@ first_machine p s = record {
   last = λ n. unsolved;
   number = pool_number s;
   flight = λ w. None;
+  from = 0;
 }
 
 pub unused_tabled : (p : Program) (s : State) → IsProgram p → s.frame ≡ frame_of p → HasPools (length s.frame.parents) s.banks → IsUnused s → IsTabled p s
@@ -229,6 +230,7 @@ unused_tabled p s i f pools unused = (
       commits = refl;
       last = λ n. refl;
       flight = λ w. refl;
+      from = refl;
     }
 
     rooted : (n : ℕ) → 0 < n → IsLive (first_machine p s) n → IsLive (first_machine p s) ((first_machine p s).parent n)

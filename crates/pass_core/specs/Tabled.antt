@@ -135,7 +135,7 @@ pub record EndsSolve (old new : State) (m : Machine) (f : Flight) : Type 0 where
   pub number : (n : ℕ) → machine.number n ≡ pool_number new n
   pub run : KeepsRun old new
 
--- the least node that may be begun was begun in this machine
+-- the node that is next was begun in this machine
 pub record IsBegunBy (p : Program) (s : State) (m : Machine) (n : ℕ) : Type 0 where
   pub valid : IsValid m
   pub idle : IsIdle m

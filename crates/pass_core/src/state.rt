@@ -28,8 +28,8 @@ use std::alloc::Global;
 /// What the nested method knows of a program.
 ///
 /// It works in runs. The first, Feasible, looks for a policy with all costs 0; the second, Recession, tests whether the cost
-/// falls for ever; the third, Cost, looks for the least cost. In each the nodes are solved again and again, from the least
-/// number that isn't up to date: a node takes the values of the columns above it as they are, and the cuts of its
+/// falls for ever; the third, Cost, looks for the least cost. In each the nodes are solved again and again, in rounds by
+/// rising numbers, each that isn't up to date: a node takes the values of the columns above it as they are, and the cuts of its
 /// children in place of what is below; its own solve gives a cut to its pool. A run is closed where all nodes are up to date.
 ///
 /// An edit of the program leaves the cuts that don't rest on what it touches, repairs those that it shifts, and retires the others;
