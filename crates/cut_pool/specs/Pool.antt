@@ -16,7 +16,7 @@ use Rattle.cut_defs.specs.declared.versions.Shift.{Shift}
 use Rattle.cut_defs.specs.Data.{Book}
 use Rattle.cut_defs.specs.Repairs.{IsShift}
 use Rattle.cut_proof.specs.Repairing.{touch_of, shifted_walk}
-use Rattle.cut_proof.specs.Walks.{value_walk}
+use Rattle.cut_sums.specs.Walks.{value_walk}
 use Rattle.cut_pool.specs.declared.offer.Offer.{Offer}
 use Rattle.cut_pool.specs.declared.offer.Offer.TheVariants.{Added, NotNeeded, Stale, Passed}
 use Rattle.cut_pool.specs.Held.{Held}

@@ -1,12 +1,4 @@
 pub mod Tails
-pub mod Halving
-pub mod Rising
-pub mod SumEnds
-pub mod FormEnds
 pub mod MadeFrom
 pub mod RepairLaws
 pub mod NotGood
-pub mod DatumLaws
-pub mod Steps
-pub mod TallyLaws
-pub mod OuterLaws

@@ -10,11 +10,11 @@ use Rattle.scen_model.proofs.WalkEnds.{ended}
 use Rattle.cut_defs.specs.Stored.{Stored}
 use Rattle.cut_defs.specs.Stored.Stored.{Stored_of}
 use Rattle.cut_defs.proofs.Present.{each_mapped}
-use Rattle.cut_proof.specs.declared.sums.Priced.{Priced}
-use Rattle.cut_proof.specs.declared.sums.Worth.{Worth}
-use Rattle.cut_proof.specs.Walks.{all_columns, priced_from, form_from, worth_step, rows_worth, columns_worth, uses_worth, no_worth, constant_walk, cut_if}
+use Rattle.cut_sums.specs.declared.sums.Priced.{Priced}
+use Rattle.cut_sums.specs.declared.sums.Worth.{Worth}
+use Rattle.cut_sums.specs.Walks.{all_columns, priced_from, form_from, worth_step, rows_worth, columns_worth, uses_worth, no_worth, constant_walk, cut_if}
 use Rattle.cut_proof.specs.Laws.{NotGoodLaw}
-use Rattle.cut_proof.proofs.SumEnds.{price_of, priced_ends, constants_ends}
+use Rattle.cut_sums.proofs.SumEnds.{price_of, priced_ends, constants_ends}
 
 step_good : (w : Worth) (low high : Option ℚ) (y : ℚ) (e : Option ℚ) → used_end low high y ≡ e → IsGoodAt low high y → (v : Worth) → worth_step w y e ≡ Ok v → w.is_good ≡ true → v.is_good ≡ true
 step_good w low high y None u g v e t = absurd (subst IsFinite u g.finite)

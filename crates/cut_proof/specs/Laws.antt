@@ -8,7 +8,7 @@ use Rattle.cut_defs.specs.Data.{Datum, Book}
 use Rattle.cut_defs.specs.Stored.{Source, Stored, StoredUses, constant_of, form_of, IsMadeFrom, IsMadeFor}
 use Rattle.cut_defs.specs.Repairs.{IsShift, repair}
 use Rattle.cut_defs.specs.Support.{cut_rests}
-use Rattle.cut_proof.specs.Walks.{made, value_walk}
+use Rattle.cut_sums.specs.Walks.{made, value_walk}
 use Rattle.cut_proof.specs.Repairing.{touch_of, touch_before, repair_walk}
 
 -- the value at a trial is the constant and the form there

@@ -1,11 +1,7 @@
 pub mod View
 pub mod Falls
-pub mod Walks
-pub mod Tallies
 pub mod Answers
 pub mod Faults
-pub mod DatumView
-pub mod Checks
 pub mod Conditions
 pub mod Repairing
 pub mod Laws

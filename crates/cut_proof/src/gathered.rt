@@ -1,65 +1,17 @@
 // The sums of all columns of a cut, in one pass over its rows and used cuts.
-ghost use Rattle.std.specs.Prelude.{◌≡◌, Ok, IfOk, IfSome, OnOk, ◌++◌, ◌∷◌, []};
-ghost use Rattle.rationals.specs.Sparse.{Ascending, coefficient};
-ghost use Rattle.rationals.specs.Passes.{less_product_walk};
-ghost use Rattle.scen_model.specs.Walks.{less_from};
-ghost use Rattle.cut_defs.specs.Data.{BoundsRise};
+ghost use Rattle.std.specs.Prelude.{◌≡◌, Ok, IfOk, IfSome, OnOk, []};
+ghost use Rattle.rationals.specs.Sparse.{Ascending};
 ghost use Rattle.cut_proof.specs.View.{source_content, uses_content};
-ghost use Rattle.cut_proof.specs.Walks.{Above, uses_from, prices_walk, form_from, all_columns};
-ghost use Rattle.cut_proof.specs.Tallies.{AreCosts, AreSums, AreZeros, MovesColumns, RowsAscend, UsesAscend, outside};
+ghost use Rattle.cut_sums.specs.Walks.{Above, uses_from, prices_walk, form_from, all_columns};
+ghost use Rattle.cut_sums.specs.Tallies.{AreSums, AreZeros, MovesColumns, UsesAscend};
 
-use crate::columns::is_own_near;
 use crate::cut::{Record, Used};
-use crate::datum::NodeDatum;
-use crate::sums::Priced;
-use crate::tally::{add_form, near, zeros};
-use crate::unfinished::Unfinished;
-use cut_defs::{ColumnBounds, CutKind};
-use frac128::{Form, Frac, Memory, Term};
-use scen_defs::NodeRow;
+use cut_sums::{
+    NodeDatum, Priced, Unfinished, add_costs, add_form, keep_row_orders, near, outer_terms,
+    push_outside, take_rows, zeros,
+};
+use frac128::{Form, Memory, Term};
 use std::alloc::Global;
-
-/// Puts the costs into a tally of zeros.
-fn add_costs(tally: &mut [Term], datum: &NodeDatum, source: &Record) -> Result<(), Unfinished>
-    requires { AreZeros tally.old }
-    ensures rises { OnOk result (Ascending 0 tally.new) }
-    ensures costs { OnOk result (AreCosts datum.now (source_content source.now) tally.new) }
-{
-    match source.kind {
-        CutKind::Bound => add_form(tally, Frac::one(), datum.cost()),
-        CutKind::Ray => Ok(()),
-    }
-}
-
-/// Takes a row times its multiplier away.
-fn less_row(tally: &mut [Term], row: &NodeRow, multiplier: Frac) -> Result<(), Unfinished>
-    requires { Ascending 0 tally.old }
-    ensures rises { OnOk result (Ascending 0 tally.new) }
-    ensures moved { OnOk result
-        (MovesColumns (λ j s. less_product_walk s (coefficient row.now.entries j) multiplier) tally.old tally.new) }
-{
-    if multiplier.is_zero() {
-        return Ok(());
-    }
-    add_form(tally, multiplier.neg(), &row.entries)
-}
-
-/// Takes all rows away.
-fn less_rows(tally: &mut [Term], rows: &[NodeRow], multipliers: &Form) -> Result<(), Unfinished>
-    requires { Ascending 0 tally.old }
-    ensures rises { OnOk result (Ascending 0 tally.new) }
-    ensures moved { OnOk result (MovesColumns (λ j s. less_from j (coefficient multipliers.now) s rows.now) tally.old tally.new) }
-{
-    multipliers.keeps_order();
-    let terms = multipliers.terms();
-    let mut guess = 0;
-    for row in rows {
-        let found = near(terms, guess, row.row as u64);
-        guess = found.next;
-        less_row(tally, row, found.value)?;
-    }
-    Ok(())
-}
 
 /// Adds the forms of used cuts by their weights.
 fn add_used(tally: &mut [Term], used: &[Used]) -> Result<(), Unfinished>
@@ -78,21 +30,9 @@ fn fill(tally: &mut [Term], datum: &NodeDatum, source: &Record) -> Result<(), Un
     requires { AreZeros tally.old }
     ensures { OnOk result (AreSums datum.now (source_content source.now) (uses_content source.now.used.items) tally.new) }
 {
-    add_costs(tally, datum, source)?;
-    less_rows(tally, datum.rows(), &source.multipliers)?;
+    add_costs(tally, datum, source.kind)?;
+    take_rows(tally, datum.rows(), &source.multipliers)?;
     add_used(tally, &source.used)
-}
-
-/// Adds the columns of a form that aren't the node's own.
-fn push_outside(columns: &mut Vec<u64>, bounds: &[ColumnBounds], form: &Form) -> Result<(), Memory>
-    requires { BoundsRise 0 bounds.now }
-{
-    for term in form.terms() {
-        if !is_own_near(bounds, term.column) {
-            columns.push(term.column)?;
-        }
-    }
-    Ok(())
 }
 
 /// The columns that can have a sum other than 0, each at least once, mostly in rising order.
@@ -166,38 +106,6 @@ pub(crate) fn priced_by(
         })?;
     }
     Ok(all)
-}
-
-/// Adds a term to the form, unless its value is 0 or its column is one of the node's own.
-fn push_outer(all: &mut Vec<Term>, bounds: &[ColumnBounds], term: Term) -> Result<(), Memory>
-    requires { BoundsRise 0 bounds.now }
-    ensures { OnOk result (all.new.items ≡ all.old.items ++ outside bounds.now (term ∷ [])) }
-{
-    if !term.value.is_zero() && !is_own_near(bounds, term.column) {
-        all.push(term)?;
-    }
-    Ok(())
-}
-
-/// The terms that aren't 0 and stand in none of the node's own columns.
-fn outer_terms(alloc: Global, bounds: &[ColumnBounds], tally: &[Term]) -> Result<Vec<Term>, Memory>
-    requires { BoundsRise 0 bounds.now }
-    ensures { IfOk result (λ v. v.items ≡ outside bounds.now tally.now) }
-{
-    let mut all = Vec::new(alloc);
-    for term in tally {
-        push_outer(&mut all, bounds, *term)?;
-    }
-    Ok(all)
-}
-
-/// Tells that the columns of each row rise.
-fn keep_row_orders(rows: &[NodeRow])
-    ensures { RowsAscend rows.now }
-{
-    for row in rows {
-        row.entries.keeps_order();
-    }
 }
 
 /// Tells that the columns of each used cut's form rise.

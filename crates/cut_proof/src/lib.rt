@@ -1,10 +1,8 @@
 //! Cuts with the records that prove them.
 #![tactic(auto)]
 
-mod checks;
 mod columns;
 mod cut;
-mod datum;
 mod fault;
 mod gathered;
 mod laws;
@@ -13,14 +11,11 @@ mod repair;
 mod resting;
 mod stamps;
 mod sums;
-mod tally;
-mod unfinished;
 
 pub use cut::{Cut, Record, SharedCut, Used};
 pub use cut_defs::{Bank, ColumnBounds, CutKind, Part, Share, Shift, Stamp, Touch};
-pub use datum::NodeDatum;
+pub use cut_sums::{NodeDatum, push_nonzero};
 pub use fault::CutFault;
 pub use laws::{nothing_is_made, repairs_are_exact, values_are_exact};
 pub use repair::shifted;
 pub use resting::{rests, stamp_rests};
-pub use sums::push_nonzero;

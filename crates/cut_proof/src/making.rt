@@ -6,14 +6,14 @@ ghost use Rattle.cut_defs.specs.Stored.{constant_of, form_of, IsMadeFrom};
 ghost use Rattle.cut_proof.specs.Answers.{Makes};
 ghost use Rattle.cut_proof.specs.Conditions.{MayBeMade};
 ghost use Rattle.cut_proof.specs.View.{source_content, uses_content};
-ghost use Rattle.cut_proof.specs.Walks.{Above, all_columns, made, value_walk};
+ghost use Rattle.cut_sums.specs.Walks.{Above, all_columns, made, value_walk};
 
 use crate::cut::{Cut, Record};
-use crate::datum::NodeDatum;
 use crate::fault::CutFault;
 use crate::gathered::all_sums;
 use crate::stamps::support_of;
 use crate::sums::{constant, form, price};
+use cut_sums::NodeDatum;
 use frac128::{Form, Frac, Passed, Term};
 use std::alloc::Global;
 

@@ -21,8 +21,8 @@ use Rattle.cut_defs.specs.Stored.{Source, Stored, StoredUses, source_of, uses_of
 use Rattle.cut_defs.specs.Stored.StoredUses.{No_stored, Use_stored}
 use Rattle.cut_proof.specs.Conditions.{UsesChildren, MayBeMade}
 use Rattle.cut_proof.specs.Repairing.{snoc}
-use Rattle.cut_proof.specs.Walks.{made}
-use Rattle.cut_proof.proofs.FormEnds.{coefficient_append, coefficient_put}
+use Rattle.cut_sums.specs.Walks.{made}
+use Rattle.cut_sums.proofs.FormEnds.{coefficient_append, coefficient_put}
 use Rattle.cut_proof.proofs.MadeFrom.{made_parts}
 use Rattle.dual_assemble.specs.Ground.{quotients_from, uses_of_children, ground_source, AreOfChildren, IsGroundFrom}
 

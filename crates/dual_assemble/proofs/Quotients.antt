@@ -16,7 +16,7 @@ use Rattle.cut_defs.specs.Stored.{Stored, StoredUses}
 use Rattle.cut_proof.specs.declared.cut.Used.{Used}
 use Rattle.cut_proof.specs.View.{uses_content}
 use Rattle.cut_proof.proofs.RepairLaws.{content_snoc}
-use Rattle.cut_proof.proofs.Rising.{AllEndBelow, put_below}
+use Rattle.cut_sums.proofs.Rising.{AllEndBelow, put_below}
 use Rattle.dual_assemble.specs.Ground.{quotients_from, uses_of_children}
 
 -- a form ends below each of the rows

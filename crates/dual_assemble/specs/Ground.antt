@@ -14,7 +14,7 @@ use Rattle.cut_defs.specs.Data.{Datum}
 use Rattle.cut_defs.specs.Stored.{Source, Stored, StoredUses, source_of, uses_of, constant_of, form_of, IsMadeFrom}
 use Rattle.cut_defs.specs.Stored.StoredUses.{No_stored}
 use Rattle.cut_proof.specs.Repairing.{snoc}
-use Rattle.cut_proof.specs.Walks.{made}
+use Rattle.cut_sums.specs.Walks.{made}
 
 -- by row, the number over the total; a quotient 0 isn't written
 abbrev pub quotients_from : ℚ → (ℕ → ℚ) → List Entry → List NodeRow → Result (List Entry) Operation

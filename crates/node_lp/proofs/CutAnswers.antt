@@ -19,7 +19,7 @@ use Rattle.cut_defs.specs.declared.datum.ColumnBounds.{ColumnBounds}
 use Rattle.cut_defs.specs.declared.datum.Share.{Share}
 use Rattle.cut_defs.specs.declared.kinds.CutKind.{CutKind}
 use Rattle.cut_proof.specs.Conditions.{UsesChildren, MayBeMade}
-use Rattle.cut_proof.specs.Walks.{priced_from, form_from, all_columns, constant_walk, cut_if, made}
+use Rattle.cut_sums.specs.Walks.{priced_from, form_from, all_columns, constant_walk, cut_if, made}
 use Rattle.interval_form.specs.Own.{place_from}
 use Rattle.node_lp.specs.declared.task.ChildCuts.{ChildCuts}
 use Rattle.node_lp.specs.Weighed.{Weighed}

@@ -8,7 +8,7 @@ use Rattle.interval_form.specs.Parts.{entry}
 use Rattle.cut_defs.specs.Data.{Datum}
 use Rattle.cut_defs.specs.Stored.{Source, StoredUses, form_of, form_sum, slope_of, OnRows, WeightsFit}
 use Rattle.cut_defs.specs.Stored.StoredUses.{No_stored, Use_stored}
-use Rattle.cut_proof.specs.Walks.{made}
+use Rattle.cut_sums.specs.Walks.{made}
 use Rattle.cut_proof.proofs.NotGood.{nothing_is_made}
 use Rattle.node_lp.specs.Stored.{IsGoodStored}
 

@@ -3,9 +3,9 @@ use Rattle.scen_defs.specs.declared.program.NodeRow.{NodeRow}
 use Rattle.cut_defs.specs.declared.datum.ColumnBounds.{ColumnBounds}
 use Rattle.cut_proof.specs.declared.cut.Used.{Used}
 use Rattle.cut_proof.specs.View.{source_content, uses_content}
-use Rattle.cut_proof.specs.Walks.{Above, all_columns}
-use Rattle.cut_proof.specs.Tallies.{RowsAscend, UsesAscend, outside}
-use Rattle.cut_proof.proofs.OuterLaws.{outside_form, columns_rise, form_read_as}
+use Rattle.cut_sums.specs.Walks.{Above, all_columns}
+use Rattle.cut_sums.specs.Tallies.{RowsAscend, UsesAscend, outside}
+use Rattle.cut_sums.proofs.OuterLaws.{outside_form, columns_rise, form_read_as}
 use Rattle.cut_proof.proofs.gathered.form_by.Goals as goal
 
 pub from_terms-requires : goal.from_terms-requires

@@ -1,6 +1,6 @@
 use Rattle.std.proofs.Common.{drop}
 use Rattle.cut_proof.specs.View.{uses_content}
-use Rattle.cut_proof.specs.Tallies.{UsesAscend}
+use Rattle.cut_sums.specs.Tallies.{UsesAscend}
 use Rattle.cut_proof.proofs.gathered.keep_use_orders.Given as goal
 
 abbrev pub invariant-loop-one : goal.invariant-loop-one

@@ -1,6 +1,6 @@
 use Rattle.std.proofs.Common.{◌≡◌, drop, []}
 use Rattle.cut_proof.specs.View.{uses_content, source_content}
-use Rattle.cut_proof.specs.Walks.{priced_from}
+use Rattle.cut_sums.specs.Walks.{priced_from}
 use Rattle.cut_proof.proofs.gathered.priced_by.Given as goal
 
 abbrev pub invariant-loop-own : goal.invariant-loop-own

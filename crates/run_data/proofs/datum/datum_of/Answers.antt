@@ -2,7 +2,7 @@ use Rattle.std.proofs.Common.{◌≡◌, ◌∙◌, ap, sym, subst, map}
 use Rattle.rationals.specs.Forms.{IsForm}
 use Rattle.scen_defs.specs.Program.{Node, Program, content, nodes_content, node_content, node_at}
 use Rattle.scen_nodes.specs.Derived.{derived_cost, derived_row}
-use Rattle.cut_proof.specs.DatumView.{datum_with}
+use Rattle.cut_sums.specs.DatumView.{datum_with}
 use Rattle.cut_defs.specs.Data.{datum_of as book_datum}
 use Rattle.run_data.specs.Frames.{Frame}
 use Rattle.run_data.specs.NodeData.{derived_bounds, share_in, node_datum}

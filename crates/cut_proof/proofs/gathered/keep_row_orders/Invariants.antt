@@ -1,6 +1,0 @@
-use Rattle.std.proofs.Common.{drop}
-use Rattle.cut_proof.specs.Tallies.{RowsAscend}
-use Rattle.cut_proof.proofs.gathered.keep_row_orders.Given as goal
-
-abbrev pub invariant-loop-row : goal.invariant-loop-row
-invariant-loop-row l = RowsAscend (drop l.row-index l.rows) → RowsAscend l.rows

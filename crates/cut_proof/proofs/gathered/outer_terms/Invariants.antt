@@ -1,6 +1,0 @@
-use Rattle.std.proofs.Common.{◌≡◌, drop, ◌++◌}
-use Rattle.cut_proof.specs.Tallies.{outside}
-use Rattle.cut_proof.proofs.gathered.outer_terms.Given as goal
-
-abbrev pub invariant-loop-term : goal.invariant-loop-term
-invariant-loop-term l = l.all.items ++ outside l.bounds (drop l.term-index l.tally) ≡ outside l.bounds l.tally

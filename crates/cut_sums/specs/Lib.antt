@@ -1,0 +1,4 @@
+pub mod Walks
+pub mod Tallies
+pub mod DatumView
+pub mod Checks
