@@ -1,54 +1,49 @@
 //! Whether the parts of a task fit together.
-ghost use Rattle.std.specs.Prelude.{◌≡◌, ◌&&◌, ◌<◌, ◌^◌, eqb, true};
-ghost use Rattle.simplex_core.specs.Checks.{form_below};
-ghost use Rattle.lp_defs.specs.Tests.{is_zero};
+ghost use Rattle.std.specs.Prelude.{◌≡◌, ◌↔◌, IsTrue};
+ghost use Rattle.scen_defs.specs.Lists.{Each};
 ghost use Rattle.cut_defs.specs.Data.{BoundsRise};
-ghost use Rattle.cut_defs.specs.Stored.{source_of, form_of};
+ghost use Rattle.cut_defs.specs.Stored.{source_of};
 ghost use Rattle.interval_form.specs.Own.{place_of};
-ghost use Rattle.node_lp.specs.Problem.{IsProblem, child_at, problem_of};
-ghost use Rattle.node_lp.specs.Fits.{forms_fit, is_place, are_others, cuts_fit, is_child, children_fit};
+ghost use Rattle.interval_form.specs.Rows.{HasForm};
+ghost use Rattle.node_lp.specs.Problem.{IsProblem, child_at, problem_of, is_priced};
+ghost use Rattle.node_lp.specs.Fits.{HasCutForm, HaveCutForms, HasForms, is_place, are_others, is_child, cut_fits, cuts_fit, children_fit, parts_fit};
 
+use crate::program::is_taken;
+use crate::solve::is_priced;
 use crate::task::{ChildCuts, Task};
 use cut_defs::{ColumnBounds, Share};
 use cut_proof::{Cut, SharedCut};
-use frac128::{Frac, Term};
+use frac128::{Form, Term};
 use interval_form::place_of;
 use scen_defs::NodeRow;
 
-const LIMIT: u64 = 1 << 63;
-
 const FEW: usize = 1 << 32;
 
-/// Whether the columns rise and no value is 0.
-fn form_fits(terms: &[Term], columns: u64) -> bool
-    requires { columns < 2 ^ 64 }
-    ensures { result ≡ form_below columns 0 terms.now }
-{
-    let mut least = 0;
-    for term in terms {
-        if term.column < least || columns <= term.column || is_zero(term.value) {
-            return false;
-        }
-        least = term.column + 1;
-    }
-    true
-}
-
-fn is_zero(value: Frac) -> bool
-    ensures { result ≡ is_zero value }
-{
-    value.is_zero()
-}
-
-fn forms_fit(rows: &[NodeRow]) -> bool
-    ensures { result ≡ forms_fit rows.now }
+/// Tells that the columns of each row rise.
+fn keep_row_orders(rows: &[NodeRow])
+    ensures { Each HasForm rows.now }
 {
     for row in rows {
-        if !form_fits(row.entries.terms(), LIMIT) {
-            return false;
-        }
+        row.entries.keeps_order();
     }
-    true
+}
+
+/// Tells that the columns of each cut's form rise.
+fn keep_cut_orders(cuts: &[SharedCut])
+    ensures { Each HasCutForm cuts.now }
+{
+    for cut in cuts {
+        cut.cut().form().keeps_order();
+    }
+}
+
+/// Tells so of the cuts about each child.
+fn keep_child_orders(children: &[ChildCuts])
+    ensures { Each HaveCutForms children.now }
+{
+    for child in children {
+        keep_cut_orders(&child.cuts);
+    }
 }
 
 fn is_own(bounds: &[ColumnBounds], column: u64) -> bool
@@ -73,23 +68,6 @@ fn are_others(bounds: &[ColumnBounds], terms: &[Term]) -> bool
     true
 }
 
-fn cut_fits(cut: &Cut, node: u32) -> bool
-    ensures { result ≡ eqb (source_of cut.now).node node && form_below (2 ^ 63) 0 (form_of cut.now) }
-{
-    cut.node() == node && form_fits(cut.form().terms(), LIMIT)
-}
-
-fn cuts_fit(cuts: &[SharedCut], node: u32) -> bool
-    ensures { result ≡ cuts_fit node cuts.now }
-{
-    for cut in cuts {
-        if !cut_fits(cut.cut(), node) {
-            return false;
-        }
-    }
-    true
-}
-
 fn is_child(shares: &[Share], place: usize, child: u32) -> bool
     ensures { result ≡ is_child (child_at shares.now place) child }
 {
@@ -101,34 +79,67 @@ fn is_child(shares: &[Share], place: usize, child: u32) -> bool
     }
 }
 
-fn child_fits(shares: &[Share], place: usize, child: &ChildCuts) -> bool
-    ensures { result ≡ is_child (child_at shares.now place) child.now.child && cuts_fit child.now.child child.now.cuts.items }
+fn cut_fits(priced: bool, shares: &[Share], place: usize, cut: &Cut) -> bool
+    ensures { result ≡ cut_fits priced shares.now place cut.now }
 {
-    is_child(shares, place, child.child) && cuts_fit(&child.cuts, child.child)
+    if is_taken(priced, cut.kind()) {
+        is_child(shares, place, cut.node())
+    } else {
+        true
+    }
 }
 
-fn children_fit(shares: &[Share], children: &[ChildCuts]) -> bool
-    ensures { result ≡ children_fit shares.now 0 children.now }
+fn cuts_fit(priced: bool, shares: &[Share], place: usize, cuts: &[SharedCut]) -> bool
+    ensures { result ≡ cuts_fit priced shares.now place cuts.now }
 {
-    for (place, child) in children.iter().enumerate() {
-        if !child_fits(shares, place, child) {
+    for cut in cuts {
+        if !cut_fits(priced, shares, place, cut.cut()) {
             return false;
         }
     }
     true
 }
 
-/// Whether the parts of a task fit together: the columns of each row and of each cut's form rise; there are less
-/// than 2^32 own columns and children; the trial is of columns that aren't own ones; the children are those of the
-/// shares, and each cut is about its child.
-pub fn fits(task: &Task) -> bool
-    ensures { result ≡ true → IsProblem (problem_of task.now) }
+fn children_fit(priced: bool, shares: &[Share], children: &[ChildCuts]) -> bool
+    ensures { result ≡ children_fit priced shares.now 0 children.now }
 {
-    let bounds = task.datum.bounds();
-    let shares = task.datum.shares();
+    for (place, child) in children.iter().enumerate() {
+        if !cuts_fit(priced, shares, place, &child.cuts) {
+            return false;
+        }
+    }
+    true
+}
+
+fn parts_fit(
+    priced: bool,
+    bounds: &[ColumnBounds],
+    shares: &[Share],
+    children: &[ChildCuts],
+    trial: &Form,
+) -> bool
+    requires { BoundsRise 0 bounds.now }
+    ensures { result ≡ parts_fit priced bounds.now shares.now children.now trial.now }
+{
     bounds.len() < FEW
         && (shares.len() < FEW
-            && (forms_fit(task.datum.rows())
-                && (children_fit(shares, &task.children)
-                    && are_others(bounds, task.trial.terms()))))
+            && (children_fit(priced, shares, children) && are_others(bounds, trial.terms())))
+}
+
+/// Whether the parts of a task fit together: there are less than 2^32 own columns and children; each cut that the
+/// program takes is about the child at its place; the trial is of columns that aren't own ones.
+pub fn fits(task: &Task) -> bool
+    ensures exact { IsTrue result ↔ IsProblem (problem_of task.now) }
+    ensures forms { HasForms task.now }
+{
+    let datum = &task.datum;
+    keep_row_orders(datum.rows());
+    keep_child_orders(&task.children);
+    parts_fit(
+        is_priced(task.kind),
+        datum.bounds(),
+        datum.shares(),
+        &task.children,
+        &task.trial,
+    )
 }
