@@ -6,3 +6,4 @@ pub mod DatumLaws
 pub mod Steps
 pub mod TallyLaws
 pub mod OuterLaws
+pub mod UnreducedLaws
