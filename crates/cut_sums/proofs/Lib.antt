@@ -7,3 +7,4 @@ pub mod Steps
 pub mod TallyLaws
 pub mod OuterLaws
 pub mod UnreducedLaws
+pub mod EndLaws

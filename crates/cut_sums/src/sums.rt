@@ -109,13 +109,13 @@ pub(crate) fn is_at_most(a: Frac, b: Frac) -> bool
 fn used_end(low: Option<Frac>, high: Option<Frac>, multiplier: Frac) -> Option<Frac>
     ensures { result ≡ used_end low high multiplier }
 {
-    let zero = Frac::zero();
-    if !is_at_most(multiplier, zero) {
+    let sign = multiplier.sign();
+    if sign > 0 {
         low
-    } else if !is_at_most(zero, multiplier) {
+    } else if sign < 0 {
         high
     } else {
-        Some(zero)
+        Some(Frac::zero())
     }
 }
 
