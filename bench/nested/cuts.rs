@@ -89,7 +89,7 @@ pub fn place_of(bounds: &[Bounds], column: u64) -> Option<usize> {
 }
 
 fn used_end(low: Option<Frac>, high: Option<Frac>, number: Frac) -> Option<Frac> {
-    match number.cmp(&Frac::ZERO) {
+    match number.num().cmp(&0) {
         Ordering::Greater => low,
         Ordering::Less => high,
         Ordering::Equal => Some(Frac::ZERO),
@@ -154,8 +154,80 @@ fn support_of(source: &Record) -> Vec<Stamp> {
     all
 }
 
+/// A fraction that need not be in lowest terms.
+#[derive(Clone, Copy)]
+struct Unreduced {
+    num: i128,
+    den: u128,
+}
+
+// Two numbers below this in size have a product below 2^126.
+const HALF: u128 = 0x8000_0000_0000_0000;
+
+fn short_product(a: i128, b: i128) -> Option<i128> {
+    (a.unsigned_abs() < HALF && b.unsigned_abs() < HALF).then(|| a * b)
+}
+
+fn size_product(a: u128, b: u128) -> Option<u128> {
+    (a < HALF && b < HALF).then(|| a * b)
+}
+
+fn repeated(number: i128, times: u128) -> Option<i128> {
+    match times {
+        1 => Some(number),
+        _ if times < HALF => short_product(number, times as i128),
+        _ => None,
+    }
+}
+
+fn quotient(a: u128, b: u128) -> u128 {
+    if a < HALF && b < HALF { (a as u64 / b as u64) as u128 } else { a / b }
+}
+
+impl Unreduced {
+    fn of(number: Frac) -> Unreduced {
+        Unreduced { num: number.num(), den: number.den() as u128 }
+    }
+
+    fn reduced(self) -> Frac {
+        Frac::new(self.num, self.den as i128).expect("the lowest terms are no larger")
+    }
+
+    /// The sum with `num` over `den`, where the denominators times these factors are the same.
+    fn over(self, own: u128, num: i128, den: u128, across: u128) -> Option<Unreduced> {
+        let common = size_product(self.den, own)?;
+        if common != size_product(den, across)? {
+            return None;
+        }
+        let sum = repeated(self.num, own)?.checked_add(repeated(num, across)?)?;
+        (sum != i128::MIN).then_some(Unreduced { num: sum, den: common })
+    }
+
+    #[cold]
+    fn widened(self, num: i128, den: u128) -> Option<Unreduced> {
+        let between = Frac::new(self.den as i128, den as i128)?;
+        self.over(between.den() as u128, num, den, between.num().unsigned_abs())
+    }
+
+    fn step(self, factor: Frac, times: Frac) -> Option<Unreduced> {
+        let num = short_product(factor.num(), times.num())?;
+        let den = size_product(factor.den() as u128, times.den() as u128)?;
+        self.over(1, num, den, quotient(self.den, den)).or_else(|| self.widened(num, den))
+    }
+
+    fn add_product(self, factor: Frac, times: Frac) -> Result<Unreduced, Passed> {
+        if factor.is_zero() || times.is_zero() {
+            return Ok(self);
+        }
+        match self.step(factor, times) {
+            Some(sum) => Ok(sum),
+            None => Ok(Unreduced::of(self.reduced().add_product(factor, times)?)),
+        }
+    }
+}
+
 struct Worth {
-    sum: Frac,
+    sum: Unreduced,
     is_good: bool,
 }
 
@@ -163,7 +235,6 @@ impl Worth {
     fn add(&mut self, number: Frac, end: Option<Frac>) -> Result<(), Passed> {
         match end {
             None => self.is_good = false,
-            Some(end) if number.is_zero() || end.is_zero() => (),
             Some(end) => self.sum = self.sum.add_product(number, end)?,
         }
         Ok(())
@@ -320,7 +391,7 @@ impl Cut {
         let sums = all_sums(&source, datum);
         let priced = price(&source, datum, sums.as_deref())?;
         let form = form(&source, datum, sums.as_deref())?;
-        let mut worth = Worth { sum: Frac::ZERO, is_good: true };
+        let mut worth = Worth { sum: Unreduced::of(Frac::ZERO), is_good: true };
         let mut guess = 0;
         for row in &datum.rows {
             let number = near(&source.multipliers, &mut guess, u64::from(row.row));
@@ -336,7 +407,7 @@ impl Cut {
             return Err(CutFault::NotGood);
         }
         let support = support_of(&source);
-        Ok(Cut { source, constant: worth.sum, form, support })
+        Ok(Cut { source, constant: worth.sum.reduced(), form, support })
     }
 
     pub fn at(&self, trial: &[Term]) -> Result<Frac, Passed> {

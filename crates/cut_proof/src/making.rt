@@ -43,7 +43,7 @@ impl Cut {
             return Err(CutFault::NotGood);
         }
         let support = support_of(alloc, &source)?;
-        Ok(Cut::from_parts(source, worth.sum, form, support))
+        Ok(Cut::from_parts(source, worth.sum.reduced(), form, support))
     }
 
     /// The cut that a record proves over the data of its node: its sums, in this order.

@@ -11,7 +11,7 @@ use crate::columns::all_columns;
 use crate::cut::{Record, Used};
 use crate::gathered::{form_by, priced_by};
 use cut_sums::{
-    NodeDatum, Priced, Worth, add_columns, add_rows, add_worth, cost_of, is_own, less_rows,
+    NodeDatum, Priced, Unreduced, Worth, add_columns, add_rows, add_worth, cost_of, is_own, less_rows,
     push_nonzero,
 };
 use frac128::{Form, FormFault, Frac, Passed, Term};
@@ -148,7 +148,7 @@ fn add_constants(used: &[Used], start: Worth) -> Result<Worth, Passed>
     let mut worth = start;
     for one in used {
         let constant = one.cut.cut().constant();
-        worth = add_worth(&worth, one.weight, Some(constant))?;
+        worth = add_worth(worth, one.weight, Some(constant))?;
     }
     Ok(worth)
 }
@@ -163,7 +163,7 @@ pub(crate) fn constant(
         (λ a. then_walk (columns_worth a priced.now) (λ b. uses_worth b (uses_content source.now.used.items))) }
 {
     let start = Worth {
-        sum: Frac::zero(),
+        sum: Unreduced::zero(),
         is_good: true,
     };
     let of_rows = add_rows(rows, &source.multipliers, start)?;

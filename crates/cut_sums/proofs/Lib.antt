@@ -6,3 +6,5 @@ pub mod DatumLaws
 pub mod Steps
 pub mod TallyLaws
 pub mod OuterLaws
+pub mod UnreducedLaws
+pub mod EndLaws

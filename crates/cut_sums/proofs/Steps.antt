@@ -1,10 +1,9 @@
 -- A step that takes nothing away.
-use Rattle.std.proofs.Common.{◌≡◌, ◌⊎◌, inl, inr, Bool, true, false, Ok, refl, sym, ap, subst, ◌∙◌}
-use Rattle.rationals.specs.Rational.{ℚ, zero_ℚ, one_ℚ, ◌*ℚ◌, ◌/ℚ◌, zero_mul_ℚ, mul_zero_ℚ}
-use Rattle.rationals.specs.Passes.{answer, too_wide, div_walk, add_product_walk, less_product_walk}
+use Rattle.std.proofs.Common.{◌≡◌, Bool, true, false, Ok, refl, sym, ap, subst, ◌∙◌}
+use Rattle.rationals.specs.Rational.{ℚ, zero_ℚ, one_ℚ, ◌*ℚ◌, ◌/ℚ◌, zero_mul_ℚ}
+use Rattle.rationals.specs.Passes.{answer, too_wide, div_walk, less_product_walk}
 use Rattle.scen_model.specs.Gathered.{Fits}
 use Rattle.scen_model.proofs.Reduces.{nothing}
-use Rattle.cut_sums.proofs.TallyLaws.{adds_nothing}
 
 answered : {X P : Type 0} (b : Bool) (p : P) (x y : X) → answer b p x ≡ Ok y → (b ≡ false) × (x ≡ y)
 answered true p x y e = absurd (cc)
@@ -20,10 +19,3 @@ own_fits s t same e =
 pub unchanged : (s a b t : ℚ) → t ≡ s → div_walk s one_ℚ ≡ Ok t → a ≡ zero_ℚ → Ok t ≡ less_product_walk s a b
 unchanged s a b t same e zero =
     ap (λ q. Ok q) same ∙ sym (nothing s a b (own_fits s t same e) (ap (λ q. q *ℚ b) zero ∙ zero_mul_ℚ b))
-
--- where a factor is 0, nothing is added
-pub unadded : (s a b t : ℚ) → t ≡ s → div_walk s one_ℚ ≡ Ok t → (a ≡ zero_ℚ) ⊎ (b ≡ zero_ℚ) → Ok t ≡ add_product_walk s a b
-unadded s a b t same e (inl zero) =
-    ap (λ q. Ok q) same ∙ sym (adds_nothing s a b (own_fits s t same e) (ap (λ q. q *ℚ b) zero ∙ zero_mul_ℚ b))
-unadded s a b t same e (inr zero) =
-    ap (λ q. Ok q) same ∙ sym (adds_nothing s a b (own_fits s t same e) (ap (λ q. a *ℚ q) zero ∙ mul_zero_ℚ a))

@@ -2,7 +2,7 @@
 ghost use Rattle.std.specs.Prelude.{◌≡◌, ◌++◌, OnOk, []};
 ghost use Rattle.rationals.specs.Sparse.{coefficient};
 ghost use Rattle.rationals.specs.Rational.{at_most};
-ghost use Rattle.rationals.specs.Passes.{add_product_walk, less_product_walk};
+ghost use Rattle.rationals.specs.Passes.{less_product_walk};
 ghost use Rattle.rationals.specs.Forms.{EndsBelow, put};
 ghost use Rattle.scen_defs.specs.Ends.{used_end};
 ghost use Rattle.scen_model.specs.Walks.{less_from};
@@ -11,6 +11,7 @@ ghost use Rattle.cut_sums.specs.Walks.{worth_step, rows_worth, columns_worth};
 
 use crate::datum::NodeDatum;
 use crate::tally::near;
+use crate::unreduced::Unreduced;
 use cut_defs::CutKind;
 use frac128::{Form, Frac, Memory, Passed};
 use scen_defs::NodeRow;
@@ -24,9 +25,9 @@ pub struct Priced {
 }
 
 /// What multipliers are worth, and whether each end that they use is finite.
-#[derive(Clone, Copy, Debug)]
+#[derive(Drop)]
 pub struct Worth {
-    pub sum: Frac,
+    pub sum: Unreduced,
     pub is_good: bool,
 }
 
@@ -78,20 +79,9 @@ pub fn push_nonzero(form: &mut Form, column: u64, value: Frac) -> Result<(), Mem
     Ok(())
 }
 
-/// A number and a multiplier times an end. Where one of these is 0, nothing is added.
-fn add_term(start: Frac, multiplier: Frac, end: Frac) -> Result<Frac, Passed>
-    ensures { result ≡ add_product_walk start multiplier end }
-{
-    if multiplier.is_zero() || end.is_zero() {
-        Ok(start.over_one())
-    } else {
-        start.add_product(multiplier, end)
-    }
-}
-
 /// The worth and a multiplier times the end that it uses; without the term where the end isn't finite.
-pub fn add_worth(worth: &Worth, multiplier: Frac, end: Option<Frac>) -> Result<Worth, Passed>
-    ensures { result ≡ worth_step worth.now multiplier end }
+pub fn add_worth(worth: Worth, multiplier: Frac, end: Option<Frac>) -> Result<Worth, Passed>
+    ensures { result ≡ worth_step worth multiplier end }
 {
     match end {
         None => Ok(Worth {
@@ -99,7 +89,7 @@ pub fn add_worth(worth: &Worth, multiplier: Frac, end: Option<Frac>) -> Result<W
             is_good: false,
         }),
         Some(end) => {
-            let sum = add_term(worth.sum, multiplier, end)?;
+            let sum = worth.sum.add_product(multiplier, end)?;
             Ok(Worth {
                 sum,
                 is_good: worth.is_good,
@@ -119,13 +109,13 @@ pub(crate) fn is_at_most(a: Frac, b: Frac) -> bool
 fn used_end(low: Option<Frac>, high: Option<Frac>, multiplier: Frac) -> Option<Frac>
     ensures { result ≡ used_end low high multiplier }
 {
-    let zero = Frac::zero();
-    if !is_at_most(multiplier, zero) {
+    let sign = multiplier.sign();
+    if sign > 0 {
         low
-    } else if !is_at_most(zero, multiplier) {
+    } else if sign < 0 {
         high
     } else {
-        Some(zero)
+        Some(Frac::zero())
     }
 }
 
@@ -140,7 +130,7 @@ pub fn add_rows(rows: &[NodeRow], multipliers: &Form, start: Worth) -> Result<Wo
         let found = near(terms, guess, row.row as u64);
         guess = found.next;
         let multiplier = found.value;
-        worth = add_worth(&worth, multiplier, used_end(row.low, row.high, multiplier))?;
+        worth = add_worth(worth, multiplier, used_end(row.low, row.high, multiplier))?;
     }
     Ok(worth)
 }
@@ -151,7 +141,7 @@ pub fn add_columns(priced: &[Priced], start: Worth) -> Result<Worth, Passed>
     let mut worth = start;
     for column in priced {
         let value = column.value;
-        worth = add_worth(&worth, value, used_end(column.lower, column.upper, value))?;
+        worth = add_worth(worth, value, used_end(column.lower, column.upper, value))?;
     }
     Ok(worth)
 }
