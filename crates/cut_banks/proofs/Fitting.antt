@@ -1,8 +1,8 @@
 -- Pools for the nodes of a program, node by node.
 use Rattle.std.proofs.Common.{◌≡◌, ℕ, suc, ◌+◌, ◌-◌, ◌<◌, ◌≤◌, Bool, true, false, List, [], ◌∷◌, ◌++◌, length, set, drop}
-use Rattle.std.proofs.Common.{refl, sym, ap, ap₂, ◌∙◌, arith, append_assoc, add-one, Option}
-use Rattle.std.proofs.lemmas.Bool.{lt-ltb, le-ltb}
-use Rattle.std.proofs.lemmas.List.{append-nil, length_push, set_at, length-append, drop_all}
+use Rattle.std.proofs.Common.{ltb, refl, sym, ap, ap₂, ◌∙◌, arith, append_assoc, add-one, Option}
+use Rattle.std.proofs.lemmas.Bool.{lt-ltb, le-ltb, ltb-true}
+use Rattle.std.proofs.lemmas.List.{append-nil, length_push, length-set, set_at, length-append, drop_all}
 use Rattle.scen_defs.specs.Lists.{pick}
 use Rattle.scen_defs.specs.Program.{Node, is_live, place_content, nodes_content}
 use Rattle.scen_defs.specs.declared.program.Node.{Node as NodeOf}
@@ -85,3 +85,12 @@ as_many (place ∷ nodes) = ap (λ (n : ℕ). suc n) (as_many nodes)
 
 pub few_seen : (nodes seen : List (Option NodeOf)) (k : ℕ) → seen ≡ nodes → length (nodes_content nodes) < k → length seen < k
 few_seen nodes seen k e h = let s : length seen ≡ length (nodes_content nodes) = ap length e ∙ sym (as_many nodes) in omega (arith, h, s)
+
+-- there are pools up to the node
+pub fitted_length : (n : ℕ) (live : Bool) (ps : List Held) → n ≤ length ps → n + 1 ≤ length (fit_pool n live ps)
+fitted_length n live ps h = go (ltb n (length ps)) refl live
+  where
+    go : (b : Bool) → ltb n (length ps) ≡ b → (l : Bool) → n + 1 ≤ length (pick b (pick l ps (set ps n (no_cuts n))) (ps ++ no_cuts n ∷ []))
+    go true e true = let s : n < length ps = ltb-true n (length ps) e in omega (arith, s)
+    go true e false = let s : n < length ps = ltb-true n (length ps) e in omega (arith, s, length-set ps n (no_cuts n))
+    go false e l = omega (arith, length_push ps (no_cuts n), h)

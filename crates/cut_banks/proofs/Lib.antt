@@ -1,3 +1,4 @@
+pub mod Nodes
 pub mod Places
 pub mod ReadPools
 pub mod Fresh

@@ -1,6 +1,6 @@
 -- What a change of one pool leaves, by the place that is read and written.
 use Rattle.std.proofs.Common.{◌≡◌, ℕ, zero, suc, ◌<◌, ◌≤◌, Bool, true, false, List, [], ◌∷◌, length, get_or, set, take, drop, ◌++◌, Some, None}
-use Rattle.std.proofs.Common.{slice_get, refl, sym, ap, ap₂, ◌∙◌, arith}
+use Rattle.std.proofs.Common.{slice_get, refl, subst, sym, ap, ap₂, ◌∙◌, arith}
 use Rattle.std.proofs.lemmas.List.{length-map, length-set, set-get_or, get_or_default, append-nil, drop_all, take_all, map-set}
 use Rattle.scen_defs.specs.Lists.{pick, passes_at}
 use Rattle.cut_defs.specs.declared.versions.Due.{Due}
@@ -8,7 +8,8 @@ use Rattle.cut_defs.specs.Stored.{Stored}
 use Rattle.cut_pool.specs.declared.offer.Offer.{Offer}
 use Rattle.cut_pool.specs.Held.{Held}
 use Rattle.cut_pool.specs.Pool.{after_offer, swept}
-use Rattle.cut_banks.specs.Pools.{numbers_of, pool_if, with_pool, may_change, fitting, swept_for}
+use Rattle.cut_banks.specs.Pools.{no_cuts, numbers_of, AreOfNodes, IsBank, pool_if, with_pool, may_change, fitting, swept_for}
+use Rattle.cut_banks.proofs.Nodes.{KeepsNode, of_nodes_changed, of_nodes_set}
 
 -- ---- past the last place
 pub past_pool : (test : Held → Bool) (ps : List Held) (i : ℕ) → length ps ≤ i → None ≡ pool_if test i ps
@@ -108,7 +109,7 @@ written items new n e h =
     ap (λ xs. take n (new ++ xs)) (drop_all (length new) items (omega (arith, h))) ∙ ap (take n) (append-nil new) ∙ take_all n new (omega (arith, e, h))
 
 module _ (test : Held → Bool) (change : Held → Held) (i : ℕ) (ps0 ps qs rs : List Held) (ns0 ns ms : List ℕ) (pn nn : ℕ)
-    (inv : ns0 ≡ numbers_of ps0) (pv : ps ≡ ps0) (pl : length ps ≡ pn) (q : qs ≡ with_pool test change i ps)
+    (keeps : KeepsNode test change) (inv : IsBank ns0 ps0) (pv : ps ≡ ps0) (pl : length ps ≡ pn) (q : qs ≡ with_pool test change i ps)
     (rv : rs ≡ take pn (qs ++ drop (length qs) ps0)) (nv : ns ≡ ns0) (nl : length ns ≡ nn)
     (m : ms ≡ set ns i (get_or (numbers_of rs) i 0)) where
   as_long : length qs ≡ length ps0
@@ -118,17 +119,26 @@ module _ (test : Held → Bool) (change : Held → Held) (i : ℕ) (ps0 ps qs rs
   back = written ps0 qs pn (sym pl ∙ ap length pv) as_long
 
   right : ms ≡ numbers_of qs
-  right = m ∙ ap (λ xs. set ns i (get_or (numbers_of xs) i 0)) (rv ∙ back) ∙ renumbered test change i ps qs ns (nv ∙ inv ∙ ap numbers_of (sym pv)) q
+  right = m ∙ ap (λ xs. set ns i (get_or (numbers_of xs) i 0)) (rv ∙ back) ∙ renumbered test change i ps qs ns (nv ∙ inv.numbers_are ∙ ap numbers_of (sym pv)) q
 
   as_many : length ms ≡ length ns0
   as_many = ap length m ∙ length-set ns i (get_or (numbers_of rs) i 0) ∙ ap length nv
 
-  pub numbered_again : take nn (ms ++ drop (length ms) ns0) ≡ numbers_of (take pn (qs ++ drop (length qs) ps0))
+  numbered_again : take nn (ms ++ drop (length ms) ns0) ≡ numbers_of (take pn (qs ++ drop (length qs) ps0))
   numbered_again = written ns0 ms nn (sym nl ∙ ap length nv) as_many ∙ right ∙ ap numbers_of (sym back)
 
+  at_nodes : AreOfNodes 0 qs
+  at_nodes = subst (AreOfNodes 0) (sym (q ∙ ap (with_pool test change i) pv)) (of_nodes_changed test change 0 i ps0 keeps inv.of_nodes)
+
+  pub banked_again : IsBank (take nn (ms ++ drop (length ms) ns0)) (take pn (qs ++ drop (length qs) ps0))
+  banked_again = record { numbers_are = numbered_again; of_nodes = subst (AreOfNodes 0) (sym back) at_nodes }
+
 -- an empty pool in the place of another
-pub cleared : (ps : List Held) (ns : List ℕ) (i : ℕ) (p : Held) → ns ≡ numbers_of ps → p.number ≡ 0 → set ns i 0 ≡ numbers_of (set ps i p)
-cleared ps ns i p e z = ap₂ (λ ms k. set ms i k) e (sym z) ∙ sym (map-set (λ r. r.number) ps i p)
+pub cleared : (ps : List Held) (ns : List ℕ) (i : ℕ) (p : Held) → IsBank ns ps → p ≡ no_cuts i → IsBank (set ns i 0) (set ps i p)
+cleared ps ns i p h e = record {
+  numbers_are = ap₂ (λ ms k. set ms i k) h.numbers_are (sym (ap (λ (r : Held). r.number) e)) ∙ sym (map-set (λ r. r.number) ps i p);
+  of_nodes = subst (λ r. AreOfNodes 0 (set ps i r)) (sym e) (of_nodes_set 0 i i ps (omega arith) h.of_nodes);
+}
 
 -- ---- what is read at a place
 pub none_read : (ps : List Held) (i : ℕ) → length ps ≤ i → slice_get ps i ≡ None

@@ -1,8 +1,8 @@
 -- The pools of all nodes for one kind of runs: a list, in which the pool of a node stands at the place of its number.
-use Rattle.std.specs.Prelude.{ℕ, zero, suc, Bool, true, false, not, ◌&&◌, eqb, ltb, is_none, List, [], ◌∷◌, ◌++◌}
+use Rattle.std.specs.Prelude.{◌≡◌, ℕ, zero, suc, Bool, true, false, not, ◌&&◌, eqb, ltb, is_none, List, [], ◌∷◌, ◌++◌}
 use Rattle.std.specs.Prelude.{map, length, slice_get, slice_set, Option, Some, None}
 use Rattle.std.specs.Option.{option_map, option_to_list}
-use Rattle.scen_defs.specs.Lists.{pick}
+use Rattle.scen_defs.specs.Lists.{Each, pick}
 use Rattle.scen_defs.specs.Program.{Node, is_live}
 use Rattle.cut_defs.specs.declared.kinds.Bank.{Bank}
 use Rattle.cut_defs.specs.declared.kinds.Bank.TheVariants.{Plain, Cone}
@@ -29,6 +29,21 @@ all_empty n (suc count) = no_cuts n ∷ all_empty (suc n) count
 -- the number of each pool
 abbrev pub numbers_of : List Held → List ℕ
 numbers_of pools = map (λ p. p.number) pools
+
+-- a pool of this node: each of its cuts is about it
+pub record IsOfNode (n : ℕ) (p : Held) : Type 0 where
+  pub node : p.node ≡ n
+  pub cuts : Each (λ c. (source_of c).node ≡ n) p.cuts
+
+-- the pools of the nodes from n on
+abbrev pub AreOfNodes : ℕ → List Held → Type 0
+AreOfNodes n [] = Unit {0}
+AreOfNodes n (p ∷ pools) = IsOfNode n p × AreOfNodes (suc n) pools
+
+-- pools of the nodes from 0 on, with their numbers beside them
+pub record IsBank (numbers : List ℕ) (pools : List Held) : Type 0 where
+  pub numbers_are : numbers ≡ numbers_of pools
+  pub of_nodes : AreOfNodes 0 pools
 
 -- the pools of these nodes, the nodes from n on: an empty one where there was none, and where the node isn't live
 abbrev pub fit_pools : ℕ → List (Option Node) → List Held → List Held

@@ -1,11 +1,11 @@
 //! The pools of all nodes for one kind of runs.
-ghost use Rattle.std.specs.Prelude.{◌≡◌, ◌<◌, ◌^◌, ◌++◌, ◌∷◌, [], map, length, slice_set, IfOk, OnOk, OnErr};
+ghost use Rattle.std.specs.Prelude.{◌≡◌, ◌<◌, ◌≤◌, ◌^◌, ◌++◌, ◌∷◌, [], map, length, slice_set, IfOk, OnOk, OnErr};
 ghost use Rattle.std.specs.Option.{option_map};
 ghost use Rattle.scen_defs.specs.Lists.{passes_at};
 ghost use Rattle.scen_defs.specs.Program.{place_content, nodes_content, is_live};
 ghost use Rattle.cut_defs.specs.Stored.{source_of};
 ghost use Rattle.cut_pool.specs.Pool.{offer_of, after_offer, with_cut};
-ghost use Rattle.cut_banks.specs.Pools.{no_cuts, all_empty, numbers_of, fit_pools, fit_pool, cuts_of, cuts_read, numbers_read};
+ghost use Rattle.cut_banks.specs.Pools.{no_cuts, all_empty, numbers_of, fit_pools, fit_pool, cuts_of, cuts_read, numbers_read, AreOfNodes};
 ghost use Rattle.cut_banks.specs.Pools.{may_change, may_take, may_put, pool_if, with_pool, swept_for};
 
 use crate::pools::{Read, note, offer_at, put_at, read_at, sweep_at};
@@ -24,11 +24,11 @@ pub(crate) struct Bank {
 }
 
 impl Model for Bank {
-    ghost use Rattle.std.specs.Prelude.{◌≡◌, List};
+    ghost use Rattle.std.specs.Prelude.{List};
     ghost use Rattle.std.specs.Coded.{coded_list};
     ghost use Rattle.cut_pool.specs.Held.{Held};
     ghost use Rattle.cut_pool.specs.Codes.{held_coded};
-    ghost use Rattle.cut_banks.specs.Pools.{numbers_of};
+    ghost use Rattle.cut_banks.specs.Pools.{IsBank};
 
     ghost Value = { List Held };
 
@@ -36,7 +36,7 @@ impl Model for Bank {
 
     ghost view = { λ b. b.pools.items };
 
-    ghost invariant = { λ b. b.numbers.items ≡ numbers_of b.pools.items };
+    ghost invariant = { λ b. IsBank b.numbers.items b.pools.items };
 }
 
 /// Whether a node is live.
@@ -64,8 +64,16 @@ impl Bank {
         Ok(bank)
     }
 
-    /// One more pool, without cuts.
+    /// Tells what holds of every bank: the pool at a place is of the node of that number, and so is each of its cuts.
+    pub(crate) fn keeps_nodes(&self)
+        ensures { AreOfNodes 0 self.now }
+    {
+        let _pools = &self.pools;
+    }
+
+    /// One more pool, without cuts, of the next node.
     fn add(&mut self, alloc: Global, node: u32) -> Result<(), Memory>
+        requires { node ≡ length self.old }
         ensures ok { OnOk result (self.new ≡ self.old ++ no_cuts node ∷ []) }
         ensures err { OnErr result (self.new ≡ self.old) }
     {
@@ -98,6 +106,7 @@ impl Bank {
 
     /// There is a pool for a node; where the node isn't live it is empty.
     fn fit_node(&mut self, alloc: Global, node: u32, is_live: bool) -> Result<(), Memory>
+        requires { node ≤ length self.old }
         ensures { OnOk result (self.new ≡ fit_pool node is_live self.old) }
     {
         if node as usize >= self.len() {

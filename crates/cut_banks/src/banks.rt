@@ -5,7 +5,7 @@ ghost use Rattle.scen_defs.specs.Lists.{passes_at};
 ghost use Rattle.scen_defs.specs.Program.{content};
 ghost use Rattle.cut_defs.specs.Stored.{source_of};
 ghost use Rattle.cut_pool.specs.Pool.{offer_of, after_offer, with_cut};
-ghost use Rattle.cut_banks.specs.Pools.{numbers_of, cuts_of, cuts_read, numbers_read, may_take, may_put, pool_if, with_pool};
+ghost use Rattle.cut_banks.specs.Pools.{numbers_of, cuts_of, cuts_read, numbers_read, may_take, may_put, pool_if, with_pool, AreOfNodes};
 
 use crate::bank::Bank;
 use crate::pools::Read;
@@ -54,6 +54,15 @@ impl Banks {
             cut_defs::Bank::Plain => self.plain.sweep(alloc, due),
             cut_defs::Bank::Cone => self.cone.sweep(alloc, due),
         }
+    }
+
+    /// Tells what holds of both banks: the pool at a place is of the node of that number, and so is each of its cuts.
+    pub fn keeps_nodes(&self)
+        ensures plain { AreOfNodes 0 self.now.plain }
+        ensures cone { AreOfNodes 0 self.now.cone }
+    {
+        self.plain.keeps_nodes();
+        self.cone.keeps_nodes();
     }
 
     /// The bank of a run of this kind.

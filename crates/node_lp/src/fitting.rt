@@ -6,7 +6,8 @@ ghost use Rattle.cut_defs.specs.Stored.{source_of};
 ghost use Rattle.interval_form.specs.Own.{place_of};
 ghost use Rattle.interval_form.specs.Rows.{HasForm};
 ghost use Rattle.node_lp.specs.Problem.{IsProblem, child_at, problem_of, is_priced};
-ghost use Rattle.node_lp.specs.Fits.{HasCutForm, HaveCutForms, HasForms, is_place, are_others, is_child, cut_fits, cuts_fit, children_fit, parts_fit};
+ghost use Rattle.node_lp.specs.Fits.{HasCutForm, HaveCutForms, HasForms, is_place, are_others};
+ghost use Rattle.node_lp.specs.Fits.{is_child, cut_fits, cuts_fit, children_fit, parts_fit};
 
 use crate::program::is_taken;
 use crate::solve::is_priced;
