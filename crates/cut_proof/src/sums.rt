@@ -11,8 +11,8 @@ use crate::columns::all_columns;
 use crate::cut::{Record, Used};
 use crate::gathered::{form_by, priced_by};
 use cut_sums::{
-    NodeDatum, Priced, Unreduced, Worth, add_columns, add_rows, add_worth, cost_of, is_own, less_rows,
-    push_nonzero,
+    NodeDatum, Priced, Unreduced, Worth, add_columns, add_rows, add_worth, cost_of, is_own,
+    less_rows, push_nonzero,
 };
 use frac128::{Form, FormFault, Frac, Passed, Term};
 use scen_defs::NodeRow;

@@ -1,6 +1,9 @@
 pub mod Explaining
+pub mod Standing
+pub mod TaskFits
 pub mod Closing
 pub mod Pooling
 pub mod Parentage
 pub mod Tabling
 pub mod CutNodes
+pub mod Solving

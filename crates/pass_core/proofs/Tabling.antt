@@ -7,7 +7,7 @@ use Rattle.std.proofs.lemmas.List.{length-map}
 use Rattle.rationals.specs.Sparse.{Entry}
 use Rattle.scen_defs.specs.Lists.{Each}
 use Rattle.scen_defs.specs.Program.{Program, is_live}
-use Rattle.scen_defs.specs.Valid.{IsProgram}
+use Rattle.scen_defs.specs.Valid.{IsProgram, Lives}
 use Rattle.scen_defs.specs.declared.report.Kind.{Kind}
 use Rattle.scen_defs.specs.declared.report.Kind.TheVariants as run_kind
 use Rattle.cut_defs.specs.Stored.{Stored, source_of}
@@ -21,6 +21,8 @@ use Rattle.cut_banks.specs.Pools.{numbers_of, numbers_read, may_take, may_put, p
 use Rattle.cut_banks.proofs.Places.{change_length}
 use Rattle.edit_defs.proofs.Lists.{passes-within}
 use Rattle.run_data.specs.Frames.{Frame, parent_of, frame_of, children_in}
+use Rattle.node_lp.specs.declared.solved.Solved.{Solved}
+use Rattle.node_lp.specs.declared.solved.Solved.TheVariants as solved
 use Rattle.pass_table.specs.declared.table.Reading.{Reading}
 use Rattle.pass_table.specs.declared.table.Table.{Table}
 use Rattle.pass_table.specs.Machine.{Flight, Machine, IsLive, IsChild, IsClosed, IsFlown, IsNext, MayBegin, IsValid, with_at, begun, dropped, committed, raised, opened}
@@ -36,6 +38,7 @@ use Rattle.run_ends.specs.declared.last.Lasts.{Lasts}
 use Rattle.pass_core.specs.declared.state.Counts.{Counts}
 use Rattle.pass_core.specs.declared.state.State.{State}
 use Rattle.pass_core.specs.Counting.{is_added, after_answer, after_report}
+use Rattle.pass_core.specs.Turns.{EndsAnyhow, EndsBy}
 use Rattle.pass_core.specs.Tabled.{pool_number, HasPools, IsTabledBy, KeepsRun, KeepsTable, KeepsPools, RaisesPool, Drops, IsSolving, committed_with, EndsSolve, IsBegunBy, EndsBegun, Opens, HasRoom, StepsTo, GoesBySteps}
 use Rattle.pass_core.specs.Tabled.TakesStep.{rests, waits, opens, turns}
 use Rattle.pass_core.specs.Tabled.TakesSteps.{stays, goes}
@@ -181,12 +184,13 @@ pub drop_by : (old mid new : Table) → mid ≡ old → ((m : Machine) (f : Flig
 drop_by old mid new e h m f valid fits flown room = h m f valid (subst (λ (t : Table). Fits t m) (sym e) fits) flown.flight (valid.flown_live f.node 0 f flown) room
 
 -- no last solve is left
-pub drop_ends : (old new : State) (m : Machine) (f : Flight) (rs : List Reading) → IsSolving old m f rs → ((k : ℕ) → m.number k ≡ pool_number old k)
-    → Drops old.table new.table → KeepsRun old new → ((k : ℕ) → pool_number new k ≡ pool_number old k) → EndsSolve old new m f
-drop_ends old new m f rs s number drop run same = record {
+pub drop_ends : (Way : Machine → Flight → Bool → Machine → Type 0) (old new : State) (m : Machine) (f : Flight) (rs : List Reading) → IsSolving old m f rs → ((k : ℕ) → m.number k ≡ pool_number old k)
+    → Drops old.table new.table → KeepsRun old new → ((k : ℕ) → pool_number new k ≡ pool_number old k) → Way m f false (dropped m 0) → EndsSolve Way old new m f
+drop_ends Way old new m f rs s number drop run same way = record {
   machine = dropped m 0;
   added = false;
   ends = drops;
+  way = way;
   fits = drop m f s.valid s.fits s.flown s.room;
   number = λ k. number k ∙ sym (same k);
   run = run;
@@ -251,13 +255,14 @@ still_solving told n old new m f rs s number node raise = record {
         ∙ sym (length-map (pools_of old.kind old.banks) (λ (p : Held). p.number))
 
 -- its node has a last solve from now on, and the number of the node's pool rose, where that is told
-pub commit_ends : (told point : Bool) (n : ℕ) (old mid new : State) (m : Machine) (f : Flight) → ((k : ℕ) → m.number k ≡ pool_number old k) → f.node ≡ n
+pub commit_ends : (Way : Machine → Flight → Bool → Machine → Type 0) (told point : Bool) (n : ℕ) (old mid new : State) (m : Machine) (f : Flight) → ((k : ℕ) → m.number k ≡ pool_number old k) → f.node ≡ n
     → RaisesPool told n old mid → (told ≡ true → 0 < n) → Fits new.table (committed_with m f point told)
-    → KeepsRun mid new → ((k : ℕ) → pool_number new k ≡ pool_number mid k) → EndsSolve old new m f
-commit_ends true point n old mid new m f number node raise low fits run same = record {
+    → KeepsRun mid new → ((k : ℕ) → pool_number new k ≡ pool_number mid k) → Way m f told (committed_with m f point told) → EndsSolve Way old new m f
+commit_ends Way true point n old mid new m f number node raise low fits run same way = record {
   machine = raised (committed m 0 f point) f.node;
   added = true;
   ends = adds point (omega (arith, low refl, node));
+  way = way;
   fits = fits;
   number = λ k. go k (cases_eq k f.node);
   run = run_then old mid new raise.kept.run run;
@@ -269,29 +274,31 @@ commit_ends true point n old mid new m f number node raise low fits run same = r
         ∙ sym (same n) ∙ ap (pool_number new) (sym (e ∙ node))
     go k (inr ne) =
         other_at m.number f.node (m.number f.node + 1) k ne ∙ number k ∙ sym (raise.others k (λ t e. ne (e ∙ sym node))) ∙ sym (same k)
-commit_ends false point n old mid new m f number node raise low fits run same = record {
+commit_ends Way false point n old mid new m f number node raise low fits run same way = record {
   machine = committed m 0 f point;
   added = false;
   ends = commits point;
+  way = way;
   fits = fits;
   number = λ k. number k ∙ sym (raise.others k (λ t e. let no : false ≡ true = t in absurd (cc))) ∙ sym (same k);
   run = run_then old mid new raise.kept.run run;
 }
 
 -- what follows leaves the table and the pools
-pub ends_then : (old mid new : State) (m : Machine) (f : Flight) → EndsSolve old mid m f → KeepsPools mid new → EndsSolve old new m f
-ends_then old mid new m f e k = record {
+pub ends_then : (Way : Machine → Flight → Bool → Machine → Type 0) (old mid new : State) (m : Machine) (f : Flight) → EndsSolve Way old mid m f → KeepsPools mid new → EndsSolve Way old new m f
+ends_then Way old mid new m f e k = record {
   machine = e.machine;
   added = e.added;
   ends = e.ends;
+  way = e.way;
   fits = subst (λ (t : Table). Fits t e.machine) (sym k.kept.table) e.fits;
   number = λ n. e.number n ∙ sym (k.number n);
   run = run_then old mid new e.run k.kept.run;
 }
 
 -- what came before did too
-pub then_ends : (old mid new : State) (m : Machine) (f : Flight) → KeepsRun old mid → EndsSolve mid new m f → EndsSolve old new m f
-then_ends old mid new m f k e = record { machine = e.machine; added = e.added; ends = e.ends; fits = e.fits; number = e.number; run = run_then old mid new k e.run }
+pub then_ends : (Way : Machine → Flight → Bool → Machine → Type 0) (old mid new : State) (m : Machine) (f : Flight) → KeepsRun old mid → EndsSolve Way mid new m f → EndsSolve Way old new m f
+then_ends Way old mid new m f k e = record { machine = e.machine; added = e.added; ends = e.ends; way = e.way; fits = e.fits; number = e.number; run = run_then old mid new k e.run }
 
 -- how many pools there are
 pools_kept : (old new : State) → KeepsRun old new → HasPools (length old.frame.parents) old.banks → HasPools (length new.frame.parents) new.banks
@@ -338,6 +345,17 @@ module _ (p : Program) (s : State) (m : Machine) (n : ℕ) (i : IsProgram p) (fr
       let long : length s.frame.parents ≡ length p.nodes = ap (λ (g : Frame). length g.parents) frame ∙ length-map p.nodes parent_of in
       omega (arith, pools_long s.kind, place, long)
 
+  pub lives : Lives p n
+  lives = sym (b.machine.live n) ∙ b.next.may.live
+
+  -- each child has a pool
+  pub within_pools : Each (λ (c : ℕ). c < length (pools_of s.kind s.banks)) (children_in s.frame n)
+  within_pools = within (children_in s.frame n) (λ c k. child_within c ((are_children c).1 k))
+    where
+      within : (cs : List ℕ) → ((c : ℕ) → Contains cs c → c < length (pools_of s.kind s.banks)) → Each (λ (c : ℕ). c < length (pools_of s.kind s.banks)) cs
+      within [] h = tt
+      within (c ∷ cs) h = (h c (0, omega arith, refl), within cs (λ d k. h d (suc k.0, omega (arith, k.1), k.2)))
+
   begun_children : AreChildren (begun m 0 n) n (children_in s.frame n)
   begun_children c = (
     λ h. (are_children c).0 (record { live = h.live; lower = h.lower; parent = h.parent }),
@@ -362,45 +380,42 @@ module _ (p : Program) (s : State) (m : Machine) (n : ℕ) (i : IsProgram p) (fr
     room = omega (arith, reads.commits, b.room);
   })
     where
-      within : (cs : List ℕ) → ((c : ℕ) → Contains cs c → c < length (pools_of s.kind s.banks)) → Each (λ c. c < length (pools_of s.kind s.banks)) cs
-      within [] h = tt
-      within (c ∷ cs) h = (h c (0, omega arith, refl), within cs (λ d k. h d (suc k.0, omega (arith, k.1), k.2)))
-
       all : rs ≡ readings_of m.number (children_in s.frame n)
       all = e ∙ all_numbers (pools_of s.kind s.banks) m.number (children_in s.frame n)
-          (within (children_in s.frame n) (λ c k. child_within c ((are_children c).1 k))) (λ c. sym (b.machine.number c))
+          within_pools (λ c. sym (b.machine.number c))
 
       given : HasRead read_machine begun_flight (numbers_of (pools_of s.kind s.banks)) (readings_of m.number (children_in s.frame n))
       given = has_read (begun m 0 n) read_machine (first_flight m n) (children_in s.frame n) (numbers_of (pools_of s.kind s.banks))
           begun_children reads (λ j less. sym (b.machine.number (get_or (children_in s.frame n) j 0)))
 
   -- and where it ends, the worker took its turn
-  pub solve_ends : (new : State) → EndsSolve s new read_machine begun_flight → EndsBegun p m new
-  solve_ends new e = record {
-    machine = e.machine;
-    turn = turn;
-    tabled = record {
-      valid = (turn_keeps m e.machine b.valid b.idle turn).0;
-      fits = e.fits;
-      idle = (turn_keeps m e.machine b.valid b.idle turn).1;
-      machine = record {
-        live = λ k. ap (λ (l : ℕ → Bool). l k) ((ends_keep _ _ _ _ e.ends).0 ∙ reads.live) ∙ b.machine.live k;
-        parent = (ends_keep _ _ _ _ e.ends).1 ∙ reads.parent ∙ b.machine.parent ∙ ap (λ (g : Frame). slice_index g.parents) (sym e.run.frame);
-        number = e.number;
-      };
-      pools = pools_kept s new e.run b.pools;
-      unused = λ z. let no : false ≡ true = sym z ∙ e.run.is_begun ∙ b.is_begun in absurd (cc);
-    };
-  }
-    where
-      turn : TakesTurn m e.machine
-      turn = record {
+  pub solve_ends : (Way : Machine → Flight → Bool → Machine → Type 0) (new : State) → EndsSolve Way s new read_machine begun_flight → EndsBegun Way p m n new
+  solve_ends Way new e =
+      let turn : TakesTurn m e.machine = record {
         node = n;
         next = b.next;
         children = children_in s.frame n;
         are_children = are_children;
         added = e.added;
         ends = e.ends;
+      } in
+      record {
+        machine = e.machine;
+        turn = turn;
+        node = refl;
+        way = e.way;
+        tabled = record {
+          valid = (turn_keeps m e.machine b.valid b.idle turn).0;
+          fits = e.fits;
+          idle = (turn_keeps m e.machine b.valid b.idle turn).1;
+          machine = record {
+            live = λ k. ap (λ (l : ℕ → Bool). l k) ((ends_keep _ _ _ _ e.ends).0 ∙ reads.live) ∙ b.machine.live k;
+            parent = (ends_keep _ _ _ _ e.ends).1 ∙ reads.parent ∙ b.machine.parent ∙ ap (λ (g : Frame). slice_index g.parents) (sym e.run.frame);
+            number = e.number;
+          };
+          pools = pools_kept s new e.run b.pools;
+          unused = λ z. let no : false ≡ true = sym z ∙ e.run.is_begun ∙ b.is_begun in absurd (cc);
+        };
       }
 
 -- ---- a step
@@ -489,8 +504,8 @@ opening p m s closed (not_opened t) = record { machine = m; step = waits closed;
 opening p m s closed (is_opened number t) = record { machine = opened m number; step = opens closed number; tabled = t }
 
 -- a node was solved
-pub turned : (p : Program) (m : Machine) (s : State) → EndsBegun p m s → StepsTo p m true s
-turned p m s e = record { machine = e.machine; step = turns e.machine e.turn; tabled = e.tabled }
+pub turned : (Way : Machine → Flight → Bool → Machine → Type 0) (p : Program) (m : Machine) (n : ℕ) (s : State) → EndsBegun Way p m n s → StepsTo p m true s
+turned Way p m n s e = record { machine = e.machine; step = turns e.machine e.turn; tabled = e.tabled }
 
 -- the next run opened
 pub run_opened : (p : Program) (m : Machine) (old mid new : State) → IsTabledBy p old m → old.is_begun ≡ true → KeepsTable old mid
@@ -541,24 +556,24 @@ put_keeps old kind cut banks b = subst (λ (x : Banks). KeepsTable old (record o
 pub counted_solving : (s : State) (counts : Counts) (m : Machine) (f : Flight) (rs : List Reading) → IsSolving s m f rs → IsSolving (record s { counts = counts }) m f rs
 counted_solving s counts m f rs h = record { valid = h.valid; fits = h.fits; flown = h.flown; read = h.read; within = h.within; room = h.room }
 
-pub counted_ends : (s : State) (counts : Counts) (new : State) (m : Machine) (f : Flight) → EndsSolve (record s { counts = counts }) new m f → EndsSolve s new m f
-counted_ends s counts new m f e =
-    then_ends s (record s { counts = counts }) new m f (record { frame = refl; kind = refl; is_begun = refl; plain = refl; cone = refl }) e
+pub counted_ends : (Way : Machine → Flight → Bool → Machine → Type 0) (s : State) (counts : Counts) (new : State) (m : Machine) (f : Flight) → EndsSolve Way (record s { counts = counts }) new m f → EndsSolve Way s new m f
+counted_ends Way s counts new m f e =
+    then_ends Way s (record s { counts = counts }) new m f (record { frame = refl; kind = refl; is_begun = refl; plain = refl; cone = refl }) e
 
 -- one that leaves no last solve
-pub left_ends : (s new : State) (m : Machine) (f : Flight) (rs : List Reading) (why : Option Open) (table : Table) → IsSolving s m f rs
-    → ((k : ℕ) → m.number k ≡ pool_number s k) → Drops s.table new.table → new ≡ record s { stop = why; table = table } → EndsSolve s new m f
-left_ends s new m f rs why table solving number drop e =
-    let k = stopped_keeps s new why table e in drop_ends s new m f rs solving number drop k.0 k.1
+pub left_ends : (Way : Machine → Flight → Bool → Machine → Type 0) (s new : State) (m : Machine) (f : Flight) (rs : List Reading) (why : Option Open) (table : Table) → IsSolving s m f rs
+    → ((k : ℕ) → m.number k ≡ pool_number s k) → Drops s.table new.table → new ≡ record s { stop = why; table = table } → Way m f false (dropped m 0) → EndsSolve Way s new m f
+left_ends Way s new m f rs why table solving number drop e way =
+    let k = stopped_keeps s new why table e in drop_ends Way s new m f rs solving number drop k.0 k.1 way
 
 -- one whose cut was offered
-pub offered_ends : (told point : Bool) (n : ℕ) (a b c d : State) (m : Machine) (f : Flight) (rs : List Reading) (table : Table) → IsSolving a m f rs
+pub offered_ends : (Way : Machine → Flight → Bool → Machine → Type 0) (told point : Bool) (n : ℕ) (a b c d : State) (m : Machine) (f : Flight) (rs : List Reading) (table : Table) → IsSolving a m f rs
     → ((k : ℕ) → m.number k ≡ pool_number a k) → f.node ≡ n → KeepsPools a b → RaisesPool told n b c → (told ≡ true → 0 < n)
-    → d ≡ record c { table = table } → (IsSolving c m f rs → Fits d.table (committed_with m f point told)) → EndsSolve a d m f
-offered_ends told point n a b c d m f rs table solving number node kept raise low e commit =
+    → d ≡ record c { table = table } → (IsSolving c m f rs → Fits d.table (committed_with m f point told)) → Way m f told (committed_with m f point told) → EndsSolve Way a d m f
+offered_ends Way told point n a b c d m f rs table solving number node kept raise low e commit way =
     let r = then_raise told n a b c kept raise in
     let k = table_keeps c d table e in
-    commit_ends told point n a c d m f number node r low (commit (still_solving told n a c m f rs solving number node r)) k.0 k.1
+    commit_ends Way told point n a c d m f number node r low (commit (still_solving told n a c m f rs solving number node r)) k.0 k.1 way
 
 pub not_true : (b : Bool) → not b ≡ true → b ≡ false
 not_true true e = absurd (let no : false ≡ true = e in cc)
@@ -570,11 +585,29 @@ not_false false e = absurd (let no : true ≡ false = e in cc)
 
 -- where the node has no program
 pub stuck_ends : (p : Program) (s : State) (m : Machine) (n : ℕ) (i : IsProgram p) (frame : s.frame ≡ frame_of p) (b : IsBegunBy p s m n)
-    (new : State) (why : Option Open) (table : Table) → Drops s.table new.table → new ≡ record s { stop = why; table = table } → EndsBegun p m new
+    (new : State) (why : Option Open) (table : Table) → Drops s.table new.table → new ≡ record s { stop = why; table = table } → EndsBegun EndsAnyhow p m n new
 stuck_ends p s m n i frame b new why table drop e =
-    solve_ends p s m n i frame b new
-    (left_ends s new (read_machine p s m n i frame b) (begun_flight p s m n i frame b) (numbers_read (pools_of s.kind s.banks) (children_in s.frame n)) why table
-    (begun_solving p s m n i frame b (numbers_read (pools_of s.kind s.banks) (children_in s.frame n)) refl) (reads_number p s m n i frame b) drop e)
+    solve_ends p s m n i frame b EndsAnyhow new
+    (left_ends EndsAnyhow s new (read_machine p s m n i frame b) (begun_flight p s m n i frame b) (numbers_read (pools_of s.kind s.banks) (children_in s.frame n)) why table
+    (begun_solving p s m n i frame b (numbers_read (pools_of s.kind s.banks) (children_in s.frame n)) refl) (reads_number p s m n i frame b) drop e tt)
+
+-- by what is told of the solve
+pub told_ends : (trial : List Entry) (a b : Solved) (old new : State) (m : Machine) (f : Flight) → a ≡ b → EndsSolve (EndsBy trial b) old new m f
+    → EndsSolve (EndsBy trial a) old new m f
+told_ends trial a b old new m f e h = subst (λ (all : Solved). EndsSolve (EndsBy trial all) old new m f) (sym e) h
+
+-- there is no least cost, or a used end isn't finite
+pub neither_ends : (trial : List Entry) (a : Solved) (s new : State) (m : Machine) (f : Flight) (rs : List Reading) (why : Option Open) (table : Table) → IsSolving s m f rs
+    → ((k : ℕ) → m.number k ≡ pool_number s k) → Drops s.table new.table → new ≡ record s { stop = why; table = table }
+    → (a ≡ solved.Loose) ⊎ (a ≡ solved.NotGood) → EndsSolve (EndsBy trial a) s new m f
+neither_ends trial a s new m f rs why table solving number drop e (inl q) =
+    told_ends trial a solved.Loose s new m f q (left_ends (EndsBy trial solved.Loose) s new m f rs why table solving number drop e (refl, refl))
+neither_ends trial a s new m f rs why table solving number drop e (inr q) =
+    told_ends trial a solved.NotGood s new m f q (left_ends (EndsBy trial solved.NotGood) s new m f rs why table solving number drop e (refl, refl))
+
+-- in whatever way
+pub anyhow : (Way : Machine → Flight → Bool → Machine → Type 0) (p : Program) (m : Machine) (n : ℕ) (s : State) → EndsBegun Way p m n s → EndsBegun EndsAnyhow p m n s
+anyhow Way p m n s e = record { machine = e.machine; turn = e.turn; node = e.node; way = tt; tabled = e.tabled }
 
 -- one more step
 pub goes_further : (p : Program) (m : Machine) (old new : State) (told : Bool) → GoesBySteps p m old

@@ -2,3 +2,4 @@ pub mod Counting
 pub mod Versions
 pub mod Explained
 pub mod Tabled
+pub mod Turns

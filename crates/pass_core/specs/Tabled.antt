@@ -13,7 +13,7 @@ use Rattle.pass_table.specs.Machine.{Flight, Machine, IsClosed, IsFlown, MayBegi
 use Rattle.pass_table.specs.Machine.{opened}
 use Rattle.pass_table.specs.Fits.{Fits, IsStart, HasRead}
 use Rattle.pass_table.specs.Readings.{AreWithin}
-use Rattle.one_worker.specs.Turn.{IsIdle, EndsTurn, TakesTurn}
+use Rattle.one_worker.specs.Turn.{IsIdle, first_flight, read_each, read_by_each, EndsTurn, TakesTurn}
 use Rattle.pass_core.specs.declared.state.State.{State}
 use Rattle.pass_core.specs.Explained.{cut_given}
 
@@ -126,11 +126,12 @@ pub record IsSolving (s : State) (m : Machine) (f : Flight) (readings : List Rea
 abbrev pub committed_with : Machine → Flight → Bool → Bool → Machine
 committed_with m f point told = pick told (raised (committed m 0 f point) f.node) (committed m 0 f point)
 
--- the solve ends, and the table fits the machine behind it
-pub record EndsSolve (old new : State) (m : Machine) (f : Flight) : Type 0 where
+-- the solve ends, and in this way, and the table fits the machine behind it
+pub record EndsSolve (Way : Machine → Flight → Bool → Machine → Type 0) (old new : State) (m : Machine) (f : Flight) : Type 0 where
   pub machine : Machine
   pub added : Bool
   pub ends : EndsTurn m f added machine
+  pub way : Way m f added machine
   pub fits : Fits new.table machine
   pub number : (n : ℕ) → machine.number n ≡ pool_number new n
   pub run : KeepsRun old new
@@ -146,10 +147,13 @@ pub record IsBegunBy (p : Program) (s : State) (m : Machine) (n : ℕ) : Type 0 
   pub is_begun : s.is_begun ≡ true
   pub room : m.commits + 1 < 2 ^ 64
 
--- and the worker took its turn
-pub record EndsBegun (p : Program) (m : Machine) (s : State) : Type 0 where
+-- and the worker took its turn, in which the node's solve ended in this way
+pub record EndsBegun (Way : Machine → Flight → Bool → Machine → Type 0) (p : Program) (m : Machine) (n : ℕ) (s : State) : Type 0 where
   pub machine : Machine
   pub turn : TakesTurn m machine
+  pub node : turn.node ≡ n
+  pub way : Way (read_each (begun m 0 turn.node) (first_flight m turn.node) turn.children)
+      (read_by_each m.number (first_flight m turn.node) turn.children) turn.added machine
   pub tabled : IsTabledBy p s machine
 
 -- ---- the opening of a run

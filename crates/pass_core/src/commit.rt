@@ -2,7 +2,7 @@
 ghost use Rattle.std.specs.Prelude.{◌≡◌, ◌<◌, ℕ, true, false, Ok, Err, IfOk, IfSome, OnOk, OnErr};
 ghost use Rattle.rationals.specs.Passes.{Operation};
 ghost use Rattle.scen_defs.specs.Lists.{pick};
-ghost use Rattle.scen_defs.specs.Program.{content, Program as ProgramOf};
+ghost use Rattle.scen_defs.specs.Program.{content, node_at, Program as ProgramOf};
 ghost use Rattle.scen_tree.specs.Trees.{Tree as TreeOf};
 ghost use Rattle.cut_defs.specs.Stored.{source_of};
 ghost use Rattle.node_lp.specs.Told.{node_solved};
@@ -11,8 +11,9 @@ ghost use Rattle.pass_table.specs.Fits.{Fits};
 ghost use Rattle.run_ends.specs.Lasts.{kept, joined_points};
 ghost use Rattle.run_ends.specs.Ends.{with_lower, cheaper, after_root, after_policy};
 ghost use Rattle.pass_core.specs.Counting.{first_stop, is_added, after_answer};
-ghost use Rattle.pass_core.specs.Explained.{IsTask, GivesCut, FindsPoint, KeepsExplained};
+ghost use Rattle.pass_core.specs.Explained.{IsTask, GivesCut, point_found, FindsPoint, KeepsExplained};
 ghost use Rattle.pass_core.specs.Tabled.{pool_number, IsSolving, EndsSolve, Drops, RaisesPool, KeepsPools, committed_with, IsAbout};
+ghost use Rattle.pass_core.specs.Turns.{AreUpTo, KeepsPoints, EndsBy};
 
 use crate::state::{Begun, State};
 use cut_pool::Offer;
@@ -52,7 +53,9 @@ impl State {
             → node_solved begun.now.task ≡ solved → OnOk result (KeepsExplained (content program.now) tree.now self.old self.new) }
         ensures tabled { (m : Machine) (f : Flight) → IsSolving self.old m f begun.now.readings.items
             → ((k : ℕ) → m.number k ≡ pool_number self.old k) → f.node ≡ node → IsAbout node solved
-            → OnOk result (EndsSolve self.old self.new m f) }
+            → OnOk result (EndsSolve (EndsBy begun.now.task.trial solved) self.old self.new m f) }
+        ensures points { (p : ProgramOf) → AreUpTo p (node_at p.nodes node).stage begun.now.task.trial
+            → IfSome (point_found solved) (AreUpTo p (node_at p.nodes node).stage) → OnOk result (KeepsPoints p self.old self.new) }
     {
         self.counts.raise();
         match solved {
@@ -112,7 +115,9 @@ impl State {
             → OnOk result (KeepsExplained p tree self.old self.new) }
         ensures tabled { (m : Machine) (f : Flight) → IsSolving self.old m f begun.now.readings.items
             → ((k : ℕ) → m.number k ≡ pool_number self.old k) → f.node ≡ node → IfSome cut (λ c. (source_of c).node ≡ node)
-            → OnOk result (EndsSolve self.old self.new m f) }
+            → OnOk result (EndsSolve (EndsBy begun.now.task.trial (Solved.Point point value cut)) self.old self.new m f) }
+        ensures points { (p : ProgramOf) → AreUpTo p (node_at p.nodes node).stage begun.now.task.trial
+            → AreUpTo p (node_at p.nodes node).stage point → OnOk result (KeepsPoints p self.old self.new) }
     {
         if !self.keep(node, &begun.task.trial, point)? {
             return Ok(());
@@ -134,6 +139,7 @@ impl State {
             → IfSome cut (GivesCut p self.old.frame tree self.old.budget.pivots trial.now)
             → OnOk result (KeepsExplained p tree self.old self.new) }
         ensures raises { IfSome cut (λ c. (source_of c).node ≡ node) → IfOk result (λ told. RaisesPool told node self.old self.new) }
+        ensures lasts { OnOk result (self.new.lasts ≡ self.old.lasts) }
         ensures low { IfOk result (λ told. told ≡ true → 0 < node) }
     {
         match cut {
@@ -153,7 +159,8 @@ impl State {
             → OnOk result (KeepsExplained p tree self.old self.new) }
         ensures tabled { (m : Machine) (f : Flight) → IsSolving self.old m f begun.now.readings.items
             → ((k : ℕ) → m.number k ≡ pool_number self.old k) → f.node ≡ node → (source_of cut).node ≡ node
-            → OnOk result (EndsSolve self.old self.new m f) }
+            → OnOk result (EndsSolve (EndsBy begun.now.task.trial (Solved.NoPoint cut)) self.old self.new m f) }
+        ensures points { (p : ProgramOf) → OnOk result (KeepsPoints p self.old self.new) }
     {
         self.lasts.forget(node);
         let is_raised = self.take_ray(node, &begun.task.trial, cut)?;
@@ -167,6 +174,7 @@ impl State {
             → GivesCut p self.old.frame tree self.old.budget.pivots trial.now cut
             → OnOk result (KeepsExplained p tree self.old self.new) }
         ensures raises { (source_of cut).node ≡ node → IfOk result (λ told. RaisesPool told node self.old self.new) }
+        ensures lasts { OnOk result (self.new.lasts ≡ self.old.lasts) }
         ensures low { IfOk result (λ told. told ≡ true → 0 < node) }
     {
         if node > 0 {
@@ -233,6 +241,7 @@ impl State {
             → GivesCut p self.old.frame tree self.old.budget.pivots trial.now cut
             → OnOk result (KeepsExplained p tree self.old self.new) }
         ensures raises { IfOk result (λ told. RaisesPool told (source_of cut).node self.old self.new) }
+        ensures lasts { OnOk result (self.new.lasts ≡ self.old.lasts) }
     {
         match self.banks.offer(self.kind, cut, trial)? {
             Some(offer) => Ok(self.judged(offer)),
@@ -279,6 +288,7 @@ impl State {
     fn complete(&mut self, alloc: Global, program: &Program, tree: &Tree) -> Result<(), Memory>
         ensures explained { OnOk result (KeepsExplained (content program.now) tree.now self.old self.new) }
         ensures pools { OnOk result (KeepsPools self.old self.new) }
+        ensures lasts { OnOk result (self.new.lasts ≡ self.old.lasts) }
     {
         if !self.table.is_complete() {
             return Ok(());

@@ -7,6 +7,7 @@ ghost use Rattle.run_data.specs.Frames.{Frame as FrameOf};
 ghost use Rattle.pass_table.specs.Machine.{Machine};
 ghost use Rattle.pass_core.specs.Explained.{AreExplained, FailsToOpen, IsCutOfSolve, KeepsExplained};
 ghost use Rattle.pass_core.specs.Tabled.{IsTabledBy, KeepsTable, KeepsPools, Opens};
+ghost use Rattle.pass_core.specs.Turns.{KeepsPoints};
 
 use crate::state::State;
 use cut_proof::{CutFault, SharedCut};
@@ -79,6 +80,7 @@ impl State {
         ensures explained { OnOk result (KeepsExplained (content program.now) tree.now self.old self.new) }
         ensures tabled { (p : ProgramOf) (m : Machine) → IsTabledBy p self.old m → self.old.is_begun ≡ true → m.run + 1 < 2 ^ 64
             → OnOk result (Opens p m self.new) }
+        ensures points { (p : ProgramOf) → OnOk result (KeepsPoints p self.old self.new) }
     {
         let kind = next(self.kind);
         match self.first_cuts(alloc, program, tree, kind) {
@@ -92,6 +94,7 @@ impl State {
             → (AreExplained p tree self.old → FailsToOpen p self.old.frame tree self.old.budget.pivots fault)
             → OnOk result (KeepsExplained p tree self.old self.new) }
         ensures pools { OnOk result (KeepsPools self.old self.new) }
+        ensures points { (p : ProgramOf) → OnOk result (KeepsPoints p self.old self.new) }
     {
         match fault {
             CutFault::Passed(passed) => {
@@ -190,6 +193,7 @@ impl State {
         ensures explained { (p : ProgramOf) (tree : TreeOf) → OnOk result (KeepsExplained p tree self.old self.new) }
         ensures tabled { (p : ProgramOf) (m : Machine) → IsTabledBy p self.old m → self.old.is_begun ≡ true → m.run + 1 < 2 ^ 64
             → OnOk result (Opens p m self.new) }
+        ensures points { (p : ProgramOf) → OnOk result (KeepsPoints p self.old self.new) }
     {
         self.put_all(kind, &cuts)?;
         self.kind = kind;

@@ -1,8 +1,8 @@
 //! What is known of a program, and the next step.
-ghost use Rattle.std.specs.Prelude.{◌≡◌, ◌≤◌, [], None, length, true, IfOk, IfSome, OnOk};
+ghost use Rattle.std.specs.Prelude.{◌≡◌, ◌≤◌, [], None, Ok, length, true, IfOk, IfSome, IsSomeAnd, OnOk};
 ghost use Rattle.scen_defs.specs.Program.{content, Program as ProgramOf};
-ghost use Rattle.scen_tree.specs.Trees.{Tree as TreeOf};
-ghost use Rattle.scen_defs.specs.Valid.{IsSmall, IsProgram};
+ghost use Rattle.scen_tree.specs.Trees.{Tree as TreeOf, tree_walk};
+ghost use Rattle.scen_defs.specs.Valid.{IsSmall, IsProgram, Lives};
 ghost use Rattle.run_data.specs.Frames.{frame_of, children_in};
 ghost use Rattle.cut_banks.specs.Banks.{pools_of};
 ghost use Rattle.cut_banks.specs.Pools.{numbers_read};
@@ -11,6 +11,7 @@ ghost use Rattle.pass_core.specs.Counting.{no_commits, with_commit, first_stop, 
 ghost use Rattle.run_ends.specs.Ends.{no_ends};
 ghost use Rattle.pass_core.specs.Explained.{IsDatumOf, KeepsExplained};
 ghost use Rattle.pass_core.specs.Tabled.{IsTabled, IsTabledBy, StepsTo, IsBegunBy, EndsBegun};
+ghost use Rattle.pass_core.specs.Turns.{PointsStand, KeepsPoints, IsTaskOf, EndsAnyhow, SolvesNode, AreReady, MakesStep};
 
 use crate::budget::Budget;
 use cut_banks::Banks;
@@ -137,6 +138,10 @@ impl State {
         // the table goes on fitting a machine of the program, which takes a step
         ensures tabled { let p = content program.now in (m : Machine) → IsProgram p → self.old.frame ≡ frame_of p → IsTabledBy p self.old m
             → IfOk result (λ told. StepsTo p m told self.new) }
+        // where a node was begun, its program was solved
+        ensures solves { let p = content program.now in (m : Machine) → IsProgram p → tree_walk p ≡ Ok tree.now
+            → self.old.frame ≡ frame_of p → IsTabledBy p self.old m → PointsStand p self.old.lasts.nodes.items
+            → IfOk result (λ told. MakesStep p self.old m self.new told) }
     {
         self.get_ready(alloc)?;
         if !self.table.has_room() {
@@ -158,6 +163,8 @@ impl State {
     /// Where nothing was done yet, there are places for the last solves of all nodes.
     fn get_ready(&mut self, alloc: Global) -> Result<(), Memory>
         ensures explained { (p : ProgramOf) (tree : TreeOf) → OnOk result (KeepsExplained p tree self.old self.new) }
+        ensures points { (p : ProgramOf) → OnOk result (KeepsPoints p self.old self.new) }
+        ensures ready { OnOk result (AreReady self.old self.new.lasts) }
         ensures begun { OnOk result (self.new.is_begun ≡ true) }
         ensures others { OnOk result (self.new ≡ record self.old { lasts = self.new.lasts; is_begun = self.new.is_begun }) }
     {
@@ -179,8 +186,13 @@ impl State {
     ) -> Result<(), Memory>
         ensures explained { OnOk result (KeepsExplained (content program.now) tree.now self.old self.new) }
         ensures tabled { let p = content program.now in (m : Machine) → IsProgram p → self.old.frame ≡ frame_of p
-            → IsBegunBy p self.old m node → OnOk result (EndsBegun p m self.new) }
+            → IsBegunBy p self.old m node → OnOk result (EndsBegun EndsAnyhow p m node self.new) }
+        // the node's program is solved
+        ensures solves { let p = content program.now in (m : Machine) → IsProgram p → tree_walk p ≡ Ok tree.now
+            → self.old.frame ≡ frame_of p → IsBegunBy p self.old m node → PointsStand p self.old.lasts.nodes.items
+            → OnOk result (SolvesNode p self.old m node self.new) }
     {
+        self.banks.keeps_nodes();
         let Some(begun) = self.begun(alloc, program, tree, node)? else {
             self.left_stuck();
             return Ok(());
@@ -205,6 +217,8 @@ impl State {
             IsDatumOf b.task.kind p self.now.frame tree.now b.task.datum)) }
         ensures pivots { IfOk result (λ all. IfSome all (λ b. b.task.pivots ≡ self.now.budget.pivots)) }
         ensures node { IfOk result (λ all. IfSome all (λ b. b.task.datum.node ≡ node)) }
+        ensures stated { let p = content program.now in IsProgram p → tree_walk p ≡ Ok tree.now → self.now.frame ≡ frame_of p → Lives p node
+            → IfOk result (λ all. IsSomeAnd all (λ b. IsTaskOf p self.now node b.task)) }
         ensures readings { IfOk result (λ all. IfSome all (λ b. b.readings.items
             ≡ numbers_read (pools_of self.now.kind self.now.banks) (children_in self.now.frame node))) }
     {
@@ -216,14 +230,16 @@ impl State {
         let read = self
             .banks
             .read(alloc, self.kind, self.frame.children(node))?;
+        let trial = self.lasts.trial(alloc, self.frame.parent(node))?;
+        let task = Task {
+            kind: self.kind,
+            datum,
+            trial,
+            children: read.children,
+            pivots: self.budget.pivots,
+        };
         Ok(Some(Begun {
-            task: Task {
-                kind: self.kind,
-                datum,
-                trial: self.lasts.trial(alloc, self.frame.parent(node))?,
-                children: read.children,
-                pivots: self.budget.pivots,
-            },
+            task,
             readings: read.readings,
         }))
     }

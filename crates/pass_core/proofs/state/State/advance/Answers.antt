@@ -1,6 +1,9 @@
 use Rattle.std.proofs.Common.{◌≡◌, true, false, refl, ap, ◌∙◌}
 use Rattle.scen_defs.specs.Program.{content}
 use Rattle.pass_core.specs.declared.state.State.{State}
+use Rattle.pass_core.specs.Turns.{EndsAnyhow}
+use Rattle.pass_core.specs.Turns.MakesStep.{begins_none, opens_run}
+use Rattle.pass_core.proofs.Solving.{solves_before, step_solved}
 use Rattle.pass_core.specs.Tabled.{IsTabledBy, HasRoom, IsBegunBy}
 use Rattle.pass_core.proofs.Tabling.{ready_tabled, refit, room_of, room_in, begun_by, rested, opening, turned}
 use Rattle.pass_core.proofs.state.State.advance.Goals as goal
@@ -30,7 +33,7 @@ returns-in_ok-solve-in-Some-clause-tabled c = λ m i frame t.
     let begins = c.in-Some.ensures m u.valid u.fits (u.idle 0) in
     let b : IsBegunBy p (record s { table = c.begin.new.self }) m c.in-Some.node =
     begun_by p m s c.begin.new.self c.in-Some.node u c.in_ok-get_ready.ensures.begun room begins.0 begins.1 in
-    turned p m c.solve.new.self
+    turned EndsAnyhow p m c.in-Some.node c.solve.new.self
     (c.in_ok-solve-in-Some.ensures.tabled m i (ap (λ (x : State). x.frame) c.in_ok-get_ready.ensures.others ∙ frame) b)
 
 pub returns-in-None-clause-tabled : goal.returns-in-None-clause-tabled
@@ -40,3 +43,41 @@ returns-in-None-clause-tabled c = λ m i frame t.
     let u : IsTabledBy p s m = ready_tabled p m c.args.self.now s t c.in_ok-get_ready.ensures.others c.in_ok-get_ready.ensures.begun in
     let none = c.in-None.ensures m u.valid u.fits (u.idle 0) in
     rested p m (record s { table = c.begin.new.self }) (λ room. none.0) (refit p m s c.begin.new.self u c.in_ok-get_ready.ensures.begun none.1)
+
+pub returns-then-not-has_room-clause-solves : goal.returns-then-not-has_room-clause-solves
+returns-then-not-has_room-clause-solves c = λ m i walk frame t stand.
+    let p = content c.args.program.now in
+    let s = c.get_ready.new.self in
+    let u : IsTabledBy p s m = ready_tabled p m c.args.self.now s t c.in_ok-get_ready.ensures.others c.in_ok-get_ready.ensures.begun in
+    begins_none (λ room n may. let no : false ≡ true = c.if-not-has_room.ensures.1 (room_in m s.table u.fits room) in absurd (cc))
+    (c.in_ok-get_ready.ensures.points p stand)
+
+pub returns-then-ne-clause-solves : goal.returns-then-ne-clause-solves
+returns-then-ne-clause-solves c = λ m i walk frame t stand.
+    let p = content c.args.program.now in
+    let s = c.get_ready.new.self in
+    let u : IsTabledBy p s m = ready_tabled p m c.args.self.now s t c.in_ok-get_ready.ensures.others c.in_ok-get_ready.ensures.begun in
+    let room : HasRoom m = room_of m s.table u.fits (c.if-not-has_room.ensures.0 refl) in
+    opens_run ((c.if-is_closed.ensures.meaning m u.fits).0 refl) (c.in_ok-open_next.ensures.tabled p m u c.in_ok-get_ready.ensures.begun room.1)
+    (c.in_ok-open_next.ensures.points p (c.in_ok-get_ready.ensures.points p stand))
+
+pub returns-in_ok-solve-in-Some-clause-solves : goal.returns-in_ok-solve-in-Some-clause-solves
+returns-in_ok-solve-in-Some-clause-solves c = λ m i walk frame t stand.
+    let p = content c.args.program.now in
+    let s = c.get_ready.new.self in
+    let u : IsTabledBy p s m = ready_tabled p m c.args.self.now s t c.in_ok-get_ready.ensures.others c.in_ok-get_ready.ensures.begun in
+    let room : HasRoom m = room_of m s.table u.fits (c.if-not-has_room.ensures.0 refl) in
+    let begins = c.in-Some.ensures m u.valid u.fits (u.idle 0) in
+    let b : IsBegunBy p (record s { table = c.begin.new.self }) m c.in-Some.node =
+    begun_by p m s c.begin.new.self c.in-Some.node u c.in_ok-get_ready.ensures.begun room begins.0 begins.1 in
+    step_solved p c.args.self.now s m c.in-Some.node c.solve.new.self c.in_ok-get_ready.ensures.others c.in_ok-get_ready.ensures.ready
+    (solves_before p s c.begin.new.self m c.in-Some.node c.solve.new.self
+    (c.in_ok-solve-in-Some.ensures.solves m i walk (ap (λ (x : State). x.frame) c.in_ok-get_ready.ensures.others ∙ frame) b (c.in_ok-get_ready.ensures.points p stand)))
+
+pub returns-in-None-clause-solves : goal.returns-in-None-clause-solves
+returns-in-None-clause-solves c = λ m i walk frame t stand.
+    let p = content c.args.program.now in
+    let s = c.get_ready.new.self in
+    let u : IsTabledBy p s m = ready_tabled p m c.args.self.now s t c.in_ok-get_ready.ensures.others c.in_ok-get_ready.ensures.begun in
+    let none = c.in-None.ensures m u.valid u.fits (u.idle 0) in
+    begins_none (λ room. none.0) (c.in_ok-get_ready.ensures.points p stand)

@@ -1,12 +1,15 @@
-use Rattle.std.proofs.Common.{refl, sym, ap, subst, ◌∙◌}
-use Rattle.scen_defs.specs.Program.{content}
+use Rattle.std.proofs.Common.{◌≡◌, IfSome, refl, sym, ap, subst, ◌∙◌}
+use Rattle.scen_defs.specs.Program.{content, node_at}
 use Rattle.scen_defs.specs.declared.report.Place.{Place}
+use Rattle.node_lp.specs.declared.solved.Solved.{Solved}
 use Rattle.node_lp.specs.declared.solved.Solved.TheVariants as solved
 use Rattle.proved_report.specs.declared.open.Open.TheVariants as reason
-use Rattle.pass_core.specs.Explained.{ComesOfSolve, cut_given, PassesInRun, KeepsExplained}
+use Rattle.pass_core.specs.Explained.{ComesOfSolve, cut_given, point_found, PassesInRun, KeepsExplained}
 use Rattle.pass_core.specs.declared.state.State.{State}
 use Rattle.pass_core.specs.Tabled.{KeepsPools, EndsSolve, IsAbout}
-use Rattle.pass_core.proofs.Tabling.{ends_then, counted_solving, counted_ends, left_ends}
+use Rattle.pass_core.specs.Turns.{AreUpTo, KeepsPoints, EndsBy}
+use Rattle.pass_core.proofs.Standing.{same_points, then_points}
+use Rattle.pass_core.proofs.Tabling.{ends_then, told_ends, neither_ends, counted_solving, counted_ends, left_ends}
 use Rattle.pass_core.proofs.Explaining.{then_kept, left_kept, point_gives, point_finds, at_place, on_ok}
 use Rattle.pass_core.proofs.state.State.commit.Goals as goal
 
@@ -48,20 +51,26 @@ pub returns-in_ok-point-in-Point-clause-tabled : goal.returns-in_ok-point-in-Poi
 returns-in_ok-point-in-Point-clause-tabled c = λ m f solving number node about.
     let old = c.args.self.now in
     let rs = c.args.begun.now.readings.items in
-    on_ok c.complete.result (KeepsPools c.point.new.self c.complete.new.self) (EndsSolve old c.complete.new.self m f)
-    (ends_then old c.point.new.self c.complete.new.self m f
-    (counted_ends old c.raise.new.self c.point.new.self m f
+    let trial = c.args.begun.now.task.trial in
+    let all : Solved = solved.Point c.in-Point.point c.in-Point.value c.in-Point.cut in
+    on_ok c.complete.result (KeepsPools c.point.new.self c.complete.new.self) (EndsSolve (EndsBy trial c.args.solved) old c.complete.new.self m f)
+    (λ k. told_ends trial c.args.solved all old c.complete.new.self m f c.in-Point.is
+    (ends_then (EndsBy trial all) old c.point.new.self c.complete.new.self m f
+    (counted_ends (EndsBy trial all) old c.raise.new.self c.point.new.self m f
     (c.in_ok-point-in-Point.ensures.tabled m f (counted_solving old c.raise.new.self m f rs solving) number node
-    (subst (IsAbout c.args.node) c.in-Point.is about))))
+    (subst (IsAbout c.args.node) c.in-Point.is about))) k))
     c.complete.ensures.pools
 
 pub returns-in-NoPoint-clause-tabled : goal.returns-in-NoPoint-clause-tabled
 returns-in-NoPoint-clause-tabled c = λ m f solving number node about.
     let old = c.args.self.now in
     let rs = c.args.begun.now.readings.items in
+    let trial = c.args.begun.now.task.trial in
+    let all : Solved = solved.NoPoint c.in-NoPoint.cut in
     let s : State = record old { counts = c.raise.new.self } in
-    on_ok c.no_point.result (EndsSolve s c.no_point.new.self m f) (EndsSolve old c.no_point.new.self m f)
-    (counted_ends old c.raise.new.self c.no_point.new.self m f)
+    on_ok c.no_point.result (EndsSolve (EndsBy trial all) s c.no_point.new.self m f) (EndsSolve (EndsBy trial c.args.solved) old c.no_point.new.self m f)
+    (λ e. told_ends trial c.args.solved all old c.no_point.new.self m f c.in-NoPoint.is
+    (counted_ends (EndsBy trial all) old c.raise.new.self c.no_point.new.self m f e))
     (c.no_point.ensures.tabled m f (counted_solving old c.raise.new.self m f rs solving) number node
     (subst (IsAbout c.args.node) c.in-NoPoint.is about))
 
@@ -69,22 +78,53 @@ pub returns-in-PivotsEnded-clause-tabled : goal.returns-in-PivotsEnded-clause-ta
 returns-in-PivotsEnded-clause-tabled c = λ m f solving number node about.
     let old = c.args.self.now in
     let rs = c.args.begun.now.readings.items in
+    let trial = c.args.begun.now.task.trial in
+    let all : Solved = solved.PivotsEnded in
     let s : State = record old { counts = c.raise.new.self } in
-    counted_ends old c.raise.new.self c.left_open.new.self m f
-    (left_ends s c.left_open.new.self m f rs _ _ (counted_solving old c.raise.new.self m f rs solving) number c.left_open.ensures.drops c.left_open.ensures.others)
+    told_ends trial c.args.solved all old c.left_open.new.self m f c.in-PivotsEnded.is
+    (counted_ends (EndsBy trial all) old c.raise.new.self c.left_open.new.self m f
+    (left_ends (EndsBy trial all) s c.left_open.new.self m f rs _ _ (counted_solving old c.raise.new.self m f rs solving) number c.left_open.ensures.drops c.left_open.ensures.others (refl, refl)))
 
 pub returns-in-Passed-clause-tabled : goal.returns-in-Passed-clause-tabled
 returns-in-Passed-clause-tabled c = λ m f solving number node about.
     let old = c.args.self.now in
     let rs = c.args.begun.now.readings.items in
+    let trial = c.args.begun.now.task.trial in
+    let all : Solved = solved.Passed c.in-Passed.in_cut c.in-Passed.passed in
     let s : State = record old { counts = c.raise.new.self } in
-    counted_ends old c.raise.new.self c.left_open-in-Passed.new.self m f
-    (left_ends s c.left_open-in-Passed.new.self m f rs _ _ (counted_solving old c.raise.new.self m f rs solving) number c.left_open-in-Passed.ensures.drops c.left_open-in-Passed.ensures.others)
+    told_ends trial c.args.solved all old c.left_open-in-Passed.new.self m f c.in-Passed.is
+    (counted_ends (EndsBy trial all) old c.raise.new.self c.left_open-in-Passed.new.self m f
+    (left_ends (EndsBy trial all) s c.left_open-in-Passed.new.self m f rs _ _ (counted_solving old c.raise.new.self m f rs solving) number
+    c.left_open-in-Passed.ensures.drops c.left_open-in-Passed.ensures.others (refl, refl)))
 
 pub returns-in-Loose-clause-tabled : goal.returns-in-Loose-clause-tabled
 returns-in-Loose-clause-tabled c = λ m f solving number node about.
     let old = c.args.self.now in
     let rs = c.args.begun.now.readings.items in
+    let trial = c.args.begun.now.task.trial in
     let s : State = record old { counts = c.raise.new.self } in
-    counted_ends old c.raise.new.self c.left_stuck.new.self m f
-    (left_ends s c.left_stuck.new.self m f rs _ _ (counted_solving old c.raise.new.self m f rs solving) number c.left_stuck.ensures.drops c.left_stuck.ensures.others)
+    counted_ends (EndsBy trial c.args.solved) old c.raise.new.self c.left_stuck.new.self m f
+    (neither_ends trial c.args.solved s c.left_stuck.new.self m f rs _ _ (counted_solving old c.raise.new.self m f rs solving) number
+    c.left_stuck.ensures.drops c.left_stuck.ensures.others c.in-Loose.is)
+
+pub returns-in_ok-point-in-Point-clause-points : goal.returns-in_ok-point-in-Point-clause-points
+returns-in_ok-point-in-Point-clause-points c = λ p t x.
+    let old = c.args.self.now in
+    on_ok c.complete.result (c.complete.new.self.lasts ≡ c.point.new.self.lasts) (KeepsPoints p old c.complete.new.self)
+    (λ e. then_points p old c.point.new.self c.complete.new.self
+    (c.in_ok-point-in-Point.ensures.points p t (subst (λ (all : Solved). IfSome (point_found all) (AreUpTo p (node_at p.nodes c.args.node).stage)) c.in-Point.is x))
+    (same_points p c.point.new.self c.complete.new.self e))
+    c.complete.ensures.lasts
+
+pub returns-in-NoPoint-clause-points : goal.returns-in-NoPoint-clause-points
+returns-in-NoPoint-clause-points c = λ p t x. c.no_point.ensures.points p
+
+pub returns-in-PivotsEnded-clause-points : goal.returns-in-PivotsEnded-clause-points
+returns-in-PivotsEnded-clause-points c = λ p t x. same_points p c.args.self.now c.left_open.new.self (ap (λ (s : State). s.lasts) c.left_open.ensures.others)
+
+pub returns-in-Passed-clause-points : goal.returns-in-Passed-clause-points
+returns-in-Passed-clause-points c = λ p t x.
+    same_points p c.args.self.now c.left_open-in-Passed.new.self (ap (λ (s : State). s.lasts) c.left_open-in-Passed.ensures.others)
+
+pub returns-in-Loose-clause-points : goal.returns-in-Loose-clause-points
+returns-in-Loose-clause-points c = λ p t x. same_points p c.args.self.now c.left_stuck.new.self (ap (λ (s : State). s.lasts) c.left_stuck.ensures.others)

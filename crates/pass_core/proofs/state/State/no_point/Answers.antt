@@ -1,5 +1,8 @@
 use Rattle.pass_core.specs.declared.state.State.{State}
-use Rattle.std.proofs.Common.{false, refl}
+use Rattle.std.proofs.Common.{false, refl, ap, ◌∙◌}
+use Rattle.node_lp.specs.declared.solved.Solved.TheVariants as solved
+use Rattle.pass_core.specs.Turns.{EndsBy}
+use Rattle.pass_core.proofs.Standing.{same_points, then_points, forgotten_stand}
 use Rattle.pass_core.proofs.Tabling.{lasts_keeps, offered_ends}
 use Rattle.pass_core.proofs.Explaining.{then_kept, table_kept, forgotten_kept}
 use Rattle.pass_core.proofs.state.State.no_point.Goals as goal
@@ -15,7 +18,14 @@ returns-clause-explained c = λ p tree g.
 pub returns-clause-tabled : goal.returns-clause-tabled
 returns-clause-tabled c = λ m f solving number node about.
     let s : State = record c.args.self.now { lasts = c.forget.new.self } in
-    offered_ends c.in_ok-is_raised.is_raised false c.args.node c.args.self.now s c.take_ray.new.self c.commit_last.new.self m f
+    offered_ends (EndsBy c.args.begun.now.task.trial (solved.NoPoint c.args.cut)) c.in_ok-is_raised.is_raised false c.args.node c.args.self.now s c.take_ray.new.self c.commit_last.new.self m f
     c.args.begun.now.readings.items _ solving number node (lasts_keeps c.args.self.now s c.forget.new.self refl)
     (c.in_ok-is_raised.ensures.raises about) c.in_ok-is_raised.ensures.low c.commit_last.ensures.others
-    (λ still. c.commit_last.ensures.commits m f still node c.in_ok-is_raised.ensures.low)
+    (λ still. c.commit_last.ensures.commits m f still node c.in_ok-is_raised.ensures.low) refl
+
+pub returns-clause-points : goal.returns-clause-points
+returns-clause-points c = λ p.
+    let s : State = record c.args.self.now { lasts = c.forget.new.self } in
+    then_points p c.args.self.now s c.commit_last.new.self
+    (forgotten_stand p c.args.self.now.lasts.nodes.items c.forget.new.self.nodes.items c.args.node c.forget.ensures)
+    (same_points p s c.commit_last.new.self (ap (λ (x : State). x.lasts) c.commit_last.ensures.others ∙ c.in_ok-is_raised.ensures.lasts))

@@ -11,3 +11,9 @@ pub returns-in-Err-clause-tabled : goal.returns-in-Err-clause-tabled
 returns-in-Err-clause-tabled c = λ p m t z room.
     on_ok c.not_opened.result (KeepsPools c.args.self.now c.not_opened.new.self) (Opens p m c.not_opened.new.self)
     (λ k. not_opened (still_tabled p m c.args.self.now c.not_opened.new.self t k)) c.not_opened.ensures.pools
+
+pub returns-in-Ok-clause-points : goal.returns-in-Ok-clause-points
+returns-in-Ok-clause-points c = λ p. c.open.ensures.points p
+
+pub returns-in-Err-clause-points : goal.returns-in-Err-clause-points
+returns-in-Err-clause-points c = λ p. c.not_opened.ensures.points p

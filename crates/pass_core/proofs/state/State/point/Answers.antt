@@ -1,4 +1,8 @@
-use Rattle.std.proofs.Common.{◌≡◌, Bool, true, false, Ok, ap, rules}
+use Rattle.std.proofs.Common.{◌≡◌, Bool, true, false, Ok, ap, inl, inr, refl, ◌∙◌, rules}
+use Rattle.node_lp.specs.declared.solved.Solved.TheVariants as solved
+use Rattle.pass_core.specs.declared.state.State.{State}
+use Rattle.pass_core.specs.Turns.{EndsBy}
+use Rattle.pass_core.proofs.Standing.{join_passes, same_points, then_points, point_stands}
 use Rattle.pass_core.proofs.Tabling.{left_ends, lasts_keeps, offered_ends, not_true, not_false}
 use Rattle.pass_core.proofs.Explaining.{then_kept, table_kept, still_given}
 use Rattle.pass_core.proofs.state.State.point.Goals as goal
@@ -15,14 +19,27 @@ returns-clause-explained c = λ p tree x g.
 pub returns-then-not-branch-clause-tabled : goal.returns-then-not-branch-clause-tabled
 returns-then-not-branch-clause-tabled c = λ m f solving number node about.
     let q : c.in_ok-keep.field-0 ≡ false = first_of (cc, search (rules, not_true, c.if-not-branch.true)) in
-    left_ends c.args.self.now c.keep.new.self m f c.args.begun.now.readings.items _ _ solving number
+    left_ends (EndsBy c.args.begun.now.task.trial (solved.Point c.args.point c.args.value c.args.cut)) c.args.self.now c.keep.new.self m f c.args.begun.now.readings.items _ _ solving number
     (c.in_ok-keep.ensures.drops (ap (λ (b : Bool). Ok b) q)) (c.in_ok-keep.ensures.stuck (ap (λ (b : Bool). Ok b) q))
+    (inr (join_passes c.args.self.now.lasts.nodes.items c.args.node c.args.begun.now.task.trial c.args.point (c.in_ok-keep.ensures.passed (ap (λ (b : Bool). Ok b) q)), (refl, refl)))
 
 pub returns-clause-tabled : goal.returns-clause-tabled
 returns-clause-tabled c = λ m f solving number node about.
     let q : c.in_ok-keep.field-0 ≡ true = first_of (cc, search (rules, not_false, c.if-not-branch.false)) in
-    offered_ends c.in_ok-is_raised.is_raised true c.args.node c.args.self.now c.keep.new.self c.take_bound.new.self c.commit_last.new.self m f
+    offered_ends (EndsBy c.args.begun.now.task.trial (solved.Point c.args.point c.args.value c.args.cut)) c.in_ok-is_raised.is_raised true c.args.node c.args.self.now c.keep.new.self c.take_bound.new.self c.commit_last.new.self m f
     c.args.begun.now.readings.items _ solving number node
     (lasts_keeps c.args.self.now c.keep.new.self _ (c.in_ok-keep.ensures.others (ap (λ (b : Bool). Ok b) q)))
     (c.in_ok-is_raised.ensures.raises about) c.in_ok-is_raised.ensures.low c.commit_last.ensures.others
-    (λ still. c.commit_last.ensures.commits m f still node c.in_ok-is_raised.ensures.low)
+    (λ still. c.commit_last.ensures.commits m f still node c.in_ok-is_raised.ensures.low) (inl refl)
+
+pub returns-then-not-branch-clause-points : goal.returns-then-not-branch-clause-points
+returns-then-not-branch-clause-points c = λ p t x.
+    let q : c.in_ok-keep.field-0 ≡ false = first_of (cc, search (rules, not_true, c.if-not-branch.true)) in
+    same_points p c.args.self.now c.keep.new.self (ap (λ (s : State). s.lasts) (c.in_ok-keep.ensures.stuck (ap (λ (b : Bool). Ok b) q)))
+
+pub returns-clause-points : goal.returns-clause-points
+returns-clause-points c = λ p t x.
+    let q : c.in_ok-keep.field-0 ≡ true = first_of (cc, search (rules, not_false, c.if-not-branch.false)) in
+    then_points p c.args.self.now c.keep.new.self c.commit_last.new.self
+    (point_stands p c.args.self.now c.keep.new.self c.args.node c.args.begun.now.task.trial c.args.point (c.in_ok-keep.ensures.kept (ap (λ (b : Bool). Ok b) q)) t x)
+    (same_points p c.keep.new.self c.commit_last.new.self (ap (λ (s : State). s.lasts) c.commit_last.ensures.others ∙ c.in_ok-is_raised.ensures.lasts))

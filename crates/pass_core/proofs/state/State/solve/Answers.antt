@@ -1,4 +1,15 @@
-use Rattle.std.proofs.Common.{◌≡◌, Option, IfSome, subst}
+use Rattle.std.proofs.Common.{◌≡◌, Bool, true, false, Option, IfSome, IsSomeAnd, refl, sym, ap, subst}
+use Rattle.scen_defs.specs.Program.{node_at}
+use Rattle.pass_table.specs.Machine.{Flight, Machine}
+use Rattle.node_lp.specs.declared.task.Task.{Task}
+use Rattle.node_lp.specs.declared.solved.Solved.{Solved}
+use Rattle.node_lp.specs.Problem.{IsProblem, problem_of}
+use Rattle.run_data.specs.Counts.{version_of}
+use Rattle.pass_core.specs.Explained.{IsDatumOf}
+use Rattle.pass_core.specs.Turns.{AreUpTo, IsTaskOf, EndsBy, EndsAnyhow}
+use Rattle.pass_core.proofs.Standing.{found_stands}
+use Rattle.pass_core.proofs.TaskFits.{task_trial, task_fits}
+use Rattle.pass_core.proofs.Solving.{solved_by}
 use Rattle.scen_defs.specs.Program.{content}
 use Rattle.cut_banks.specs.Banks.{pools_of}
 use Rattle.cut_banks.specs.Pools.{numbers_read}
@@ -6,7 +17,7 @@ use Rattle.run_data.specs.Frames.{children_in}
 use Rattle.pass_core.specs.declared.state.Begun.{Begun}
 use Rattle.pass_core.specs.Tabled.{EndsSolve, EndsBegun}
 use Rattle.pass_core.proofs.Explaining.{on_ok}
-use Rattle.pass_core.proofs.Tabling.{stuck_ends, begun_flight, read_machine, reads_number, at_node, begun_solving, solve_ends}
+use Rattle.pass_core.proofs.Tabling.{stuck_ends, begun_flight, read_machine, reads_number, at_node, begun_solving, solve_ends, anyhow, lives, within_pools}
 use Rattle.pass_core.proofs.CutNodes.{answer_about}
 use Rattle.pass_core.proofs.state.State.solve.Goals as goal
 
@@ -30,10 +41,56 @@ returns-clause-tabled c = λ m i frame b.
     subst (λ (o : Option Begun). IfSome o (λ (x : Begun).
     x.readings.items ≡ numbers_read (pools_of c.args.self.now.kind c.args.self.now.banks) (children_in c.args.self.now.frame c.args.node)))
     c.in-Some.is c.in_ok-begun.ensures.readings in
+    let w : Machine → Flight → Bool → Machine → Type 0 = EndsBy c.in-Some.begun.task.trial c.in_ok-solved.solved in
     on_ok c.commit.result
-    (EndsSolve s c.commit.new.self (read_machine p s m n i frame b) (begun_flight p s m n i frame b))
-    (EndsBegun p m c.commit.new.self)
-    (solve_ends p s m n i frame b c.commit.new.self)
+    (EndsSolve w s c.commit.new.self (read_machine p s m n i frame b) (begun_flight p s m n i frame b))
+    (EndsBegun EndsAnyhow p m n c.commit.new.self)
+    (λ e. anyhow w p m n c.commit.new.self (solve_ends p s m n i frame b w c.commit.new.self e))
     (c.commit.ensures.tabled (read_machine p s m n i frame b) (begun_flight p s m n i frame b)
     (begun_solving p s m n i frame b c.in-Some.begun.readings.items rs) (reads_number p s m n i frame b) (at_node p s m n i frame b)
     (answer_about c.in-Some.begun.task n c.in_ok-solved.solved node c.in_ok-solved.ensures.answer))
+
+pub returns-in_default-clause-solves : goal.returns-in_default-clause-solves
+returns-in_default-clause-solves c = λ m i walk frame b stand.
+    let p = content c.args.program.now in
+    let s = c.args.self.now in
+    let n = c.args.node in
+    absurd (subst (λ (o : Option Begun). IsSomeAnd o (λ (x : Begun). IsTaskOf p s n x.task)) c.in_default.is (c.in_ok-begun.ensures.stated i walk frame (lives p s m n i frame b)))
+
+pub returns-then-not-fits-clause-solves : goal.returns-then-not-fits-clause-solves
+returns-then-not-fits-clause-solves c = λ m i walk frame b stand.
+    let p = content c.args.program.now in
+    let s = c.args.self.now in
+    let n = c.args.node in
+    let task : IsTaskOf p s n c.in-Some.begun.task =
+    subst (λ (o : Option Begun). IsSomeAnd o (λ (x : Begun). IsTaskOf p s n x.task)) c.in-Some.is (c.in_ok-begun.ensures.stated i walk frame (lives p s m n i frame b)) in
+    let datum : IsDatumOf c.in-Some.begun.task.kind p s.frame c.args.tree.now c.in-Some.begun.task.datum =
+    subst (λ (o : Option Begun). IfSome o (λ (x : Begun). IsDatumOf x.task.kind p s.frame c.args.tree.now x.task.datum)) c.in-Some.is c.in_ok-begun.ensures.datum in
+    let node : c.in-Some.begun.task.datum.node ≡ n =
+    subst (λ (o : Option Begun). IfSome o (λ (x : Begun). x.task.datum.node ≡ c.args.node)) c.in-Some.is c.in_ok-begun.ensures.node in
+    let problem : IsProblem (problem_of c.in-Some.begun.task) =
+    task_fits p c.args.tree.now s n c.in-Some.begun.task i (lives p s m n i frame b) frame stand c.keeps_nodes.ensures.plain c.keeps_nodes.ensures.cone
+    (within_pools p s m n i frame b) task datum node c.if-not-fits.ensures.forms in
+    absurd (let no : false ≡ true = c.if-not-fits.ensures.exact.1 problem in cc)
+
+pub returns-clause-solves : goal.returns-clause-solves
+returns-clause-solves c = λ m i walk frame b stand.
+    let p = content c.args.program.now in
+    let s = c.args.self.now in
+    let n = c.args.node in
+    let t : Task = c.in-Some.begun.task in
+    let all : Solved = c.in_ok-solved.solved in
+    let task : IsTaskOf p s n t =
+    subst (λ (o : Option Begun). IsSomeAnd o (λ (x : Begun). IsTaskOf p s n x.task)) c.in-Some.is (c.in_ok-begun.ensures.stated i walk frame (lives p s m n i frame b)) in
+    let node : t.datum.node ≡ n =
+    subst (λ (o : Option Begun). IfSome o (λ (x : Begun). x.task.datum.node ≡ c.args.node)) c.in-Some.is c.in_ok-begun.ensures.node in
+    let rs : c.in-Some.begun.readings.items ≡ numbers_read (pools_of s.kind s.banks) (children_in s.frame n) =
+    subst (λ (o : Option Begun). IfSome o (λ (x : Begun).
+    x.readings.items ≡ numbers_read (pools_of c.args.self.now.kind c.args.self.now.banks) (children_in c.args.self.now.frame c.args.node)))
+    c.in-Some.is c.in_ok-begun.ensures.readings in
+    let trial : AreUpTo p (node_at p.nodes n).stage t.trial = task_trial p s n t i (lives p s m n i frame b) frame stand task in
+    solved_by p s m n i frame b t all c.commit.new.self c.commit.result task (c.if-not-fits.ensures.exact.0 refl) stand c.in_ok-solved.ensures.exact
+    (c.commit.ensures.tabled (read_machine p s m n i frame b) (begun_flight p s m n i frame b)
+    (begun_solving p s m n i frame b c.in-Some.begun.readings.items rs) (reads_number p s m n i frame b) (at_node p s m n i frame b)
+    (answer_about t n all node c.in_ok-solved.ensures.answer))
+    (c.commit.ensures.points p trial (found_stands p s.kind n (version_of s.versions n) t all task.datum c.in_ok-solved.ensures.answer))

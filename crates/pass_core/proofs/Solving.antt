@@ -1,0 +1,55 @@
+-- A turn is the solve of the program of its node.
+use Rattle.std.proofs.Common.{◌≡◌, ℕ, Bool, true, false, Result, Ok, Err, OnOk, IfOk, refl, sym, ap, subst, ◌∙◌}
+use Rattle.scen_defs.specs.Program.{Program}
+use Rattle.scen_defs.specs.Valid.{IsProgram}
+use Rattle.node_lp.specs.declared.task.Task.{Task}
+use Rattle.node_lp.specs.declared.solved.Solved.{Solved}
+use Rattle.node_lp.specs.Problem.{IsProblem, problem_of}
+use Rattle.node_lp.specs.Told.{node_solved}
+use Rattle.run_data.specs.Frames.{frame_of}
+use Rattle.pass_table.specs.declared.table.Table.{Table}
+use Rattle.pass_table.specs.Machine.{Flight, Machine, IsClosed, MayBegin}
+use Rattle.run_ends.specs.declared.last.Lasts.{Lasts}
+use Rattle.pass_core.specs.declared.state.State.{State}
+use Rattle.pass_core.specs.Tabled.{HasRoom, EndsSolve, EndsBegun, IsBegunBy, Opens}
+use Rattle.pass_core.specs.Turns.{PointsStand, KeepsPoints, IsTaskOf, EndsBy, SolvesNode, AreReady, MakesStep}
+use Rattle.pass_core.specs.Turns.MakesStep.{begins_none, opens_run, solves}
+use Rattle.pass_core.proofs.Tabling.{read_machine, begun_flight, solve_ends, told_ends}
+
+pub on_both : {X E : Type 0} (r : Result X E) (A B C : Type 0) → (A → B → C) → OnOk r A → OnOk r B → OnOk r C
+on_both (Ok x) A B C f a b = f a b
+on_both (Err e) A B C f a b = tt
+
+pub solved_by : (p : Program) (s : State) (m : Machine) (n : ℕ) (i : IsProgram p) (frame : s.frame ≡ frame_of p) (b : IsBegunBy p s m n) (t : Task) (all : Solved)
+    (new : State) {X E : Type 0} (r : Result X E) → IsTaskOf p s n t → IsProblem (problem_of t) → PointsStand p s.lasts.nodes.items → all ≡ node_solved t
+    → OnOk r (EndsSolve (EndsBy t.trial all) s new (read_machine p s m n i frame b) (begun_flight p s m n i frame b)) → OnOk r (KeepsPoints p s new)
+    → OnOk r (SolvesNode p s m n new)
+solved_by p s m n i frame b t all new r task problem stand exact ends points =
+    let rm = read_machine p s m n i frame b in
+    let bf = begun_flight p s m n i frame b in
+    on_both r (EndsSolve (EndsBy t.trial all) s new rm bf) (KeepsPoints p s new) (SolvesNode p s m n new)
+    (λ e k. record {
+      task = t;
+      is_task = task;
+      fits = problem;
+      ends = solve_ends p s m n i frame b (EndsBy t.trial (node_solved t)) new (told_ends t.trial (node_solved t) all s new rm bf (sym exact) e);
+      points = k stand;
+    }) ends points
+
+-- the task is the same where the table changes
+task_before : (p : Program) (s : State) (table : Table) (n : ℕ) (t : Task) → IsTaskOf p (record s { table = table }) n t → IsTaskOf p s n t
+task_before p s table n t h = record { kind = h.kind; datum = h.datum; trial = h.trial; cuts = h.cuts; pivots = h.pivots }
+
+pub solves_before : (p : Program) (s : State) (table : Table) (m : Machine) (n : ℕ) (new : State) → SolvesNode p (record s { table = table }) m n new → SolvesNode p s m n new
+solves_before p s table m n new h = record { task = h.task; is_task = task_before p s table n h.task h.is_task; fits = h.fits; ends = h.ends; points = h.points }
+
+-- a turn as a step
+task_ready : (p : Program) (old s : State) (n : ℕ) (t : Task) → s ≡ record old { lasts = s.lasts; is_begun = s.is_begun } → IsTaskOf p s n t
+    → IsTaskOf p (record old { lasts = s.lasts }) n t
+task_ready p old s n t e h =
+    let k = subst (λ (x : State). IsTaskOf p x n t) e h in record { kind = k.kind; datum = k.datum; trial = k.trial; cuts = k.cuts; pivots = k.pivots }
+
+pub step_solved : (p : Program) (old s : State) (m : Machine) (n : ℕ) (new : State) → s ≡ record old { lasts = s.lasts; is_begun = s.is_begun } → AreReady old s.lasts
+    → SolvesNode p s m n new → MakesStep p old m new true
+step_solved p old s m n new e ready h = solves s.lasts n ready
+    (record { task = h.task; is_task = task_ready p old s n h.task e h.is_task; fits = h.fits; ends = h.ends; points = h.points })

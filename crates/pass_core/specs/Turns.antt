@@ -1,0 +1,108 @@
+-- What a turn solves: the program of its node in the present run; and how the turn ends by what is told of it.
+use Rattle.std.specs.Prelude.{◌≡◌, ◌⊎◌, ℕ, Bool, true, false, leb, List, map, Option, None, Err, IfSome, ⊤}
+use Rattle.rationals.specs.Rational.{one_ℚ}
+use Rattle.rationals.specs.Passes.{Operation}
+use Rattle.rationals.specs.Forms.{add_scaled_walk}
+use Rattle.rationals.specs.Sparse.{Entry}
+use Rattle.scen_defs.specs.Lists.{Each, passes_at}
+use Rattle.scen_defs.specs.Program.{Program, View, node_at}
+use Rattle.scen_defs.specs.Flat.{children}
+use Rattle.scen_defs.specs.declared.program.Column.{Column}
+use Rattle.scen_defs.specs.declared.report.Kind.{Kind}
+use Rattle.cut_defs.specs.Data.{Datum, bounds_of, share_of}
+use Rattle.edit_defs.specs.Data.{view_in}
+use Rattle.cut_banks.specs.Banks.{pools_of}
+use Rattle.cut_banks.specs.Pools.{cuts_of, cuts_read}
+use Rattle.node_lp.specs.declared.task.Task.{Task}
+use Rattle.node_lp.specs.declared.solved.Solved.{Solved}
+use Rattle.node_lp.specs.declared.solved.Solved.TheVariants as solved
+use Rattle.node_lp.specs.Problem.{IsProblem, problem_of}
+use Rattle.node_lp.specs.Told.{node_solved}
+use Rattle.pass_table.specs.Machine.{Flight, Machine, IsClosed, MayBegin, dropped}
+use Rattle.run_data.specs.declared.versions.Version.{Version}
+use Rattle.run_data.specs.Counts.{version_of}
+use Rattle.run_data.specs.Frames.{parent_in, children_in}
+use Rattle.run_ends.specs.declared.last.Last.{Last}
+use Rattle.run_ends.specs.declared.last.Lasts.{Lasts}
+use Rattle.run_ends.specs.Lasts.{last_at, trial_of}
+use Rattle.pass_core.specs.declared.state.State.{State}
+use Rattle.pass_core.specs.Tabled.{HasRoom, committed_with, EndsBegun, Opens}
+
+-- ---- points
+-- each value is of a column of this stage or of an earlier one
+abbrev pub AreUpTo : Program → ℕ → List Entry → Type 0
+AreUpTo p s f = Each (λ (e : Entry). passes_at (λ (c : Column). leb c.stage s) e.column p.columns ≡ true) f
+
+-- along the last solve of each node stand values of columns of its stage and of earlier ones
+abbrev pub PointsStand : Program → List (Option Last) → Type 0
+PointsStand p lasts = (n : ℕ) → IfSome (last_at lasts n) (λ last. AreUpTo p (node_at p.nodes n).stage last.along)
+
+-- where they do so, they do so afterwards
+abbrev pub KeepsPoints : Program → State → State → Type 0
+KeepsPoints p old new = PointsStand p old.lasts.nodes.items → PointsStand p new.lasts.nodes.items
+
+-- ---- tasks
+-- the datum of a node in a run of this kind, of this version, by the program
+abbrev pub datum_in : Kind → Program → ℕ → Version → Datum
+datum_in kind p n version = let v : View = view_in kind p in record {
+  node = n;
+  rows_version = version.rows;
+  costs_version = version.costs;
+  cost = v.cost n;
+  rows = v.rows n;
+  bounds = map (bounds_of v) (v.columns (v.stage n));
+  shares = map (share_of v) (children v n);
+}
+
+-- the program of node n in the present run: its datum of the present version, the values along the last solve of its parent, and the
+-- cuts of the pools of its children, for the pivots of the budget
+pub record IsTaskOf (p : Program) (s : State) (n : ℕ) (t : Task) : Type 0 where
+  pub kind : t.kind ≡ s.kind
+  pub datum : t.datum ≡ datum_in s.kind p n (version_of s.versions n)
+  pub trial : t.trial ≡ trial_of s.lasts.nodes.items (parent_in s.frame n)
+  pub cuts : map cuts_of t.children.items ≡ cuts_read (pools_of s.kind s.banks) (children_in s.frame n)
+  pub pivots : t.pivots ≡ s.budget.pivots
+
+-- ---- ends
+-- the point can't be kept beside the values of the columns before it, since an operation passes
+abbrev pub PassesInJoin : List Entry → List Entry → Type 0
+PassesInJoin trial point = (o : Operation) × (add_scaled_walk trial one_ℚ point ≡ Err o)
+
+-- no last solve is left, and no pool changes
+abbrev pub EndsWithout : Machine → Flight → Bool → Machine → Type 0
+EndsWithout m f added k = (added ≡ false) × (k ≡ dropped m 0)
+
+-- how the turn ends by what is told of its solve: a point makes it the node's last solve with a point, unless it can't be kept; that
+-- there is no point makes it one without; else the node has no last solve
+abbrev pub EndsBy : List Entry → Solved → Machine → Flight → Bool → Machine → Type 0
+EndsBy trial (solved.Point x value cut) m f added k = (k ≡ committed_with m f true added) ⊎ (PassesInJoin trial x × EndsWithout m f added k)
+EndsBy trial (solved.NoPoint cut) m f added k = k ≡ committed_with m f false added
+EndsBy trial solved.Loose m f added k = EndsWithout m f added k
+EndsBy trial solved.PivotsEnded m f added k = EndsWithout m f added k
+EndsBy trial (solved.Passed in_cut o) m f added k = EndsWithout m f added k
+EndsBy trial solved.NotGood m f added k = EndsWithout m f added k
+
+-- however it ends
+abbrev pub EndsAnyhow : Machine → Flight → Bool → Machine → Type 0
+EndsAnyhow m f added k = ⊤
+
+-- the worker's turn was the solve of the program of node n, and ended by what is told of it; the points go on standing
+pub record SolvesNode (p : Program) (old : State) (m : Machine) (n : ℕ) (new : State) : Type 0 where
+  pub task : Task
+  pub is_task : IsTaskOf p old n task
+  pub fits : IsProblem (problem_of task)
+  pub ends : EndsBegun (EndsBy task.trial (node_solved task)) p m n new
+  pub points : PointsStand p new.lasts.nodes.items
+
+-- ---- steps
+-- the last solves of a run, for which there are places once something was done
+pub record AreReady (old : State) (lasts : Lasts) : Type 0 where
+  pub same : old.is_begun ≡ true → lasts ≡ old.lasts
+  pub none : old.is_begun ≡ false → (n : ℕ) → last_at lasts.nodes.items n ≡ None
+
+-- a step of a state whose table fits this machine, and whether it is told that something was done: no node may be begun, or there is no
+-- room for it; the run is closed, and the next one opens or doesn't; or the program of a node is solved
+pub data MakesStep (p : Program) (old : State) (m : Machine) (new : State) : Bool → Type 0 where
+  begins_none : (HasRoom m → (n : ℕ) → MayBegin m n → ⊥) → PointsStand p new.lasts.nodes.items → MakesStep p old m new false
+  opens_run : IsClosed m → Opens p m new → PointsStand p new.lasts.nodes.items → MakesStep p old m new true
+  solves : (lasts : Lasts) (n : ℕ) → AreReady old lasts → SolvesNode p (record old { lasts = lasts }) m n new → MakesStep p old m new true
