@@ -17,7 +17,7 @@
 //! - a row without entries that nothing meets: 0 is to be at least 2.
 //! - equations that exclude each other: X comes in by ONE at 1, and TWO is left with 3 - 2.
 //! - without end behind phase one: X = 2 and Y = 1 cost -2 + 1/2; both grow alike, at -1 + 1/2.
-//! - without end in a free column: Y comes in by its bound at 2, X falls.
+//! - without end in a free column: X comes in at 4, then Y by its bound at 2, which makes X 6; X falls.
 //! - without end below an upper bound: X falls from its bound, 2, at the cost of 3.
 //! - Beale's program: X1 = 3/4, X4 = 1 and X6 = 1, so -3/4 - 1/2; the multipliers of R2 and R3 are -3/2
 //!   and -5/4, worth -5/4.
@@ -25,13 +25,13 @@ ghost use Rattle.std.specs.Prelude.{◌<◌, ◌-◌, ◌^◌, length};
 
 use frac128::{Frac, parse};
 use mps_core::read_core;
-use one_period::solve_program;
 use proved_report::{Claim, Open, report};
 use scen_model::{
     Finding, Place, Program, Report, Values, cost, dual_value, feasible, fits, is_direction,
     zero_value,
 };
 use smps_build::single;
+use smps_session::session;
 use std::alloc::Global;
 use std::test::Fail;
 
@@ -288,7 +288,7 @@ COLUMNS
 RHS
  RHS NEED 2 SAME 1
 ENDATA
-#UNBOUNDED 2 -1
+#UNBOUNDED 8 -1
 * without end in a free column
 ROWS
  N COST
@@ -339,8 +339,8 @@ RHS
 ENDATA
 ";
 
-/// So many pivots are allowed.
-const PIVOTS: u64 = 1000;
+/// So many solves, and so many pivots in each, are allowed.
+const BUDGET: u64 = 1000;
 
 /// The program of a core file, and its report.
 fn solved(alloc: Global, text: &[u8]) -> Result<(Program, Report), Fail>
@@ -348,7 +348,7 @@ fn solved(alloc: Global, text: &[u8]) -> Result<(Program, Report), Fail>
 {
     let core = read_core(alloc, text)?;
     let program = single(alloc, &core)?;
-    let report = solve_program(alloc, &program, PIVOTS)?;
+    let report = session(alloc, &program, BUDGET, BUDGET)?;
     Ok((program, report))
 }
 

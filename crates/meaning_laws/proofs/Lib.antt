@@ -2,5 +2,6 @@ pub mod Times
 pub mod Entries
 pub mod Cases
 pub mod Programs
-pub mod Singles
+pub mod Counts
+pub mod Limits
 pub mod Laws

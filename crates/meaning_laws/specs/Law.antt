@@ -1,12 +1,12 @@
 -- Cores with the same parts mean the same with all further files.
-use Rattle.std.specs.Prelude.{◌≡◌, ℕ, List, [], ◌∷◌, Ok, Err, length, replicate}
+use Rattle.std.specs.Prelude.{◌≡◌, ℕ, false, List, [], ◌∷◌, length, replicate}
+use Rattle.smps_words.specs.Line.{TextLine}
 use Rattle.core_defs.specs.declared.program.Core.{Core}
 use Rattle.core_defs.specs.Laws.{AreSame}
+use Rattle.core_defs.specs.Fault.{IsCoreFile}
+use Rattle.core_defs.specs.Means.{Means}
 use Rattle.time_defs.specs.Means.{Stages}
 use Rattle.time_defs.specs.Step.{read_lines}
-use Rattle.rationals.specs.Passes.{Operation}
-use Rattle.scen_defs.specs.Program.{Program}
-use Rattle.smps_build.specs.Single.{single_walk}
 use Rattle.stoch_defs.specs.Random.{Random}
 use Rattle.stoch_defs.specs.Random.Random.{Blocks}
 use Rattle.stoch_defs.specs.File.{read_random}
@@ -25,8 +25,11 @@ pub record SameCoresMeanTheSame : Type 0 where
   pub within_alike : (one other : Core) → AreSame one other → (p : Stages) (random : Random)
       → exceeds one p random ≡ exceeds other p random
 
--- Where a core with all rows in one period, and no cases, is built as a program on a tree, no end of its rows passes.
-abbrev pub BuiltSinglesDontPass : Type 0
-BuiltSinglesDontPass = (core : Core) (name : List ℕ) (columns : List ℕ) (program : Program) (operation : Operation)
-    → built core (record { names = name ∷ []; columns = columns; rows = replicate (length core.rows.items) 0 }) (Blocks []) ≡ Ok program
-    → single_walk core ≡ Err operation → ⊥
+-- The core that a core file means, with all rows and columns in one period and no cases, exceeds no limit.
+abbrev pub CoreFilesDontExceed : Type 0
+CoreFilesDontExceed = (lines : List TextLine) (core : Core) → IsCoreFile lines → Means lines core
+    → exceeds core (record {
+      names = (80 ∷ 49 ∷ []) ∷ [];
+      columns = replicate (length core.columns.items) 0;
+      rows = replicate (length core.rows.items) 0;
+    }) (Blocks []) ≡ false

@@ -1,7 +1,7 @@
 //! Cores with the same parts mean the same with all further files. No code that runs.
 #![tactic(auto)]
 
-ghost use Rattle.meaning_laws.specs.Law.{SameCoresMeanTheSame, BuiltSinglesDontPass};
+ghost use Rattle.meaning_laws.specs.Law.{SameCoresMeanTheSame, CoreFilesDontExceed};
 
 /// Of cores with the same parts, a time file and a stoch file mean the same, and so does what is built of them. Two cores that a text
 /// means have the same parts, though they may stand at other places of memory.
@@ -9,7 +9,7 @@ pub fn same_cores_mean_the_same()
     ensures { SameCoresMeanTheSame }
 {}
 
-/// Where the program of a core of one period is built as one on a tree, so it is by itself: no end of its rows passes 128 bits.
-pub fn built_singles_dont_pass()
-    ensures { BuiltSinglesDontPass }
+/// The program of a core file alone is within the limits of scenarios, nodes, entries, rows and costs.
+pub fn core_files_dont_exceed()
+    ensures { CoreFilesDontExceed }
 {}

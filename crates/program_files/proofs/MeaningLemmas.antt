@@ -1,6 +1,8 @@
 -- Texts mean one program at most, and what is meant isn't refused.
-use Rattle.std.proofs.Common.{◌≡◌, ◌∙◌, ap, sym, ℕ, false, List, [], ◌∷◌, length, replicate, Option, Some, None, Result, Ok, Err, inl, inr, refl, subst}
+use Rattle.std.proofs.Common.{◌≡◌, ◌∙◌, ap, sym, ℕ, false, List, [], ◌∷◌, length, replicate, Option, Some, None, Result, Ok, Err, inl, inr, subst}
 use Rattle.smps_words.specs.Line.{reading_of}
+use Rattle.core_defs.specs.Fault.{IsCoreFile}
+use Rattle.core_defs.specs.declared.cause.Cause.TheVariants.{Passes}
 use Rattle.core_defs.specs.declared.cause.Refusal.{Refusal}
 use Rattle.core_defs.specs.declared.program.Core.{Core}
 use Rattle.core_defs.specs.Laws.{AreSame}
@@ -15,18 +17,18 @@ use Rattle.stoch_defs.specs.File.{IsStochReading, read_random}
 use Rattle.stoch_defs.proofs.Texts as stoch_texts
 use Rattle.build_defs.specs.Built.{built, exceeds}
 use Rattle.meaning_laws.proofs.Laws.{same_cores_mean_the_same as alike}
-use Rattle.meaning_laws.proofs.Singles.{no_end_passes}
+use Rattle.meaning_laws.proofs.Limits.{core_files_dont_exceed}
 use Rattle.rationals.specs.Passes.{Operation}
-use Rattle.smps_build.specs.Single.{single_walk}
 use Rattle.scen_defs.specs.Program.{Program, content}
 use Rattle.scen_defs.specs.declared.report.Report.{Report}
 use Rattle.edit_defs.specs.declared.edit.Item.{Item}
 use Rattle.edit_script.specs.Script.{script_of}
 use Rattle.script_steps.specs.Solves.{solve_count}
 use Rattle.input_files.specs.declared.kind.FileKind.{FileKind}
+use Rattle.input_files.specs.declared.kind.FileKind.TheVariants as kind
 use Rattle.input_files.specs.Fetched.{Texts}
 use Rattle.program_files.specs.Meant.{MeansCore, MeansPeriods, MeansRandom, MeansProgram, single_stages}
-use Rattle.program_files.specs.Refused.{RefusesProgram, IsUnbuilt}
+use Rattle.program_files.specs.Refused.{RefusesProgram, IsUnbuilt, build_file}
 use Rattle.program_files.specs.Edited.{AreMeant, MeansScript, RefusesEdits, RefusesReports, RefusesFiles, or_empty, reports_for}
 use Rattle.program_files.specs.Laws.{TextsMeanOneProgram}
 
@@ -109,13 +111,32 @@ one_program : (texts : Texts) (program other : Program) → MeansProgram texts p
 one_program texts program other m n =
     ok_same program other (sym (is_built texts program m n.core n.core_means n.periods n.periods_mean n.random n.random_means) ∙ n.built_is)
 
-alone : (texts : Texts) (program : Program) → MeansProgram texts program → texts.time ≡ None → texts.stoch ≡ None → (core : Core) → MeansCore texts.core core → (operation : Operation) → single_walk core ≡ Err operation → ⊥
-alone texts program m time stoch core core_means operation err =
-    let periods_mean : MeansPeriods core texts.time (single_stages core) = subst (λ (t : Option (List ℕ)). MeansPeriods core t (single_stages core)) (sym time) refl in
-    let cases_mean : MeansRandom core (single_stages core) texts.stoch (Blocks []) =
-    subst (λ (s : Option (List ℕ)). MeansRandom core (single_stages core) s (Blocks [])) (sym stoch) refl in
-    no_end_passes core (80 ∷ 49 ∷ []) (replicate (length core.columns.items) 0) program operation
-    (is_built texts program m core core_means (single_stages core) periods_mean (Blocks []) cases_mean) err
+-- ---- a core file alone
+
+module _ (texts : Texts) (time : texts.time ≡ None) (stoch : texts.stoch ≡ None) (read : IsCoreFile (reading_of 0 texts.core).lines) where
+  abbrev IsPassing : FileKind → Refusal → Type 0
+  IsPassing file refusal = (file ≡ kind.Core) × ((operation : Operation) × (refusal ≡ record { line = 0; cause = Passes operation }))
+
+  module _ (core : Core) (means : MeansCore texts.core core) (p : Stages) (periods : MeansPeriods core texts.time p) (random : Random) (cases : MeansRandom core p texts.stoch random) where
+    within_alone : exceeds core p random ≡ false
+    within_alone =
+        let stages : p ≡ single_stages core = subst (λ (t : Option (List ℕ)). MeansPeriods core t p) time periods in
+        let none : random ≡ Blocks [] = subst (λ (s : Option (List ℕ)). MeansRandom core p s random) stoch cases in
+        ap (λ (q : Stages). exceeds core q random) stages ∙ ap (exceeds core (single_stages core)) none
+        ∙ core_files_dont_exceed (reading_of 0 texts.core).lines core read means.means
+
+    unbuilt_alone : (refusal : Refusal) → IsUnbuilt core p random refusal → (operation : Operation) × (refusal ≡ record { line = 0; cause = Passes operation })
+    unbuilt_alone refusal (inl over) = let e = sym over.0 ∙ within_alone in absurd (cc)
+    unbuilt_alone refusal (inr passes) = (passes.1.0, passes.1.2)
+
+  alone : (file : FileKind) (refusal : Refusal) (known : Option Core) → RefusesProgram texts file refusal known → IsPassing file refusal
+  alone file refusal known (inl fault) = absurd (fault.not_read read)
+  alone file refusal known (inr (inl fault)) = let e = sym time ∙ fault.text_is in absurd (cc)
+  alone file refusal known (inr (inr (inl fault))) = let e = sym stoch ∙ fault.text_is in absurd (cc)
+  alone file refusal known (inr (inr (inr fault))) = (
+    fault.file_is ∙ ap build_file stoch,
+    unbuilt_alone fault.core fault.core_means fault.periods fault.periods_mean fault.random fault.random_means refusal fault.fault,
+  )
 
 module _ (texts : Texts) (program : Program) (m : MeansProgram texts program) (file : FileKind) (refusal : Refusal) (known : Option Core) where
   no_fault : RefusesProgram texts file refusal known → ⊥

@@ -14,7 +14,7 @@ use Rattle.smps_cli.specs.Makes.{MakesPlan}
 use Rattle.smps_cli.specs.Lines.{status_line}
 
 module _ (content : Option Files) (names : FileNames) (task : Task) (status : Status) (output : List ℕ) where
-  pub comes : (texts : Texts) → AreGiven content names texts → MayCome names task texts status output → MayAnswerTask content names task status output
+  pub comes : (texts : Texts) → AreGiven content names texts → MayCome task texts status output → MayAnswerTask content names task status output
   comes texts g h = inr (inr (texts, g, h))
 
   pub not_read : (kind : FileKind) → IsNamed names kind → (status ≡ ReadFault kind) × (output ≡ status_line (ReadFault kind)) → MayAnswerTask content names task status output

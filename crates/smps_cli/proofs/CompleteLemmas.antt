@@ -1,34 +1,54 @@
 -- A run that is asked for a report, and whose shelf didn't fail, comes to one.
-use Rattle.std.proofs.Common.{◌≡◌, ◌<◌, ◌≤◌, ℕ, List, length, Option, Some, None, inl, inr, refl, sym, ap, ◌∙◌, subst, arith}
+use Rattle.std.proofs.Common.{◌≡◌, ◌<◌, ℕ, List, length, Option, Some, None, inl, inr, refl, sym, ◌∙◌, subst, arith}
 use Rattle.smps_io.specs.Files.{Files, bytes_of}
-use Rattle.core_defs.specs.declared.cause.Cause.{Cause}
+use Rattle.smps_words.specs.Line.{reading_of}
+use Rattle.rationals.specs.Passes.{Operation}
+use Rattle.core_defs.specs.Fault.{IsCoreFile}
 use Rattle.core_defs.specs.declared.cause.Cause.TheVariants.{Passes}
+use Rattle.core_defs.specs.declared.cause.Refusal.{Refusal}
+use Rattle.core_defs.specs.declared.program.Core.{Core}
 use Rattle.command_words.specs.declared.command.Task.TheVariants.{Solve}
 use Rattle.command_words.specs.Commands.{Asked}
 use Rattle.command_words.specs.Commands.Asked.{OnFiles}
 use Rattle.input_files.specs.declared.kind.FileKind.{FileKind}
 use Rattle.input_files.specs.declared.kind.FileKind.TheVariants as kind
-use Rattle.input_files.specs.Fetched.{Texts, AreGiven, IsLong, name_of, file_limit}
+use Rattle.input_files.specs.Fetched.{Texts, AreGiven, IsGivenIf, IsLong, file_limit}
+use Rattle.program_files.specs.Edited.{RefusesFiles}
+use Rattle.program_files.proofs.MeaningLemmas.{texts_mean_one_program}
 use Rattle.smps_cli.specs.declared.status.Status.{Status}
 use Rattle.smps_cli.specs.declared.status.Status.TheVariants.{Done, SomeOpen, Words, Refused, TooLong, ReadFault, WriteFault, Memory}
-use Rattle.smps_cli.specs.Answers.{MayAnswer, MayAnswerFor, MayBeSolved}
+use Rattle.smps_cli.specs.Answers.{MayAnswer, MayAnswerFor}
 use Rattle.smps_cli.specs.Completes.{AsksForReport, EndsOrWantsMemory, alone}
-use Rattle.smps_cli.specs.Printed.{IsRefusedAt}
+use Rattle.smps_cli.specs.Solved.{MayBeSolved}
 
 module _ (content : Option Files) (words : List (List ℕ)) (asks : AsksForReport content words) where
-  refused : (line : ℕ) (cause : Cause) → IsRefusedAt (bytes_of asks.files asks.name) line cause → EndsOrWantsMemory (Refused kind.Core line cause)
-  refused line cause (inl unread) = absurd (unread.not_read asks.read)
-  refused line cause (inr passing) = inr (inr (inr (passing.operation, let l = passing.line_is in let c = passing.cause_is in cc)))
+  not_there : (text : Option (List ℕ)) → IsGivenIf (Some asks.files) None text → text ≡ None
+  not_there None given = refl
+  not_there (Some text) given = absurd given
 
-  by_status : (status : Status) (output : List ℕ) → MayBeSolved asks.budget.pivots (bytes_of asks.files asks.name) status output → EndsOrWantsMemory status
-  by_status Done output may = inl refl
-  by_status SomeOpen output may = inr (inl refl)
-  by_status Words output may = absurd may
-  by_status (Refused file line cause) output may = subst (λ (f : FileKind). EndsOrWantsMemory (Refused f line cause)) (sym may.0) (refused line cause may.1)
-  by_status (TooLong file) output may = absurd may
-  by_status (ReadFault file) output may = absurd may
-  by_status WriteFault output may = absurd may
-  by_status Memory output may = inr (inr (inl refl))
+  module _ (texts : Texts) (given : AreGiven (Some asks.files) (alone asks.name) texts) where
+    read : IsCoreFile (reading_of 0 texts.core).lines
+    read = subst (λ (bytes : List ℕ). IsCoreFile (reading_of 0 bytes).lines) (sym given.core.told) asks.read
+
+    passing : (file : FileKind) (refusal : Refusal) → (file ≡ kind.Core) × ((p : Operation) × (refusal ≡ record { line = 0; cause = Passes p }))
+        → EndsOrWantsMemory (Refused file refusal.line refusal.cause)
+    passing file refusal h = inr (inr (inr (h.1.0, λ i. Refused (h.0 i) (h.1.1 i).line (h.1.1 i).cause)))
+
+    refused : (file : FileKind) (refusal : Refusal) (known : Option Core) → RefusesFiles texts file refusal known → EndsOrWantsMemory (Refused file refusal.line refusal.cause)
+    refused file refusal known (inl fault) =
+        passing file refusal (texts_mean_one_program.alone texts (not_there texts.time given.time) (not_there texts.stoch given.stoch) read file refusal known fault)
+    refused file refusal known (inr (inl fault)) = let e = sym (not_there texts.edits given.edits) ∙ fault.text_is in absurd (cc)
+    refused file refusal known (inr (inr fault)) = let e = sym (not_there texts.report given.report) ∙ fault.text_is in absurd (cc)
+
+    by_status : (status : Status) (output : List ℕ) → MayBeSolved asks.budget texts status output → EndsOrWantsMemory status
+    by_status Done output may = inl refl
+    by_status SomeOpen output may = inr (inl refl)
+    by_status Words output may = absurd may
+    by_status (Refused file line cause) output may = refused file (record { line = line; cause = cause }) may.known may.refused
+    by_status (TooLong file) output may = absurd may
+    by_status (ReadFault file) output may = absurd may
+    by_status WriteFault output may = absurd may
+    by_status Memory output may = inr (inr (inl refl))
 
   not_long : (k : FileKind) → IsLong (Some asks.files) (alone asks.name) k → ⊥
   not_long kind.Core long =
@@ -45,7 +65,7 @@ module _ (content : Option Files) (words : List (List ℕ)) (asks : AsksForRepor
   by_command : (status : Status) (output : List ℕ) → ((file : FileKind) → status ≡ ReadFault file → ⊥) → MayAnswerFor (Some (OnFiles (alone asks.name) (Solve asks.budget))) (Some asks.files) status output → EndsOrWantsMemory status
   by_command status output given (inl fault) = absurd (given fault.0 fault.2)
   by_command status output given (inr (inl long)) = absurd (not_long long.0 long.1)
-  by_command status output given (inr (inr came)) = by_status status output (subst (λ (bytes : List ℕ). MayBeSolved asks.budget.pivots bytes status output) came.1.core.told came.2)
+  by_command status output given (inr (inr came)) = by_status came.0 came.1 status output came.2
 
   pub comes_to_a_report : (status : Status) (output : List ℕ) → ((file : FileKind) → status ≡ ReadFault file → ⊥) → MayAnswer content words status output → EndsOrWantsMemory status
   comes_to_a_report status output given may =

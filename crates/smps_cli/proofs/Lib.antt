@@ -1,5 +1,3 @@
-pub mod NodeLemmas
-pub mod PrintLemmas
 pub mod AnswerLemmas
 pub mod CompleteLemmas
 pub mod MeantLemmas

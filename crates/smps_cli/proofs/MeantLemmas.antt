@@ -1,20 +1,14 @@
 -- A run on files that mean a program, and whose shelf didn't fail, answers what it is asked for.
-use Rattle.std.proofs.Common.{◌≡◌, ◌<◌, ◌≤◌, ℕ, Bool, true, false, ◌&&◌, if◌then◌else◌, List, [], ◌∷◌, length, Option, Some, None, inl, inr, refl, sym, ap, ◌∙◌, subst, arith}
+use Rattle.std.proofs.Common.{◌≡◌, ◌<◌, ◌≤◌, ℕ, List, length, Option, Some, None, inl, inr, refl, sym, ap, ◌∙◌, subst, arith}
 use Rattle.smps_io.specs.Files.{Files, bytes_of}
-use Rattle.core_defs.specs.declared.cause.Cause.{Cause}
 use Rattle.core_defs.specs.declared.cause.Refusal.{Refusal}
 use Rattle.core_defs.specs.declared.program.Core.{Core}
-use Rattle.command_words.specs.declared.command.Budget.{Budget}
 use Rattle.command_words.specs.declared.command.Page.{Page}
 use Rattle.command_words.specs.declared.command.Plan.{Plan}
 use Rattle.command_words.specs.declared.command.Task.{Task}
 use Rattle.command_words.specs.declared.command.Task.TheVariants as task
-use Rattle.command_words.specs.declared.command.Verb.{Verb}
-use Rattle.command_words.specs.declared.command.Verb.TheVariants as verbs
-use Rattle.command_words.specs.declared.flag.Flag.TheVariants as flags
-use Rattle.command_words.specs.Words.{Given, then_some, settings_of, value_with, are_once, verb_named}
-use Rattle.command_words.specs.Commands.{FileNames, Asked, all_allowed, sources_by, task_of, plan_of, asked_with, command_with, command_of}
-use Rattle.command_words.specs.Commands.Asked.{OnFiles, MakeThis}
+use Rattle.command_words.specs.Commands.{FileNames, Asked}
+use Rattle.command_words.specs.Commands.Asked.{OnFiles}
 use Rattle.input_files.specs.declared.kind.FileKind.{FileKind}
 use Rattle.input_files.specs.declared.kind.FileKind.TheVariants as kind
 use Rattle.input_files.specs.Fetched.{Texts, IsGiven, IsGivenIf, AreGiven, IsLong, file_limit}
@@ -24,13 +18,12 @@ use Rattle.program_files.specs.Edited.{AreMeant, RefusesFiles}
 use Rattle.program_files.proofs.MeaningLemmas.{texts_mean_one_program}
 use Rattle.smps_cli.specs.declared.status.Status.{Status}
 use Rattle.smps_cli.specs.declared.status.Status.TheVariants.{Done, SomeOpen, Words, Refused, TooLong, ReadFault, WriteFault, Memory}
-use Rattle.smps_cli.specs.Answers.{MayAnswer, MayAnswerFor, MayBeSolved, MayCome, MaySolve}
+use Rattle.smps_cli.specs.Answers.{MayAnswer, MayAnswerFor, MayCome}
 use Rattle.smps_cli.specs.Checks.{PrintsChecks}
 use Rattle.smps_cli.specs.Ends.{MayEnd, RefusesTexts}
 use Rattle.smps_cli.specs.Makes.{PrintsSummary, MayMake, workload, texts_of}
-use Rattle.smps_cli.specs.Printed.{IsRefusedAt}
 use Rattle.smps_cli.specs.Shown.{PrintsProgram}
-use Rattle.smps_cli.specs.Trees.{PrintsReports}
+use Rattle.smps_cli.specs.Solved.{PrintsReports}
 use Rattle.smps_cli.specs.Completes.{AsksOfProgram, IsPageOrMeant, AsksForWorkload, AnswersOrWantsMemory}
 
 -- ---- what the shelf gives
@@ -75,57 +68,11 @@ module _ (files : Files) where
   not_long names texts g kind.Report long = not_over_if names.report texts.report long.0 long.1 g.report long.2
   not_long names texts g kind.Trace long = let e = long.1 in absurd (cc)
 
--- a file that isn't named gives no text
-not_given : (content : Option Files) (name text : Option (List ℕ)) → name ≡ None → IsGivenIf content name text → text ≡ None
-not_given content None None e g = refl
-not_given content None (Some text) e g = absurd g
-not_given content (Some name) None e g = absurd g
-not_given content (Some name) (Some text) e g = absurd (cc)
-
--- ---- a stoch file goes with a time file alone
-
-abbrev GoesAlone : Option Asked → Type 0
-GoesAlone None = Unit {0}
-GoesAlone (Some (OnFiles names asked)) = names.time ≡ None → names.stoch ≡ None
-GoesAlone (Some (MakeThis plan)) = Unit {0}
-
-then_alone : {A : Type 0} (o : Option A) (f : A → Option Asked) → ((x : A) → GoesAlone (f x)) → GoesAlone (then_some o f)
-then_alone None f h = tt
-then_alone (Some x) f h = h x
-
-sources_alone : (core time stoch edits report : Option (List ℕ)) (found : Option Task)
-    → GoesAlone (then_some (sources_by core time stoch edits report) (λ names. then_some found (λ asked. Some (OnFiles names asked))))
-sources_alone None time stoch edits report found = tt
-sources_alone (Some core) None (Some stoch) edits report found = tt
-sources_alone (Some core) None None edits report found = then_alone found _ (λ asked e. refl)
-sources_alone (Some core) (Some time) stoch edits report found = then_alone found _ (λ asked e. absurd (cc))
-
-asked_alone : (verb : Verb) (settings : List Given) → GoesAlone (asked_with verb settings)
-asked_alone verbs.Solve settings = sources_alone (value_with flags.Core settings) (value_with flags.Time settings) (value_with flags.Stoch settings) (value_with flags.Edits settings) (value_with flags.Report settings) (task_of verbs.Solve settings)
-asked_alone verbs.Check settings = sources_alone (value_with flags.Core settings) (value_with flags.Time settings) (value_with flags.Stoch settings) (value_with flags.Edits settings) (value_with flags.Report settings) (task_of verbs.Check settings)
-asked_alone verbs.Show settings = sources_alone (value_with flags.Core settings) (value_with flags.Time settings) (value_with flags.Stoch settings) (value_with flags.Edits settings) (value_with flags.Report settings) (task_of verbs.Show settings)
-asked_alone verbs.Make settings = then_alone (plan_of settings) (λ plan. Some (MakeThis plan)) (λ plan. tt)
-
-if_alone : (b : Bool) (asked : Option Asked) → GoesAlone asked → GoesAlone (if b then asked else None)
-if_alone true asked h = h
-if_alone false asked h = tt
-
-command_alone : (words : List (List ℕ)) → GoesAlone (command_of words)
-command_alone [] = tt
-command_alone (word ∷ words) =
-    then_alone (verb_named word) (λ verb. then_some (settings_of words) (command_with verb)) (λ verb.
-    then_alone (settings_of words) (command_with verb) (λ settings.
-    if_alone (all_allowed verb settings && are_once settings) (asked_with verb settings) (asked_alone verb settings)))
-
 -- ---- what the texts come to
 
 -- nothing is refused
 IsUnrefused : Texts → Type 0
 IsUnrefused texts = (file : FileKind) (refusal : Refusal) (known : Option Core) → RefusesFiles texts file refusal known → ⊥
-
--- nor a core file alone
-IsUnpassed : Texts → Type 0
-IsUnpassed texts = texts.time ≡ None → texts.stoch ≡ None → (line : ℕ) (cause : Cause) → IsRefusedAt texts.core line cause → ⊥
 
 module _ (texts : Texts) (sound : IsUnrefused texts) where
   by_end : (prints : Status → List ℕ → Type 0) (status : Status) (output : List ℕ) → MayEnd prints (RefusesTexts texts) status output → AnswersOrWantsMemory status
@@ -139,58 +86,23 @@ module _ (texts : Texts) (sound : IsUnrefused texts) where
   by_end prints WriteFault output may = absurd may
   by_end prints Memory output may = absurd may
 
-  module _ (fits : IsUnpassed texts) where
-    by_core : (pivots : ℕ) → texts.time ≡ None → texts.stoch ≡ None → (status : Status) (output : List ℕ) → MayBeSolved pivots texts.core status output → AnswersOrWantsMemory status
-    unfolding IsUnpassed
-    by_core pivots time stoch Done output may = inl refl
-    by_core pivots time stoch SomeOpen output may = inr (inl refl)
-    by_core pivots time stoch Words output may = absurd may
-    by_core pivots time stoch (Refused file line cause) output may = absurd (fits time stoch line cause may.1)
-    by_core pivots time stoch (TooLong file) output may = absurd may
-    by_core pivots time stoch (ReadFault file) output may = absurd may
-    by_core pivots time stoch WriteFault output may = absurd may
-    by_core pivots time stoch Memory output may = absurd may
-
-    by_solve : (budget : Budget) (time edits : Option (List ℕ)) → (time ≡ None → (texts.time ≡ None) × (texts.stoch ≡ None))
-        → (status : Status) (output : List ℕ) → MaySolve time edits budget texts status output → AnswersOrWantsMemory status
-    by_solve budget None None none status output may = by_core budget.pivots (none refl).0 (none refl).1 status output may
-    by_solve budget None (Some edits) none status output may = by_end (PrintsReports budget texts) status output may
-    by_solve budget (Some time) edits none status output may = by_end (PrintsReports budget texts) status output may
-
-    by_task : (names : FileNames) (asked : Task) → (names.time ≡ None → (texts.time ≡ None) × (texts.stoch ≡ None))
-        → (status : Status) (output : List ℕ) → MayCome names asked texts status output → AnswersOrWantsMemory status
-    by_task names (task.Solve budget) none status output may = by_solve budget names.time names.edits none status output may
-    by_task names task.Check none status output may = by_end (PrintsChecks texts) status output may
-    by_task names task.Show none status output may = by_end (PrintsProgram texts) status output may
+  by_task : (asked : Task) (status : Status) (output : List ℕ) → MayCome asked texts status output → AnswersOrWantsMemory status
+  by_task (task.Solve budget) status output may = by_end (PrintsReports budget texts) status output may
+  by_task task.Check status output may = by_end (PrintsChecks texts) status output may
+  by_task task.Show status output may = by_end (PrintsProgram texts) status output may
 
 meant_unrefused : (texts : Texts) → AreMeant texts → IsUnrefused texts
 unfolding IsUnrefused
 meant_unrefused texts meant = texts_mean_one_program.none_refused texts meant
 
-unpassed : (texts : Texts) → AreMeant texts → (line : ℕ) (cause : Cause) → texts.time ≡ None → texts.stoch ≡ None → IsRefusedAt texts.core line cause → ⊥
-unpassed texts meant line cause time stoch (inl unread) = unread.not_read meant.means.core_means.read
-unpassed texts meant line cause time stoch (inr passing) =
-    texts_mean_one_program.alone texts meant.program meant.means time stoch passing.core (record { read = passing.read; means = passing.means })
-    passing.operation passing.passes
-
-meant_unpassed : (texts : Texts) → AreMeant texts → IsUnpassed texts
-unfolding IsUnpassed
-meant_unpassed texts meant time stoch line cause = unpassed texts meant line cause time stoch
-
 module _ (content : Option Files) (words : List (List ℕ)) (asks : AsksOfProgram content words) where
-  alone : asks.names.time ≡ None → asks.names.stoch ≡ None
-  alone = subst GoesAlone asks.command (command_alone words)
-
   by_command : (status : Status) (output : List ℕ) → ((file : FileKind) → status ≡ ReadFault file → ⊥)
       → MayAnswerFor (Some (OnFiles asks.names asks.task)) (Some asks.files) status output → AnswersOrWantsMemory status
   by_command status output given (inl fault) = absurd (given fault.0 fault.2)
   by_command status output given (inr (inl long)) = absurd (not_long asks.files asks.names asks.texts asks.given long.0 long.1)
   by_command status output given (inr (inr came)) =
       let same : asks.texts ≡ came.0 = texts_are asks.files asks.names asks.texts came.0 asks.given came.1 in
-      by_task came.0 (subst IsUnrefused same (meant_unrefused asks.texts asks.meant)) (subst IsUnpassed same (meant_unpassed asks.texts asks.meant))
-      asks.names asks.task
-      (λ time. (not_given (Some asks.files) asks.names.time came.0.time time came.1.time, not_given (Some asks.files) asks.names.stoch came.0.stoch (alone time) came.1.stoch))
-      status output came.2
+      by_task came.0 (subst IsUnrefused same (meant_unrefused asks.texts asks.meant)) asks.task status output came.2
 
   pub comes_to_an_answer : (status : Status) (output : List ℕ) → ((file : FileKind) → status ≡ ReadFault file → ⊥) → MayAnswer content words status output → AnswersOrWantsMemory status
   comes_to_an_answer status output given may =

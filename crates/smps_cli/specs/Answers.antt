@@ -3,42 +3,25 @@ use Rattle.std.specs.Prelude.{◌≡◌, ◌⊎◌, ⊤, ℕ, List, length, Opti
 use Rattle.smps_io.specs.Faults.{RoseBy}
 use Rattle.smps_io.specs.Files.{Files}
 use Rattle.smps_io.specs.Puts.{Appends, AppendsPrefix}
-use Rattle.command_words.specs.declared.command.Budget.{Budget}
 use Rattle.command_words.specs.declared.command.Task.{Task}
 use Rattle.command_words.specs.declared.command.Task.TheVariants.{Solve, Check, Show}
 use Rattle.command_words.specs.Commands.{FileNames, Asked, command_of}
 use Rattle.command_words.specs.Commands.Asked.{OnFiles, MakeThis}
 use Rattle.input_files.specs.declared.kind.FileKind.{FileKind}
-use Rattle.input_files.specs.declared.kind.FileKind.TheVariants.{Core}
 use Rattle.input_files.specs.Fetched.{Texts, AreGiven, IsNamed, IsLong}
 use Rattle.smps_cli.specs.declared.status.Status.{Status}
 use Rattle.smps_cli.specs.declared.status.Status.TheVariants.{Done, SomeOpen, Words, Refused, TooLong, ReadFault, WriteFault, Memory}
 use Rattle.smps_cli.specs.Lines.{status_line}
-use Rattle.smps_cli.specs.Ends.{MayEnd}
-use Rattle.smps_cli.specs.Printed.{PrintsTrueReport, IsRefusedAt}
 use Rattle.smps_cli.specs.Shown.{MayBeShown}
-use Rattle.smps_cli.specs.Trees.{MayBeSolvedOnTree}
+use Rattle.smps_cli.specs.Solved.{MayBeSolved}
 use Rattle.smps_cli.specs.Checks.{MayBeChecked}
 use Rattle.smps_cli.specs.Makes.{MakesPlan}
 
--- What the bytes of a core file alone may come to, where so many pivots are allowed.
-abbrev pub MayBeSolved : ℕ → List ℕ → Status → List ℕ → Type 0
-MayBeSolved pivots bytes = MayEnd
-    (λ status output. PrintsTrueReport pivots bytes output status)
-    (λ file line cause output.
-    (file ≡ Core) × IsRefusedAt bytes line cause × (output ≡ status_line (Refused file line cause)))
-
--- What `solve` may come to: a core file alone is a program of one period; with a time file or an edit list it is one on a tree.
-abbrev pub MaySolve : Option (List ℕ) → Option (List ℕ) → Budget → Texts → Status → List ℕ → Type 0
-MaySolve None None budget texts status output = MayBeSolved budget.pivots texts.core status output
-MaySolve None (Some edits) budget texts status output = MayBeSolvedOnTree budget texts status output
-MaySolve (Some time) edits budget texts status output = MayBeSolvedOnTree budget texts status output
-
 -- What a task may come to on the texts of its files.
-abbrev pub MayCome : FileNames → Task → Texts → Status → List ℕ → Type 0
-MayCome names (Solve budget) texts status output = MaySolve names.time names.edits budget texts status output
-MayCome names Check texts status output = MayBeChecked texts status output
-MayCome names Show texts status output = MayBeShown texts status output
+abbrev pub MayCome : Task → Texts → Status → List ℕ → Type 0
+MayCome (Solve budget) texts status output = MayBeSolved budget texts status output
+MayCome Check texts status output = MayBeChecked texts status output
+MayCome Show texts status output = MayBeShown texts status output
 
 -- A file is too long, and the line says so.
 abbrev pub SaysTooLong : Option Files → FileNames → Status → List ℕ → Type 0
@@ -52,7 +35,7 @@ SaysReadFault names status output =
 
 -- A task comes to this on texts that the shelf gave for its files: those of the shelf, where it tells what it holds.
 abbrev pub ComesToThis : Option Files → FileNames → Task → Status → List ℕ → Type 0
-ComesToThis content names task status output = (texts : Texts) × AreGiven content names texts × MayCome names task texts status output
+ComesToThis content names task status output = (texts : Texts) × AreGiven content names texts × MayCome task texts status output
 
 abbrev pub MayAnswerTask : Option Files → FileNames → Task → Status → List ℕ → Type 0
 MayAnswerTask content names task status output =

@@ -38,7 +38,7 @@ pub record AsksForReport (content : Option Files) (words : List (List ℕ)) : Ty
   -- no line is at fault and no section is missing
   pub read : IsCoreFile (reading_of 0 (bytes_of files name)).lines
 
--- the command ended with a report; or an end of a row's interval doesn't fit into 128 bits; or memory was wanting
+-- the command ended with a report; or an operation passes in building, as that of an end of a row; or memory was wanting
 abbrev pub EndsOrWantsMemory : Status → Type 0
 EndsOrWantsMemory status =
     (status ≡ Done) ⊎ (status ≡ SomeOpen) ⊎ (status ≡ Memory) ⊎ ((p : Operation) × (status ≡ Refused Core 0 (Passes p)))

@@ -1,10 +1,9 @@
 pub mod Lines
 pub mod Sources
 pub mod Findings
-pub mod Printed
 pub mod Ends
 pub mod Inputs
-pub mod Trees
+pub mod Solved
 pub mod Checks
 pub mod Shown
 pub mod Makes

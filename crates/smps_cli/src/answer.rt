@@ -18,7 +18,6 @@ use crate::make::made;
 use crate::show::shown;
 use crate::solve::solved;
 use crate::status::Status;
-use crate::trees::solved_on_tree;
 use command_words::{Command, Sources, Task, read_words};
 use core_defs::Core;
 use frac128::Memory;
@@ -35,20 +34,13 @@ pub(crate) struct Answer {
 }
 
 /// What a task comes to on its texts.
-fn come(alloc: Global, sources: &Sources<'_>, task: Task, texts: &Texts) -> Result<Answer, Memory>
+fn come(alloc: Global, task: Task, texts: &Texts) -> Result<Answer, Memory>
     requires { AreWithin (texts_view texts.now) }
-    ensures may { IfOk result (λ answer.
-        MayCome (sources_view sources.now) task (texts_view texts.now) answer.status answer.output.items) }
+    ensures may { IfOk result (λ answer. MayCome task (texts_view texts.now) answer.status answer.output.items) }
     ensures has { IfOk result (λ answer. HasTexts answer.status) }
 {
     match task {
-        Task::Solve(budget) => {
-            if sources.time.is_none() && sources.edits.is_none() {
-                solved(alloc, &texts.core, budget.pivots)
-            } else {
-                solved_on_tree(alloc, texts, budget)
-            }
-        }
+        Task::Solve(budget) => solved(alloc, texts, budget),
         Task::Check => checked(alloc, texts),
         Task::Show => shown(alloc, texts),
     }
@@ -74,7 +66,7 @@ fn on_files<R: Runtime, H: Shelf>(
     ensures once { FetchesPrefix (H.fetches shelf.old) (names_in_order (sources_view sources.now)) (H.fetches shelf.new) }
 {
     match fetched_texts(rt, alloc, shelf, sources) {
-        Ok(texts) => come(alloc, sources, task, &texts),
+        Ok(texts) => come(alloc, task, &texts),
         Err(Unfetched::Failed(kind)) => one_line(alloc, Status::ReadFault(kind)),
         Err(Unfetched::TooLong(kind)) => one_line(alloc, Status::TooLong(kind)),
         Err(Unfetched::Memory) => Err(Memory),

@@ -12,7 +12,6 @@ mod status;
 #[cfg(test)]
 mod tests;
 mod top_call;
-mod trees;
 mod write;
 
 pub use input_files::FileKind;

@@ -12,8 +12,7 @@ ghost use Rattle.smps_cli.specs.Makes.{plan_line, size_line, summary_text};
 
 use crate::answer::Answer;
 use crate::refuse::stopped;
-use crate::solve::command_status;
-use crate::status::Status;
+use crate::status::{Status, command_status};
 use command_words::{Page, Plan};
 use frac128::Memory;
 use input_files::{FILE_LIMIT, Texts};

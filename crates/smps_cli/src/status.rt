@@ -1,14 +1,14 @@
 //! How a run ends, and the line that says so.
 ghost use Rattle.std.specs.Prelude.{◌≡◌, ◌++◌, ◌∷◌, IfOk, OnOk};
-ghost use Rattle.smps_cli.specs.Findings.{open_status};
+ghost use Rattle.smps_cli.specs.Findings.{command_status, is_open_finding, open_status};
 ghost use Rattle.smps_cli.specs.Lines.{file_word, row_name, column_name, numbered_text, values_text, refused_text};
 ghost use Rattle.smps_cli.specs.Lines.{line_with, status_line, status_number};
 
-use core_defs::Core;
+use core_defs::{Cause, Core};
 use frac128::{Memory, print};
 use input_files::FileKind;
-use mps_core::Cause;
 use report_text::print_operation;
+use scen_defs::Finding;
 use std::alloc::Global;
 
 /// The word by which a file is named in the lines of a run.
@@ -87,6 +87,23 @@ pub(crate) fn open_status(is_open: bool) -> Status
     } else {
         Status::Done
     }
+}
+
+/// Whether a report with this finding is open.
+pub(crate) fn is_open(finding: Finding) -> bool
+    ensures { result ≡ is_open_finding finding }
+{
+    match finding {
+        Finding::Optimal | Finding::Infeasible | Finding::Unbounded => false,
+        Finding::OpenSolves(_) | Finding::OpenPivots(_) | Finding::OpenPassed(_, _) => true,
+    }
+}
+
+/// How a command ends whose report has this finding.
+pub(crate) fn command_status(finding: Finding) -> Status
+    ensures { result ≡ command_status finding }
+{
+    open_status(is_open(finding))
 }
 
 fn line_of(alloc: Global, text: &str) -> Result<Vec<u8>, Memory>

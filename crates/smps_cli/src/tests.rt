@@ -23,7 +23,7 @@ use std::test::Fail;
 ///
 /// A `~` in a file stands for the columns of Beale's program, which cycles where ties are broken carelessly.
 ///
-/// Slack columns come behind the columns, one for each row: S1, S2. The path, where it isn't plain:
+/// Slack columns come behind the columns, one for each row: S1, S2. The path of the last solve, where it isn't plain:
 ///
 /// - tie: A comes in first, and both rows have the quotient 2. The row with the lesser artificial column
 ///   leaves, LIM1, and becomes A + B + S1 = 2, LIM2 becomes S2 - B - S1 = 0; S2 comes in there. The costs
@@ -33,9 +33,8 @@ use std::test::Fail;
 ///   S1: -1 + 2 = 1 and S2: 2, so the multipliers are -1 and -2.
 /// - the first that passes: the quotient of the only row is (2^127 - 1) / (1/2). In the program behind it
 ///   A comes in by LIM, with A = 2^127 - 1, and in the cost of the policy -2 times this passes.
-/// - of the direction: B comes in by LIM2, then C by LIM1, and A has the cost -L + L - L, row by row, with
-///   L = 2^127 - 1. No row bounds A, and the direction is A = B = C = 1, whose cost is, column by column,
-///   -L - L + L, and -L - L passes.
+/// - before the run for directions: the policy is 0. In that run the columns are at most 1, so where all multipliers are 0
+///   the value is at least -L for A and -L for B, with L = 2^127 - 1, and their sum passes.
 const RUNS: &str = "\
 solve --core F|sure|Done
 NAME MIX
@@ -194,7 +193,7 @@ LOWER none
 UPPER none
 END
 #solve --core F|whole|SomeOpen
-* of the direction
+* before the run for directions
 ROWS
  N COST
  L LIM1
@@ -208,7 +207,7 @@ COLUMNS
  C LIM1 1
 ENDATA
 |REPORT 1 NODES 1 SCENARIOS 1
-STATUS OPEN PASSED COST 1 ADD -170141183460469231731687303715884105727 -170141183460469231731687303715884105727
+STATUS OPEN PASSED GROUND ADD -170141183460469231731687303715884105727 -170141183460469231731687303715884105727
 LOWER none
 UPPER 0
 POLICY 0

@@ -4,7 +4,8 @@
 //!
 //! - an infeasible core: X comes in, and its bound leaves at 3; a sum of 2 is left.
 //! - without end behind phase one: X - Y = 1 and X at least 2 end phase one at X = 2, Y = 1.
-//! - in the value of the dual: NEED's multiplier is 1E19, times 2E19. The policy's cost adds the columns'
+//! - without end in a free column: X comes in by LIM at 4, then Y by its bound at 2, which makes X 6.
+//! - in the value of a cut: NEED's multiplier is 1E19, times 2E19. The policy's cost adds the columns'
 //!   costs 1E38, -1E38 and 1E38. In the program behind it the columns stand in another order.
 
 /// In the form of the runs.
@@ -352,9 +353,10 @@ ENDATA
 |REPORT 1 NODES 1 SCENARIOS 1
 STATUS UNBOUNDED
 LOWER none
-UPPER 2
+UPPER 8
 SLOPE -1
-POLICY 1
+POLICY 2
+0 X 6
 0 Y 2
 DIRECTION 1
 0 X -1
@@ -507,7 +509,7 @@ DUAL 1
 0 BOTH -1/2
 END
 #solve --core F|whole|SomeOpen
-* passes in the value of the dual
+* passes in the value of a cut
 ROWS
  N COST
  G NEED
@@ -522,7 +524,7 @@ BOUNDS
  UP BND X1 1E19
 ENDATA
 |REPORT 1 NODES 1 SCENARIOS 1
-STATUS OPEN PASSED DUAL MUL 10000000000000000000 20000000000000000000
+STATUS OPEN PASSED CUT 3 MUL 10000000000000000000 20000000000000000000
 LOWER none
 UPPER 100000000000000000000000000000000000000
 POLICY 3

@@ -1,9 +1,19 @@
 use Rattle.std.proofs.lemmas.Result.{IfOk-weaker}
-use Rattle.smps_cli.specs.Answers.{MayBeSolved}
-use Rattle.smps_cli.proofs.PrintLemmas.{may_be_answered}
+use Rattle.input_files.specs.Unfetched.{texts_view}
+use Rattle.smps_cli.specs.Solved.{MayBeSolved, PrintsReports, any_open}
+use Rattle.smps_cli.proofs.EndLemmas.{may_print, may_refuse}
 use Rattle.smps_cli.proofs.solve.solved.Goals as goal
 
 pub returns-in-Ok : goal.returns-in-Ok
-returns-in-Ok c = IfOk-weaker c.solved_core.result _ (λ answer. MayBeSolved c.args.pivots c.args.text.now answer.status answer.output.items)
-    (λ answer h. may_be_answered c.args.pivots c.args.text.now answer.output.items answer.status c.in-Ok.core c.in-Ok.ensures.faults c.in-Ok.ensures.means h)
-    c.solved_core.ensures
+returns-in-Ok c = IfOk-weaker c.solved_input.result _
+    (λ answer. MayBeSolved c.args.budget (texts_view c.args.texts.now) answer.status answer.output.items)
+    (λ answer h. may_print (PrintsReports c.args.budget (texts_view c.args.texts.now)) (texts_view c.args.texts.now) answer.output.items
+    answer.status (any_open h.tolds) h.ends h)
+    c.solved_input.ensures
+
+pub returns-in-Err : goal.returns-in-Err
+returns-in-Err c = IfOk-weaker c.stopped.result _
+    (λ answer. MayBeSolved c.args.budget (texts_view c.args.texts.now) answer.status answer.output.items)
+    (λ answer h. may_refuse (PrintsReports c.args.budget (texts_view c.args.texts.now)) (texts_view c.args.texts.now) answer.output.items
+    c.in-Err.unread c.in-Err.ensures.refused answer.status h)
+    c.stopped.ensures

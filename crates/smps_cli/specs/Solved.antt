@@ -1,4 +1,4 @@
--- What `solve` prints for a program on a tree.
+-- What `solve` prints.
 use Rattle.std.specs.Prelude.{◌≡◌, ℕ, Bool, false, ◌||◌, List, [], ◌∷◌}
 use Rattle.std.specs.List.{flat_map}
 use Rattle.scen_defs.specs.Program.{Program}
@@ -36,5 +36,5 @@ pub record PrintsReports (budget : Budget) (texts : Texts) (status : Status) (ou
   pub ends : status ≡ open_status (any_open tolds)
 
 -- What the texts of the files may come to: reports, or the first fault.
-abbrev pub MayBeSolvedOnTree : Budget → Texts → Status → List ℕ → Type 0
-MayBeSolvedOnTree budget texts = MayEnd (PrintsReports budget texts) (RefusesTexts texts)
+abbrev pub MayBeSolved : Budget → Texts → Status → List ℕ → Type 0
+MayBeSolved budget texts = MayEnd (PrintsReports budget texts) (RefusesTexts texts)

@@ -5,8 +5,8 @@ use Rattle.scen_defs.specs.Program.{content}
 use Rattle.input_files.specs.Unfetched.{texts_view}
 use Rattle.smps_session.specs.declared.told.Told.{Told}
 use Rattle.smps_cli.specs.Findings.{open_status}
-use Rattle.smps_cli.specs.Trees.{PrintsReports, told_text, any_open}
-use Rattle.smps_cli.proofs.trees.solved_input.Goals as goal
+use Rattle.smps_cli.specs.Solved.{PrintsReports, told_text, any_open}
+use Rattle.smps_cli.proofs.solve.solved_input.Goals as goal
 
 pub returns : goal.returns
 returns c =

@@ -1,9 +1,0 @@
-pub mod ListLemmas
-pub mod TruthLemmas
-pub mod SolvedLemmas
-pub mod Values
-pub mod Flat
-pub mod Plain
-pub mod Duals
-pub mod Policies
-pub mod FoundShows
