@@ -296,7 +296,7 @@ impl<'a> Machine<'a> {
             (_, None) => (Run::Cost, vec![Vec::new(); nodes]),
         };
         let mut cuts: Vec<Option<Arc<Cut>>> = vec![None; nodes];
-        for node in (1..nodes as u32).rev() {
+        for node in (0..nodes as u32).rev() {
             let datum = self.datum(next, node);
             let below = self.children[node as usize].iter().filter_map(|child| cuts[*child as usize].clone()).collect();
             match ground(&datum, self.totals[node as usize], &dual[node as usize], below) {

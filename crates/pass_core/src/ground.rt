@@ -137,7 +137,7 @@ impl State {
         }
     }
 
-    /// The cuts of all nodes but the root, which has no pool, from the greatest number on, by number.
+    /// The cuts of all nodes, from the greatest number on, by number.
     fn ground_cuts(
         &self,
         alloc: Global,
@@ -150,7 +150,7 @@ impl State {
     {
         let nodes = self.frame.nodes();
         let mut cuts = none(alloc, nodes)?;
-        for node in (1..nodes).rev() {
+        for node in (0..nodes).rev() {
             if !is_live(program, node) {
                 continue;
             }
