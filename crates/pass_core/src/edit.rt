@@ -83,6 +83,7 @@ impl State {
         ensures budget { self.new.budget ≡ self.old.budget }
         ensures reasons { OnOk result (IsUnstopped self.new) }
         ensures kind { OnOk result (self.new.kind ≡ Kind.Feasible) }
+        ensures points { OnOk result (self.new.lasts.nodes.items ≡ []) }
         // the table fits a machine of the program again, where it did so of the one before, and no node came or went untold
         ensures tabled { let p = content program.now in (q : ProgramOf) → IsTabled q self.old
             → (is_grown ≡ false → frame_of p ≡ self.old.frame) → length p.nodes < nothing
@@ -151,6 +152,7 @@ impl State {
         ensures budget { self.new.budget ≡ self.old.budget }
         ensures reasons { OnOk result (IsUnstopped self.new) }
         ensures kind { OnOk result (self.new.kind ≡ Kind.Feasible) }
+        ensures points { OnOk result (self.new.lasts.nodes.items ≡ []) }
         ensures unused { AreParents self.old.frame.parents → (self.old.is_begun ≡ false → is_grown ≡ false → IsUnused self.old)
             → OnOk result (IsUnused self.new) }
     {
@@ -172,6 +174,7 @@ impl State {
         ensures frame { self.new.frame ≡ self.old.frame }
         ensures budget { self.new.budget ≡ self.old.budget }
         ensures reasons { IsUnstopped self.old → IsUnstopped self.new }
+        ensures points { self.new.lasts ≡ self.old.lasts }
         ensures unused { AreParents self.old.frame.parents → (self.old.is_begun ≡ false → is_grown ≡ false → IsUnused self.old)
             → OnOk result (IsUnused self.new) }
     {
@@ -191,6 +194,7 @@ impl State {
         ensures frame { self.new.frame ≡ self.old.frame }
         ensures budget { self.new.budget ≡ self.old.budget }
         ensures reasons { IsUnstopped self.old → IsUnstopped self.new }
+        ensures points { self.new.lasts ≡ self.old.lasts }
         ensures unused { AreParents self.old.frame.parents → OnOk result (IsUnused self.new) }
     {
         let Some(table) = Turns::start(alloc, self.frame.parents())? else {

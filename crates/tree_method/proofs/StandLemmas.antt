@@ -7,7 +7,7 @@ use Rattle.smps_words.specs.declared.entry.Entry.TheVariants.{Cost, Matrix, Rhs}
 use Rattle.scen_defs.specs.Lists.{pick}
 use Rattle.scen_defs.specs.Program.{Node, Program, Scenario, view_of}
 use Rattle.scen_defs.specs.Valid.{IsProgram}
-use Rattle.scen_tree.specs.Trees.{Tree, children_from, position_of}
+use Rattle.scen_tree.specs.Trees.{Tree, tree_walk, children_from, position_of}
 use Rattle.scen_tree.specs.declared.position.Position.{Position}
 use Rattle.cut_defs.specs.Data.{bounds_of}
 use Rattle.cut_defs.specs.declared.datum.ColumnBounds.{ColumnBounds}
@@ -28,6 +28,8 @@ use Rattle.pass_core.specs.declared.budget.Budget.{Budget}
 use Rattle.pass_core.specs.Explained.{ComesOfSolve, PassesInRun, IsExplained, AreExplained, KeepsExplained}
 use Rattle.pass_core.specs.declared.state.State.{State}
 use Rattle.pass_core.specs.Tabled.{IsTabled, IsTabledBy, StepsTo}
+use Rattle.pass_core.specs.Turns.{PointsStand, MakesStep, begins_none, opens_run, solves}
+use Rattle.pass_core.proofs.Standing.{empty_stand}
 use Rattle.pass_core.proofs.Explaining.{unstopped_is_explained}
 use Rattle.tree_method.specs.declared.found.Found.{Found}
 use Rattle.tree_method.specs.declared.method.Working.{Working}
@@ -35,7 +37,7 @@ use Rattle.tree_method.specs.declared.method.Method.{Method}
 use Rattle.tree_method.specs.declared.method.Method.TheVariants.{Working as AtWork}
 use Rattle.tree_method.specs.Edited.{is_grown, KeepsTabled, IsEdited, HasNoTree}
 use Rattle.tree_method.specs.Laws.{TouchesCarry}
-use Rattle.tree_method.specs.Stands.{LeavesOpen, TellsWhy, WorksOn, StandsOn}
+use Rattle.tree_method.specs.Stands.{LeavesOpen, TellsWhy, WorksOn, StandsOn, SolvesNodes, more}
 use Rattle.tree_method.proofs.Standing.{touches_stand, versions_behind}
 
 -- ---- the frame
@@ -101,20 +103,44 @@ frame_behind p e false g f h = h ∙ sym (frame_stays p e g)
 -- ---- the method
 -- a step of its state
 pub works_still : (p : Program) (budget : Budget) (old new : Working) → new.tree ≡ old.tree → KeepsExplained p old.tree old.state new.state
-    → (IsProgram p → old.state.frame ≡ frame_of p → IsTabled p old.state → IsTabled p new.state) → WorksOn p budget old → WorksOn p budget new
-works_still p budget old new t k f w = record {
+    → (IsProgram p → old.state.frame ≡ frame_of p → IsTabled p old.state → IsTabled p new.state)
+    → (IsProgram p → tree_walk p ≡ Ok old.tree → old.state.frame ≡ frame_of p → IsTabled p old.state → PointsStand p old.state.lasts.nodes.items
+    → PointsStand p new.state.lasts.nodes.items)
+    → WorksOn p budget old → WorksOn p budget new
+works_still p budget old new t k f g w = record {
   tree = w.tree ∙ ap Ok (sym t);
   frame = k.0 ∙ w.frame;
   budget_is = k.1 ∙ w.budget_is;
   versions = subst (λ (vs : List Version). length p.nodes ≤ length vs) (sym k.2) w.versions;
   explained = subst (λ (tree : Tree). AreExplained p tree new.state) (sym t) (k.3 w.explained);
   tabled = λ i few. f i w.frame (w.tabled i few);
+  points = λ i few. g i w.tree w.frame (w.tabled i few) (w.points i few);
 }
 
 -- a step leaves the table fitting
 pub step_tabled : (p : Program) (old new : State) (told : Bool) → ((m : Machine) → IsTabledBy p old m → StepsTo p m told new)
     → IsTabled p old → IsTabled p new
 step_tabled p old new told step h = let s = step h.0 h.1 in (s.machine, s.tabled)
+
+-- and the points standing
+step_points : (p : Program) (old new : State) (m : Machine) (told : Bool) → MakesStep p old m new told → PointsStand p new.lasts.nodes.items
+step_points p old new m told (begins_none rests points) = points
+step_points p old new m told (opens_run closed opens points) = points
+step_points p old new m told (solves lasts n ready node) = node.points
+
+pub steps_points : (p : Program) (old new : State) (told : Bool)
+    → ((m : Machine) → IsTabledBy p old m → PointsStand p old.lasts.nodes.items → MakesStep p old m new told)
+    → IsTabled p old → PointsStand p old.lasts.nodes.items → PointsStand p new.lasts.nodes.items
+steps_points p old new told step h points = step_points p old new h.0 told (step h.0 h.1 points)
+
+-- one more step
+pub solves_more : (p : Program) (budget : Budget) (old : State) (w : Working) (new : State) (told : Bool) → IsProgram p → length p.nodes < nothing
+    → WorksOn p budget w → SolvesNodes p old w.state
+    → ((m : Machine) → tree_walk p ≡ Ok w.tree → w.state.frame ≡ frame_of p → IsTabledBy p w.state m → PointsStand p w.state.lasts.nodes.items
+    → MakesStep p w.state m new told)
+    → SolvesNodes p old new
+solves_more p budget old w new told i few works before step =
+    let t = works.tabled i few in more w.state new t.0 told before t.1 (step t.0 works.tree works.frame t.1 (works.points i few))
 
 -- an edit: its versions are in no table
 versions_tabled : (q : Program) (old new : State) → new ≡ record old { versions = new.versions } → IsTabled q old → IsTabled q new
@@ -154,6 +180,7 @@ works_behind p e budget old new i w h k = record {
   explained = unstopped_is_explained (after p e) new.tree new.state h.reasons;
   tabled = λ j few. k p (w.tabled i (let g : length p.nodes ≤ length (after p e).nodes = grows p e in omega (arith, g, few)))
       (λ g. frame_stays p e g ∙ sym w.frame) few;
+  points = λ j few. empty_stand (after p e) new.state.lasts.nodes.items h.points;
 }
 
 -- and what its touches carry

@@ -1,5 +1,5 @@
 -- The method behind an edit of its program: which pools are swept for what the edit touches.
-use Rattle.std.specs.Prelude.{◌≡◌, ◌<◌, Bool, true, false, length, List, Option, Ok, Err}
+use Rattle.std.specs.Prelude.{◌≡◌, ◌<◌, Bool, true, false, length, List, [], Option, Ok, Err}
 use Rattle.rationals.specs.Passes.{Operation}
 use Rattle.scen_defs.specs.Lists.{pick}
 use Rattle.scen_defs.specs.declared.report.Place.TheVariants.{Dual}
@@ -68,12 +68,14 @@ abbrev pub KeepsTabled : Program → Bool → State → State → Type 0
 KeepsTabled p grows old new = (q : Program) → IsTabled q old → (grows ≡ false → frame_of p ≡ old.frame) → length p.nodes < nothing
     → IsTabled p new
 
--- The method at work behind an edit of the program on which it was at work. Its frame is made anew where nodes came or went.
+-- The method at work behind an edit of the program on which it was at work. Its frame is made anew where nodes came or went, and no node
+-- has a last solve.
 pub record IsEdited (p : Program) (e : Edit) (old new : Working) : Type 0 where
   pub tree : tree_walk (after p e) ≡ Ok new.tree
   pub frame : new.state.frame ≡ pick (is_grown e) (frame_of (after p e)) old.state.frame
   pub budget : new.state.budget ≡ old.state.budget
   pub reasons : IsUnstopped new.state
+  pub points : new.state.lasts.nodes.items ≡ []
   pub versions : new.state.versions ≡ raised_versions p e old.state.versions
   pub pools : new.state.banks ≡ retired p e old.state.versions old.state.banks
 

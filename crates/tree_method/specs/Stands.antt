@@ -1,5 +1,5 @@
 -- On which program the method stands, why it leaves a report of it open, and how it goes on behind an edit.
-use Rattle.std.specs.Prelude.{◌≡◌, ◌⊎◌, ℕ, ◌<◌, ◌≤◌, length, Ok}
+use Rattle.std.specs.Prelude.{◌≡◌, ◌⊎◌, ℕ, ◌<◌, ◌≤◌, Bool, length, Ok}
 use Rattle.rationals.specs.Passes.{Operation}
 use Rattle.scen_defs.specs.Program.{Program}
 use Rattle.scen_defs.specs.Valid.{IsProgram}
@@ -14,7 +14,13 @@ use Rattle.pass_core.specs.declared.budget.Budget.{Budget}
 use Rattle.pass_table.specs.Machine.{Machine}
 use Rattle.pass_table.specs.Marks.{nothing}
 use Rattle.pass_core.specs.Explained.{ComesOfSolve, PassesInRun, AreExplained}
+use Rattle.pass_core.specs.declared.state.State.{State}
+use Rattle.pass_core.specs.Counting.{after_report}
 use Rattle.pass_core.specs.Tabled.{IsTabled, IsTabledBy, GoesBySteps}
+use Rattle.pass_core.specs.Turns.{PointsStand, MakesStep}
+use Rattle.run_ends.specs.declared.claims.Closed.{Closed}
+use Rattle.run_ends.specs.Settled.{settled, why_open}
+use Rattle.run_ends.specs.Claims.{closed_by}
 use Rattle.tree_method.specs.declared.found.Found.{Found}
 use Rattle.tree_method.specs.declared.method.Working.{Working}
 use Rattle.tree_method.specs.declared.method.Method.{Method}
@@ -53,7 +59,8 @@ pub record TellsWhy (p : Program) (budget : Budget) (found : Found) : Type 0 whe
 
 -- ---- the method
 -- at work on a program with this budget: the tree and the frame are the program's, there are versions of all its nodes, each reason
--- that is kept is explained, and the table fits a machine of the program, where that has no more nodes than a table has numbers for
+-- that is kept is explained, and, where the program has no more nodes than a table has numbers for, the table fits a machine of it, and the
+-- points of the last solves stand
 pub record WorksOn (p : Program) (budget : Budget) (w : Working) : Type 0 where
   pub tree : tree_walk p ≡ Ok w.tree
   pub frame : w.state.frame ≡ frame_of p
@@ -61,6 +68,7 @@ pub record WorksOn (p : Program) (budget : Budget) (w : Working) : Type 0 where
   pub versions : length p.nodes ≤ length w.state.versions
   pub explained : AreExplained p w.tree w.state
   pub tabled : IsProgram p → length p.nodes < nothing → IsTabled p w.state
+  pub points : IsProgram p → length p.nodes < nothing → PointsStand p w.state.lasts.nodes.items
 
 -- it is at work on the program, or tells why it can't be
 abbrev pub StandsOn : Program → Budget → Method → Type 0
@@ -74,6 +82,36 @@ WorksBySteps p (AtWork old) (AtWork new) =
     (m : Machine) → IsProgram p → old.state.frame ≡ frame_of p → IsTabledBy p old.state m → GoesBySteps p m new.state
 WorksBySteps p (AtWork old) (Idle why own) = ⊥
 WorksBySteps p (Idle why own) new = new ≡ Idle why own
+
+-- ---- what it solves
+-- programs of nodes are solved, one behind the other, from one state to another, with the openings of runs between them
+pub data SolvesNodes (p : Program) (old : State) : State → Type 0 where
+  none : SolvesNodes p old old
+  more : (mid new : State) (m : Machine) (told : Bool) → SolvesNodes p old mid → IsTabledBy p mid m → MakesStep p mid m new told
+      → SolvesNodes p old new
+
+-- the method has done nothing but that on the program
+abbrev pub WorksBySolves : Program → Method → Method → Type 0
+WorksBySolves p (AtWork old) (AtWork new) = SolvesNodes p old.state new.state
+WorksBySolves p (AtWork old) (Idle why own) = ⊥
+WorksBySolves p (Idle why own) new = Unit {0}
+
+-- what the closing of a report claims of a state
+abbrev pub closing : State → Closed
+closing s = closed_by (settled s.kind s.table.closed s.ends s.stop s.counts.since_report s.budget.solves) s.ends (why_open s.stop s.budget.solves)
+
+-- what is found is what the closing claims of a state to which such solves lead, and the method goes on with the state behind that
+pub record IsFoundBySolves (p : Program) (old new : State) (found : Found) : Type 0 where
+  pub before : State
+  pub solves : SolvesNodes p old before
+  pub claim : found.claim ≡ (closing before).claim
+  pub why : found.why ≡ (closing before).why
+  pub behind : new ≡ record before { stop = before.lasting; counts = after_report before.counts }
+
+abbrev pub FindsBySolves : Program → Method → Method → Found → Type 0
+FindsBySolves p (AtWork old) (AtWork new) found = IsFoundBySolves p old.state new.state found
+FindsBySolves p (AtWork old) (Idle why own) found = ⊥
+FindsBySolves p (Idle why own) new found = Unit {0}
 
 -- A method behind an edit of its program: one at work goes on, unless the program after the edit has no tree; one that couldn't go on
 -- begins with the program after the edit.

@@ -1,5 +1,5 @@
 //! How the method goes on behind an edit of its program.
-ghost use Rattle.std.specs.Prelude.{◌≡◌, IfOk, IfNone, OnOk, MatchOption};
+ghost use Rattle.std.specs.Prelude.{◌≡◌, [], IfOk, IfNone, OnOk, MatchOption};
 ghost use Rattle.scen_defs.specs.Program.{content};
 ghost use Rattle.scen_defs.specs.Valid.{IsProgram};
 ghost use Rattle.edit_defs.specs.After.{after};
@@ -69,6 +69,7 @@ impl Working {
         ensures frame { OnOk result (self.new.state.frame ≡ pick is_grown (frame_of (content program.now)) self.old.state.frame) }
         ensures budget { self.new.state.budget ≡ self.old.state.budget }
         ensures reasons { OnOk result (IsUnstopped self.new.state) }
+        ensures points { OnOk result (self.new.state.lasts.nodes.items ≡ []) }
         ensures versions { OnOk result (self.new.state.versions
             ≡ fit_versions is_grown (content program.now).nodes self.old.state.versions) }
         ensures banks { OnOk result (self.new.state.banks

@@ -1,13 +1,15 @@
 //! The nested method at work on a program.
-ghost use Rattle.std.specs.Prelude.{◌≡◌, IfOk, OnOk};
+ghost use Rattle.std.specs.Prelude.{◌≡◌, ◌<◌, length, IfOk, OnOk};
 ghost use Rattle.scen_defs.specs.Program.{content};
 ghost use Rattle.scen_defs.specs.Valid.{IsProgram, IsSmall};
 ghost use Rattle.run_data.specs.Frames.{frame_of};
 ghost use Rattle.pass_table.specs.Machine.{Machine};
+ghost use Rattle.pass_table.specs.Marks.{nothing};
 ghost use Rattle.pass_core.specs.declared.budget.Budget.{Budget as BudgetOf};
 ghost use Rattle.tree_method.specs.Edited.{IsTreeless};
 ghost use Rattle.pass_core.specs.Tabled.{IsTabledBy, GoesBySteps};
 ghost use Rattle.tree_method.specs.Stands.{WorksOn, StandsOn, WorksBySteps, TellsWhy};
+ghost use Rattle.tree_method.specs.Stands.{SolvesNodes, WorksBySolves, IsFoundBySolves, FindsBySolves};
 
 use crate::found::{Found, nothing};
 use frac128::Memory;
@@ -55,6 +57,8 @@ impl Working {
             → WorksOn p budget self.old → OnOk result (WorksOn p budget self.new) }
         ensures steps { let p = content program.now in (m : Machine) → IsProgram p → self.old.state.frame ≡ frame_of p
             → IsTabledBy p self.old.state m → OnOk result (GoesBySteps p m self.new.state) }
+        ensures solves { let p = content program.now in (budget : BudgetOf) → IsProgram p → length p.nodes < nothing
+            → WorksOn p budget self.old → OnOk result (SolvesNodes p self.old.state self.new.state) }
     {
         for _ in 0..u64::MAX {
             if self.state.is_ripe(work) || !self.state.advance(alloc, program, &self.tree)? {
@@ -72,6 +76,8 @@ impl Working {
             → WorksOn p budget self.old → OnOk result (WorksOn p budget self.new) }
         ensures steps { let p = content program.now in (m : Machine) → IsProgram p → self.old.state.frame ≡ frame_of p
             → IsTabledBy p self.old.state m → OnOk result (GoesBySteps p m self.new.state) }
+        ensures solves { let p = content program.now in (budget : BudgetOf) → IsProgram p → length p.nodes < nothing
+            → WorksOn p budget self.old → IfOk result (IsFoundBySolves p self.old.state self.new.state) }
     {
         self.run(alloc, program, ENDLESS)?;
         let place = Place::Cost(self.state.commits());
@@ -107,6 +113,9 @@ impl Method {
         ensures stays { let p = content program.now in (budget : BudgetOf)
             → StandsOn p budget self.old → OnOk result (StandsOn p budget self.new) }
         ensures steps { OnOk result (WorksBySteps (content program.now) self.old self.new) }
+        // where the method stands on the program, it solves programs of its nodes
+        ensures solves { let p = content program.now in (budget : BudgetOf) → IsProgram p → length p.nodes < nothing
+            → StandsOn p budget self.old → OnOk result (WorksBySolves p self.old self.new) }
     {
         match self {
             Method::Working(working) => working.run(alloc, program, work),
@@ -121,6 +130,9 @@ impl Method {
         ensures stays { let p = content program.now in (budget : BudgetOf)
             → StandsOn p budget self.old → OnOk result (StandsOn p budget self.new) }
         ensures steps { OnOk result (WorksBySteps (content program.now) self.old self.new) }
+        // where the method stands on the program, what it finds comes of solves of programs of its nodes
+        ensures solves { let p = content program.now in (budget : BudgetOf) → IsProgram p → length p.nodes < nothing
+            → StandsOn p budget self.old → IfOk result (FindsBySolves p self.old self.new) }
     {
         match self {
             Method::Working(working) => working.find(alloc, program),

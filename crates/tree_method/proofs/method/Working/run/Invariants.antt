@@ -1,11 +1,12 @@
-use Rattle.std.proofs.Common.{◌≡◌}
+use Rattle.std.proofs.Common.{◌≡◌, ◌<◌, length}
 use Rattle.scen_defs.specs.Program.{content}
 use Rattle.scen_defs.specs.Valid.{IsProgram}
 use Rattle.run_data.specs.Frames.{frame_of}
 use Rattle.pass_table.specs.Machine.{Machine}
+use Rattle.pass_table.specs.Marks.{nothing}
 use Rattle.pass_core.specs.declared.budget.Budget.{Budget}
 use Rattle.pass_core.specs.Tabled.{IsTabledBy, GoesBySteps}
-use Rattle.tree_method.specs.Stands.{WorksOn}
+use Rattle.tree_method.specs.Stands.{WorksOn, SolvesNodes}
 use Rattle.tree_method.proofs.method.Working.run.Given as goal
 
 abbrev pub invariant-loop : goal.invariant-loop
@@ -13,3 +14,5 @@ invariant-loop l = ((budget : Budget) → WorksOn (content l.program) budget l.f
     × ((m : Machine) → IsProgram (content l.program) → l.fn.self.state.frame ≡ frame_of (content l.program)
     → IsTabledBy (content l.program) l.fn.self.state m
     → GoesBySteps (content l.program) m l.self.state × (l.self.state.frame ≡ frame_of (content l.program)))
+    × ((budget : Budget) → IsProgram (content l.program) → length (content l.program).nodes < nothing → WorksOn (content l.program) budget l.fn.self
+    → SolvesNodes (content l.program) l.fn.self.state l.self.state)
