@@ -98,7 +98,8 @@ WorksBySolves p (Idle why own) new = Unit {0}
 
 -- what the closing of a report claims of a state
 abbrev pub closing : State → Closed
-closing s = closed_by (settled s.kind s.table.closed s.ends s.stop s.counts.since_report s.budget.solves) s.ends (why_open s.stop s.budget.solves)
+closing s =
+    closed_by (settled s.kind s.table.closed s.ends s.stop s.counts.since_report s.budget.solves) s.ends (why_open s.stop s.budget.solves)
 
 -- what is found is what the closing claims of a state to which such solves lead, and the method goes on with the state behind that
 pub record IsFoundBySolves (p : Program) (old new : State) (found : Found) : Type 0 where
