@@ -1,0 +1,12 @@
+use Rattle.std.proofs.Common.{IfOk, sym, subst}
+use Rattle.scen_defs.specs.Program.{Program, content}
+use Rattle.tree_method.specs.declared.method.Method.{Method}
+use Rattle.tree_method.specs.declared.method.Method.TheVariants.{Working as AtWork}
+use Rattle.tree_method.specs.Stands.{StandsOn, FindsBySolves}
+use Rattle.tree_method.proofs.method.Method.find.Goals as goal
+
+pub returns-in-Working-clause-solves : goal.returns-in-Working-clause-solves
+returns-in-Working-clause-solves c = λ budget i few s.
+    let p : Program = content c.args.program.now in
+    subst (λ (m : Method). IfOk c.find.result (FindsBySolves p m (AtWork c.find.new.self))) (sym c.in-Working.is)
+    (c.find.ensures.solves budget i few (subst (StandsOn p budget) c.in-Working.is s))
