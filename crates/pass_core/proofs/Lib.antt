@@ -1,6 +1,7 @@
 pub mod Explaining
 pub mod Standing
 pub mod TaskFits
+pub mod Beginning
 pub mod Closing
 pub mod Pooling
 pub mod Parentage

@@ -25,7 +25,7 @@ use Rattle.one_worker.specs.Parents.{AreParents}
 use Rattle.one_worker.specs.Turn.{AreChildren}
 use Rattle.pass_core.specs.declared.state.State.{State}
 use Rattle.pass_core.proofs.Pooling.{empty_length, edited_pools}
-use Rattle.pass_core.specs.Tabled.{pool_number, HasPools, IsUnused, IsTabled}
+use Rattle.pass_core.specs.Tabled.{pool_number, HasPools, IsUnused, IsTabled, IsTabledBy}
 
 no : {A : Type 0} → false ≡ true → A
 no e = absurd (cc)
@@ -199,18 +199,16 @@ first_machine p s = record {
   from = 0;
 }
 
-pub unused_tabled : (p : Program) (s : State) → IsProgram p → s.frame ≡ frame_of p → HasPools (length s.frame.parents) s.banks → IsUnused s → IsTabled p s
-unused_tabled p s i f pools unused = (
-  first_machine p s,
-  record {
-    valid = valid_start s.frame.parents (first_machine p s) rising start rooted;
-    fits = unused (first_machine p s) start;
-    idle = λ w. refl;
-    machine = record { live = λ n. refl; parent = refl; number = λ n. refl };
-    pools = pools;
-    unused = λ e. unused;
-  },
-)
+pub first_tabled : (p : Program) (s : State) → IsProgram p → s.frame ≡ frame_of p → HasPools (length s.frame.parents) s.banks → IsUnused s
+    → IsTabledBy p s (first_machine p s)
+first_tabled p s i f pools unused = record {
+  valid = valid_start s.frame.parents (first_machine p s) rising start rooted;
+  fits = unused (first_machine p s) start;
+  idle = λ w. refl;
+  machine = record { live = λ n. refl; parent = refl; number = λ n. refl };
+  pools = pools;
+  unused = λ e. unused;
+}
   where
     at : (n : ℕ) → get_or s.frame.parents n 0 ≡ get_or (map parent_of p.nodes) n 0
     at n = ap (λ (x : Frame). get_or x.parents n 0) f
@@ -238,6 +236,9 @@ unused_tabled p s i f pools unused = (
         let h = live_below p i n l low in
         let e : h.0 ≡ get_or s.frame.parents n 0 = sym h.1.1 ∙ sym (parent_at p.nodes n l) ∙ sym (at n) in
         subst (λ (k : ℕ). passes_at is_live k p.nodes ≡ true) e h.1.0.live
+
+unused_tabled : (p : Program) (s : State) → IsProgram p → s.frame ≡ frame_of p → HasPools (length s.frame.parents) s.banks → IsUnused s → IsTabled p s
+unused_tabled p s i f pools unused = (first_machine p s, first_tabled p s i f pools unused)
 
 -- the table of one worker, and empty pools
 pub started : (p : Program) (s : State) (frame : Frame) (parents : List ℕ) (nodes : ℕ) (table : Option Table) → IsProgram p → s.frame ≡ frame → frame ≡ frame_of p

@@ -10,7 +10,9 @@ use Rattle.run_data.specs.Frames.{frame_of}
 use Rattle.pass_table.specs.declared.table.Table.{Table}
 use Rattle.pass_table.specs.Machine.{Flight, Machine, IsClosed, MayBegin}
 use Rattle.run_ends.specs.declared.last.Lasts.{Lasts}
+use Rattle.pass_core.specs.declared.state.Counts.{Counts}
 use Rattle.pass_core.specs.declared.state.State.{State}
+use Rattle.pass_core.specs.Counting.{with_commit}
 use Rattle.pass_core.specs.Tabled.{HasRoom, EndsSolve, EndsBegun, IsBegunBy, Opens}
 use Rattle.pass_core.specs.Turns.{PointsStand, KeepsPoints, IsTaskOf, EndsBy, SolvesNode, AreReady, MakesStep}
 use Rattle.pass_core.specs.Turns.MakesStep.{begins_none, opens_run, solves}
@@ -20,20 +22,25 @@ pub on_both : {X E : Type 0} (r : Result X E) (A B C : Type 0) → (A → B → 
 on_both (Ok x) A B C f a b = f a b
 on_both (Err e) A B C f a b = tt
 
-pub solved_by : (p : Program) (s : State) (m : Machine) (n : ℕ) (i : IsProgram p) (frame : s.frame ≡ frame_of p) (b : IsBegunBy p s m n) (t : Task) (all : Solved)
-    (new : State) {X E : Type 0} (r : Result X E) → IsTaskOf p s n t → IsProblem (problem_of t) → PointsStand p s.lasts.nodes.items → all ≡ node_solved t
-    → OnOk r (EndsSolve (EndsBy t.trial all) s new (read_machine p s m n i frame b) (begun_flight p s m n i frame b)) → OnOk r (KeepsPoints p s new)
+-- a solve that is counted
+pub solved_by : (p : Program) (s : State) (counts : Counts) (m : Machine) (n : ℕ) (i : IsProgram p) (frame : s.frame ≡ frame_of p)
+    (b : IsBegunBy p (record s { counts = counts }) m n) (t : Task) (all : Solved) (new : State) {X E : Type 0} (r : Result X E)
+    → counts ≡ with_commit s.counts → IsTaskOf p s n t → IsProblem (problem_of t) → PointsStand p s.lasts.nodes.items → all ≡ node_solved t
+    → OnOk r (EndsSolve (EndsBy t.trial all) (record s { counts = counts }) new (read_machine p (record s { counts = counts }) m n i frame b)
+    (begun_flight p (record s { counts = counts }) m n i frame b)) → OnOk r (KeepsPoints p (record s { counts = counts }) new)
     → OnOk r (SolvesNode p s m n new)
-solved_by p s m n i frame b t all new r task problem stand exact ends points =
-    let rm = read_machine p s m n i frame b in
-    let bf = begun_flight p s m n i frame b in
-    on_both r (EndsSolve (EndsBy t.trial all) s new rm bf) (KeepsPoints p s new) (SolvesNode p s m n new)
+solved_by p s counts m n i frame b t all new r raised task problem stand exact ends points =
+    let counted : State = record s { counts = counts } in
+    let rm = read_machine p counted m n i frame b in
+    let bf = begun_flight p counted m n i frame b in
+    on_both r (EndsSolve (EndsBy t.trial all) counted new rm bf) (KeepsPoints p counted new) (SolvesNode p s m n new)
     (λ e k. record {
       task = t;
       is_task = task;
       fits = problem;
-      ends = solve_ends p s m n i frame b (EndsBy t.trial (node_solved t)) new (told_ends t.trial (node_solved t) all s new rm bf (sym exact) e);
+      ends = solve_ends p counted m n i frame b (EndsBy t.trial (node_solved t)) new (told_ends t.trial (node_solved t) all counted new rm bf (sym exact) e);
       points = k stand;
+      counts = e.run.counts ∙ raised;
     }) ends points
 
 -- the task is the same where the table changes
@@ -41,7 +48,7 @@ task_before : (p : Program) (s : State) (table : Table) (n : ℕ) (t : Task) →
 task_before p s table n t h = record { kind = h.kind; datum = h.datum; trial = h.trial; cuts = h.cuts; pivots = h.pivots }
 
 pub solves_before : (p : Program) (s : State) (table : Table) (m : Machine) (n : ℕ) (new : State) → SolvesNode p (record s { table = table }) m n new → SolvesNode p s m n new
-solves_before p s table m n new h = record { task = h.task; is_task = task_before p s table n h.task h.is_task; fits = h.fits; ends = h.ends; points = h.points }
+solves_before p s table m n new h = record { task = h.task; is_task = task_before p s table n h.task h.is_task; fits = h.fits; ends = h.ends; points = h.points; counts = h.counts }
 
 -- a turn as a step
 task_ready : (p : Program) (old s : State) (n : ℕ) (t : Task) → s ≡ record old { lasts = s.lasts; is_begun = s.is_begun } → IsTaskOf p s n t
@@ -51,5 +58,11 @@ task_ready p old s n t e h =
 
 pub step_solved : (p : Program) (old s : State) (m : Machine) (n : ℕ) (new : State) → s ≡ record old { lasts = s.lasts; is_begun = s.is_begun } → AreReady old s.lasts
     → SolvesNode p s m n new → MakesStep p old m new true
-step_solved p old s m n new e ready h = solves s.lasts n ready
-    (record { task = h.task; is_task = task_ready p old s n h.task e h.is_task; fits = h.fits; ends = h.ends; points = h.points })
+step_solved p old s m n new e ready h = solves s.lasts n ready (record {
+  task = h.task;
+  is_task = task_ready p old s n h.task e h.is_task;
+  fits = h.fits;
+  ends = h.ends;
+  points = h.points;
+  counts = h.counts ∙ ap (λ (x : State). with_commit x.counts) e;
+})

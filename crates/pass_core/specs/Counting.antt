@@ -27,6 +27,10 @@ with_commit c = record {
 abbrev pub after_report : Counts → Counts
 after_report c = record c { since_report = 0; since_item = 0 }
 
+-- the counts after an edit
+abbrev pub after_edit : Counts → Counts
+after_edit c = record c { since_item = 0 }
+
 -- the first of two reasons
 abbrev pub first_stop : Option Open → Open → Option Open
 first_stop None why = Some why

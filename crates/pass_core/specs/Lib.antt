@@ -1,3 +1,4 @@
+pub mod Beginning
 pub mod Counting
 pub mod Versions
 pub mod Explained

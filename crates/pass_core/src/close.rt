@@ -1,5 +1,5 @@
 //! Whether anything is left to find, and what the report is to say.
-ghost use Rattle.std.specs.Prelude.{◌≡◌, ◌≤◌, ◌↔◌, ◌||◌, ℕ, leb, None, Some, IfOk, OnOk, OnErr, IsTrue, IsSome, is_some};
+ghost use Rattle.std.specs.Prelude.{◌≡◌, ◌≤◌, ◌↔◌, ◌||◌, ℕ, leb, None, Some, IfOk, IsTrue, IsSome, is_some};
 ghost use Rattle.scen_defs.specs.Program.{Program};
 ghost use Rattle.scen_tree.specs.Trees.{Tree};
 ghost use Rattle.proved_report.specs.declared.open.Open.{Open as OpenOf};
@@ -78,44 +78,41 @@ impl State {
         self.counts.since_item >= work || self.settled().is_some()
     }
 
-    /// What was found, with the lists that show it. The next report may take as many solves again; what stopped the method stays only
-    /// where no later step of the run would do it again.
-    pub fn close(&mut self, alloc: Global) -> Result<Closed, Memory>
-        ensures claim { let s = self.old in
-            let case = settled s.kind s.table.closed s.ends s.stop s.counts.since_report s.budget.solves in
-            IfOk result (λ closed. closed ≡ closed_by case s.ends (why_open s.stop s.budget.solves)) }
-        ensures why { IfOk result (λ closed. IsReason self.old.ends (why_open self.old.stop self.old.budget.solves) closed.why) }
-        // where nothing stopped the method and a number of solves is told, it is the number that was allowed
-        ensures allowed { IfOk result (λ closed. (n : ℕ) → self.old.stop ≡ None → closed.why ≡ Open.Solves n
-            → n ≡ self.old.budget.solves) }
-        // and where nothing else was found, at least that many were counted since the last report
-        ensures counted { let s = self.old in
-            let case = settled s.kind s.table.closed s.ends s.stop s.counts.since_report s.budget.solves in
-            case ≡ Some Settled.Spent → s.budget.solves ≤ s.counts.since_report }
-        // where the method was stopped, that is told, or the operation in which the multipliers' assembly ends
-        ensures stopped { IfOk result (λ closed. (w : OpenOf) → self.old.stop ≡ Some w → IsReason self.old.ends w closed.why) }
-        // it is explained by a program and a tree that explain what stopped the method, and so is what is kept of that
-        ensures explained { (p : Program) (tree : Tree) → AreExplained p tree self.old
-            → IfOk result (λ closed. IsExplained p self.old.frame tree self.old.budget closed.why) }
-        ensures kept { (p : Program) (tree : Tree) → OnOk result (KeepsExplained p tree self.old self.new) }
-        ensures state { OnOk result (self.new ≡ record self.old { stop = self.old.lasting; counts = after_report self.old.counts }) }
-        ensures tabled { (p : Program) (m : Machine) → IsTabledBy p self.old m → OnOk result (IsTabledBy p self.new m) }
-        ensures err { OnErr result (self.new ≡ self.old) }
-    {
-        let closed = self.found(alloc)?;
-        self.stop = self.lasting;
-        self.counts.since_report = 0;
-        self.counts.since_item = 0;
-        Ok(closed)
-    }
-
     /// What was found, with the lists that show it.
-    fn found(&self, alloc: Global) -> Result<Closed, Memory>
+    pub fn found(&self, alloc: Global) -> Result<Closed, Memory>
         ensures claim { let s = self.now in
             let case = settled s.kind s.table.closed s.ends s.stop s.counts.since_report s.budget.solves in
             IfOk result (λ closed. closed ≡ closed_by case s.ends (why_open s.stop s.budget.solves)) }
         ensures why { IfOk result (λ closed. IsReason self.now.ends (why_open self.now.stop self.now.budget.solves) closed.why) }
+        // where nothing stopped the method and a number of solves is told, it is the number that was allowed
+        ensures allowed { IfOk result (λ closed. (n : ℕ) → self.now.stop ≡ None → closed.why ≡ Open.Solves n
+            → n ≡ self.now.budget.solves) }
+        // where the method was stopped, that is told, or the operation in which the multipliers' assembly ends
+        ensures stopped { IfOk result (λ closed. (w : OpenOf) → self.now.stop ≡ Some w → IsReason self.now.ends w closed.why) }
+        // it is explained by a program and a tree that explain what stopped the method
+        ensures explained { (p : Program) (tree : Tree) → AreExplained p tree self.now
+            → IfOk result (λ closed. IsExplained p self.now.frame tree self.now.budget closed.why) }
     {
-        claimed(alloc, self.settled(), &self.ends, self.why())
+        let closed = claimed(alloc, self.settled(), &self.ends, self.why())?;
+        Ok(closed)
+    }
+
+    /// A report was told. The next one may take as many solves again; what stopped the method stays only where no later step of the run
+    /// would do it again.
+    pub fn close(&mut self)
+        ensures state { self.new ≡ record self.old { stop = self.old.lasting; counts = after_report self.old.counts } }
+        ensures kept { (p : Program) (tree : Tree) → KeepsExplained p tree self.old self.new }
+        ensures tabled { (p : Program) (m : Machine) → IsTabledBy p self.old m → IsTabledBy p self.new m }
+    {
+        self.stop = self.lasting;
+        self.counts.since_report = 0;
+        self.counts.since_item = 0;
+    }
+
+    /// Whether as many solves were counted since the last report as are allowed.
+    pub fn is_spent(&self) -> bool
+        ensures { result ≡ leb self.now.budget.solves self.now.counts.since_report }
+    {
+        self.counts.since_report >= self.budget.solves
     }
 }

@@ -39,7 +39,7 @@ fn solve_place(in_cut: bool, solve: u64) -> Place
 }
 
 impl State {
-    /// Takes what a solve gave: its cut is offered to the node's pool, and its point becomes the node's last one.
+    /// Takes what a solve gave, which is counted: its cut is offered to the node's pool, and its point becomes the node's last one.
     pub(crate) fn commit(
         &mut self,
         alloc: Global,
@@ -57,7 +57,6 @@ impl State {
         ensures points { (p : ProgramOf) → AreUpTo p (node_at p.nodes node).stage begun.now.task.trial
             → IfSome (point_found solved) (AreUpTo p (node_at p.nodes node).stage) → OnOk result (KeepsPoints p self.old self.new) }
     {
-        self.counts.raise();
         match solved {
             Solved::Point { point, value, cut } => {
                 self.point(node, begun, point, value, cut)?;

@@ -9,6 +9,7 @@ ghost use Rattle.run_data.specs.Frames.{frame_of};
 ghost use Rattle.pass_core.specs.Versions.{next_version, with_next, next_touch, next_touches, next_versions};
 ghost use Rattle.pass_table.specs.Marks.{nothing};
 ghost use Rattle.one_worker.specs.Parents.{AreParents};
+ghost use Rattle.pass_core.specs.Counting.{after_edit};
 ghost use Rattle.pass_core.specs.Explained.{IsUnstopped};
 ghost use Rattle.pass_core.specs.Tabled.{IsTabled, IsUnused};
 
@@ -84,6 +85,7 @@ impl State {
         ensures reasons { OnOk result (IsUnstopped self.new) }
         ensures kind { OnOk result (self.new.kind ≡ Kind.Feasible) }
         ensures points { OnOk result (self.new.lasts.nodes.items ≡ []) }
+        ensures counts { OnOk result (self.new.counts ≡ after_edit self.old.counts) }
         // the table fits a machine of the program again, where it did so of the one before, and no node came or went untold
         ensures tabled { let p = content program.now in (q : ProgramOf) → IsTabled q self.old
             → (is_grown ≡ false → frame_of p ≡ self.old.frame) → length p.nodes < nothing
@@ -105,6 +107,7 @@ impl State {
         ensures budget { self.new.budget ≡ self.old.budget }
         ensures table { self.new.table ≡ self.old.table }
         ensures begun { self.new.is_begun ≡ self.old.is_begun }
+        ensures counts { self.new.counts ≡ self.old.counts }
     {
         if !is_grown {
             return Ok(());
@@ -122,6 +125,7 @@ impl State {
         ensures budget { self.new.budget ≡ self.old.budget }
         ensures table { self.new.table ≡ self.old.table }
         ensures begun { self.new.is_begun ≡ self.old.is_begun }
+        ensures counts { self.new.counts ≡ self.old.counts }
     {
         for due in dues {
             self.sweep_for(alloc, due)?;
@@ -137,6 +141,7 @@ impl State {
         ensures budget { self.new.budget ≡ self.old.budget }
         ensures table { self.new.table ≡ self.old.table }
         ensures begun { self.new.is_begun ≡ self.old.is_begun }
+        ensures counts { self.new.counts ≡ self.old.counts }
     {
         if !self.banks.sweep(alloc, due)? {
             self.stuck();
@@ -153,6 +158,7 @@ impl State {
         ensures reasons { OnOk result (IsUnstopped self.new) }
         ensures kind { OnOk result (self.new.kind ≡ Kind.Feasible) }
         ensures points { OnOk result (self.new.lasts.nodes.items ≡ []) }
+        ensures counts { OnOk result (self.new.counts ≡ after_edit self.old.counts) }
         ensures unused { AreParents self.old.frame.parents → (self.old.is_begun ≡ false → is_grown ≡ false → IsUnused self.old)
             → OnOk result (IsUnused self.new) }
     {
@@ -175,6 +181,7 @@ impl State {
         ensures budget { self.new.budget ≡ self.old.budget }
         ensures reasons { IsUnstopped self.old → IsUnstopped self.new }
         ensures points { self.new.lasts ≡ self.old.lasts }
+        ensures counts { self.new.counts ≡ self.old.counts }
         ensures unused { AreParents self.old.frame.parents → (self.old.is_begun ≡ false → is_grown ≡ false → IsUnused self.old)
             → OnOk result (IsUnused self.new) }
     {
@@ -195,6 +202,7 @@ impl State {
         ensures budget { self.new.budget ≡ self.old.budget }
         ensures reasons { IsUnstopped self.old → IsUnstopped self.new }
         ensures points { self.new.lasts ≡ self.old.lasts }
+        ensures counts { self.new.counts ≡ self.old.counts }
         ensures unused { AreParents self.old.frame.parents → OnOk result (IsUnused self.new) }
     {
         let Some(table) = Turns::start(alloc, self.frame.parents())? else {

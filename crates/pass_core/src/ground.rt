@@ -81,6 +81,7 @@ impl State {
         ensures tabled { (p : ProgramOf) (m : Machine) → IsTabledBy p self.old m → self.old.is_begun ≡ true → m.run + 1 < 2 ^ 64
             → OnOk result (Opens p m self.new) }
         ensures points { (p : ProgramOf) → OnOk result (KeepsPoints p self.old self.new) }
+        ensures counts { OnOk result (self.new.counts ≡ self.old.counts) }
     {
         let kind = next(self.kind);
         match self.first_cuts(alloc, program, tree, kind) {
@@ -194,6 +195,7 @@ impl State {
         ensures tabled { (p : ProgramOf) (m : Machine) → IsTabledBy p self.old m → self.old.is_begun ≡ true → m.run + 1 < 2 ^ 64
             → OnOk result (Opens p m self.new) }
         ensures points { (p : ProgramOf) → OnOk result (KeepsPoints p self.old self.new) }
+        ensures counts { OnOk result (self.new.counts ≡ self.old.counts) }
     {
         self.put_all(kind, &cuts)?;
         self.kind = kind;

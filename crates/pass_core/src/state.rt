@@ -1,5 +1,5 @@
 //! What is known of a program, and the next step.
-ghost use Rattle.std.specs.Prelude.{◌≡◌, ◌≤◌, [], None, Ok, length, true, IfOk, IfSome, IsSomeAnd, OnOk};
+ghost use Rattle.std.specs.Prelude.{◌≡◌, ◌⊎◌, ◌<◌, Ok, length, true, IfOk, IfSome, IsSome, IsSomeAnd, OnOk};
 ghost use Rattle.scen_defs.specs.Program.{content, Program as ProgramOf};
 ghost use Rattle.scen_tree.specs.Trees.{Tree as TreeOf, tree_walk};
 ghost use Rattle.scen_defs.specs.Valid.{IsSmall, IsProgram, Lives};
@@ -7,8 +7,9 @@ ghost use Rattle.run_data.specs.Frames.{frame_of, children_in};
 ghost use Rattle.cut_banks.specs.Banks.{pools_of};
 ghost use Rattle.cut_banks.specs.Pools.{numbers_read};
 ghost use Rattle.pass_table.specs.Machine.{Machine};
+ghost use Rattle.pass_table.specs.Marks.{nothing};
 ghost use Rattle.pass_core.specs.Counting.{no_commits, with_commit, first_stop, first_or};
-ghost use Rattle.run_ends.specs.Ends.{no_ends};
+ghost use Rattle.pass_core.specs.Beginning.{IsBeginning, StartsOver};
 ghost use Rattle.pass_core.specs.Explained.{IsDatumOf, KeepsExplained};
 ghost use Rattle.pass_core.specs.Tabled.{IsTabled, IsTabledBy, StepsTo, IsBegunBy, EndsBegun};
 ghost use Rattle.pass_core.specs.Turns.{PointsStand, KeepsPoints, IsTaskOf, EndsAnyhow, SolvesNode, AreReady, MakesStep};
@@ -98,16 +99,10 @@ pub(crate) struct Begun {
 impl State {
     /// The state before any solve. None where the program's nodes aren't numbered from the root on.
     pub fn start(alloc: Global, program: &Program, budget: Budget) -> Result<Option<State>, Memory>
-        ensures stop { IfOk result (λ all. IfSome all (λ s. s.stop ≡ None)) }
-        ensures lasting { IfOk result (λ all. IfSome all (λ s. s.lasting ≡ None)) }
-        ensures ends { IfOk result (λ all. IfSome all (λ s. s.ends ≡ no_ends)) }
-        ensures points { IfOk result (λ all. IfSome all (λ s. s.lasts.nodes.items ≡ [])) }
-        ensures budget { IfOk result (λ all. IfSome all (λ s. s.budget ≡ budget)) }
-        ensures frame { let p = content program.now in
-            IsSmall p → IfOk result (λ all. IfSome all (λ s. s.frame ≡ frame_of p)) }
-        ensures versions { let p = content program.now in
-            IsSmall p → IfOk result (λ all. IfSome all (λ s. length p.nodes ≤ length s.versions)) }
+        ensures beginning { let p = content program.now in IsSmall p → IfOk result (λ all. IfSome all (IsBeginning p budget)) }
+        ensures counts { IfOk result (λ all. IfSome all (λ s. s.counts ≡ no_commits)) }
         ensures tabled { let p = content program.now in IsProgram p → IfOk result (λ all. IfSome all (IsTabled p)) }
+        ensures some { let p = content program.now in IsProgram p → length p.nodes < nothing → IfOk result (λ all. IsSome all) }
     {
         let frame = Frame::of(alloc, program)?;
         let Some(table) = Turns::start(alloc, frame.parents())? else {
@@ -128,6 +123,21 @@ impl State {
             counts: Counts::none(),
             is_begun: false,
         }))
+    }
+
+    /// Forgets all that was found, the cuts too, so that the program is begun anew. The solves stay counted.
+    pub fn start_over(&mut self, alloc: Global, program: &Program) -> Result<(), Memory>
+        // or it does nothing, where the program's nodes aren't numbered from the root on
+        ensures over { let p = content program.now in IsSmall p → OnOk result ((self.new ≡ self.old) ⊎ StartsOver p self.old self.new) }
+        ensures starts { let p = content program.now in IsProgram p → length p.nodes < nothing
+            → OnOk result (StartsOver p self.old self.new) }
+        ensures tabled { let p = content program.now in IsProgram p → length p.nodes < nothing → OnOk result (IsTabled p self.new) }
+    {
+        let counts = self.counts;
+        if let Some(state) = State::start(alloc, program, self.budget)? {
+            *self = State { counts, ..state };
+        }
+        Ok(())
     }
 
     /// The next step: where the run is closed the next one opens, else a node is solved. False where nothing can be done.
@@ -202,6 +212,7 @@ impl State {
             return Ok(());
         }
         let solved = solve_node(alloc, &begun.task)?;
+        self.counts.raise();
         self.commit(alloc, program, tree, node, &begun, solved)
     }
 

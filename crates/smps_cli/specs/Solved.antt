@@ -8,7 +8,7 @@ use Rattle.input_files.specs.Fetched.{Texts}
 use Rattle.program_files.specs.Meant.{MeansProgram}
 use Rattle.program_files.specs.Edited.{MeansScript}
 use Rattle.smps_session.specs.declared.told.Told.{Told}
-use Rattle.smps_session.specs.Told.{AreTold}
+use Rattle.smps_session.specs.Told.{IsScripted}
 use Rattle.smps_cli.specs.declared.status.Status.{Status}
 use Rattle.smps_cli.specs.Ends.{MayEnd, RefusesTexts}
 use Rattle.smps_cli.specs.Findings.{is_open_finding, open_status}
@@ -31,7 +31,7 @@ pub record PrintsReports (budget : Budget) (texts : Texts) (status : Status) (ou
   pub script : MeansScript texts program items
   -- the reports, all of them
   pub tolds : List Told
-  pub told : AreTold (record { solves = budget.solves; pivots = budget.pivots }) 1 program items tolds
+  pub told : IsScripted (record { solves = budget.solves; pivots = budget.pivots }) program items tolds
   pub text : output ≡ flat_map told_text tolds
   pub ends : status ≡ open_status (any_open tolds)
 

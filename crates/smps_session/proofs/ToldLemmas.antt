@@ -20,6 +20,9 @@ use Rattle.smps_session.specs.Reasons.{told_reasons}
 use Rattle.smps_session.specs.declared.told.Told.{Told}
 use Rattle.proved_report.specs.Reports.{EqualIsOptimal}
 use Rattle.smps_session.specs.Told.{IsTold, AreTold}
+use Rattle.pass_table.specs.Marks.{nothing}
+use Rattle.tree_method.specs.declared.method.Method.{Method}
+use Rattle.smps_session.specs.Comes.{ComesOf, TakesEdit}
 use Rattle.smps_session.specs.Courses.{Course, course_at, TellsOne, IsBehind}
 
 pub on_ok : {X E : Type 0} (r : Result X E) (A : Type 0) → A → OnOk r A
@@ -27,11 +30,12 @@ on_ok (Ok x) A a = a
 on_ok (Err e) A a = tt
 
 -- what is told of a report
-pub is_told : (budget : Budget) (number : ℕ) (program : ProgramOf) (report : Report) (told : Told)
+pub is_told : (budget : Budget) (number : ℕ) (program : ProgramOf) (method next : Method) (report : Report) (told : Told)
     → report.number ≡ number → told.text.items ≡ report_text program report → told.finding ≡ report.finding
     → HasCounts (view_of (content program)) report → IsTrue (view_of (content program)) (told_reasons program budget) report
-    → EqualIsOptimal report → IsTold budget number (content program) told
-is_told budget number program report told n t f counts truth equal = record {
+    → EqualIsOptimal report → (length (content program).nodes < nothing → ComesOf budget program method report next)
+    → IsTold budget number (content program) method told next
+is_told budget number program method next report told n t f counts truth equal comes = record {
   program = program;
   content_is = refl;
   report = report;
@@ -41,6 +45,7 @@ is_told budget number program report told n t f counts truth equal = record {
   counts = counts;
   truth = truth;
   equal = equal;
+  comes = comes;
 }
 
 -- a list of less than one item has none
@@ -72,76 +77,74 @@ item_allowed p item items some first h =
     (subst (λ (xs : List Item). AreAllowed p xs) (taken_apart items item some first) h)
 
 -- an item that is an edit
-is_changed : (budget : Budget) (e : Edit) (p q : Program) (number next : ℕ) (tolds : List Told)
-    → q ≡ after p e → next ≡ number → IsBehind budget (Change e) (course_at p number tolds) (course_at q next tolds)
-is_changed budget e p q number next tolds h n = ap₂ (λ (r : Program) (k : ℕ). course_at r k tolds) h n
+changed : {A E : Type 0} (result : Result A E) (budget : Budget) (e : Edit) (p q : Program) (method method' : Method) (number number' : ℕ)
+    (tolds : List Told) → OnOk result (q ≡ after p e) → number' ≡ number → OnOk result (TakesEdit p e method method')
+    → OnOk result (IsBehind budget (Change e) (course_at p method number tolds) (course_at q method' number' tolds))
+changed (Ok x) budget e p q method method' number number' tolds h n t =
+    record { takes = t; course = ap₂ (λ (r : Program) (k : ℕ). course_at r method' k tolds) h n }
+changed (Err x) budget e p q method method' number number' tolds h n t = tt
 
-changed : {A E : Type 0} (result : Result A E) (budget : Budget) (e : Edit) (p q : Program) (number next : ℕ) (tolds : List Told)
-    → OnOk result (q ≡ after p e) → next ≡ number
-    → OnOk result (IsBehind budget (Change e) (course_at p number tolds) (course_at q next tolds))
-changed (Ok x) budget e p q number next tolds h n = is_changed budget e p q number next tolds h n
-changed (Err x) budget e p q number next tolds h n = tt
-
-pub is_behind_edit : {A E : Type 0} (result : Result A E) (budget : Budget) (act : Act) (e : Edit) (p q : Program) (number next : ℕ)
-    (tolds : List Told)
-    → act ≡ Change e → OnOk result (q ≡ after p e) → next ≡ number
-    → OnOk result (IsBehind budget act (course_at p number tolds) (course_at q next tolds))
-is_behind_edit result budget act e p q number next tolds a h n =
-    subst (λ (x : Act). OnOk result (IsBehind budget x (course_at p number tolds) (course_at q next tolds))) (sym a)
-    (changed result budget e p q number next tolds h n)
+pub is_behind_edit : {A E : Type 0} (result : Result A E) (budget : Budget) (act : Act) (e : Edit) (p q : Program) (method method' : Method)
+    (number number' : ℕ) (tolds : List Told) → act ≡ Change e → OnOk result (q ≡ after p e) → number' ≡ number
+    → OnOk result (TakesEdit p e method method')
+    → OnOk result (IsBehind budget act (course_at p method number tolds) (course_at q method' number' tolds))
+is_behind_edit result budget act e p q method method' number number' tolds a h n t =
+    subst (λ (x : Act). OnOk result (IsBehind budget x (course_at p method number tolds) (course_at q method' number' tolds))) (sym a)
+    (changed result budget e p q method method' number number' tolds h n t)
 
 -- and one that is a SOLVE
 pub is_behind_solve : {A E : Type 0} (result : Result A E) (budget : Budget) (act : Act) (s t : Course)
     → act ≡ Solve → OnOk result (TellsOne budget s t) → OnOk result (IsBehind budget act s t)
 is_behind_solve result budget act s t a h = subst (λ (x : Act). OnOk result (IsBehind budget x s t)) (sym a) h
 
-pub tells_one : (budget : Budget) (number next : ℕ) (p : Program) (told : Told) (tolds pushed : List Told)
-    → IsTold budget number p told → next ≡ number + 1 → pushed ≡ tolds ++ told ∷ []
-    → TellsOne budget (course_at p number tolds) (course_at p next pushed)
-tells_one budget number next p told tolds pushed h n e = record {
+pub tells_one : (budget : Budget) (number next : ℕ) (p : Program) (method method' : Method) (told : Told) (tolds pushed : List Told)
+    → IsTold budget number p method told method' → next ≡ number + 1 → pushed ≡ tolds ++ told ∷ []
+    → TellsOne budget (course_at p method number tolds) (course_at p method' next pushed)
+tells_one budget number next p method method' told tolds pushed h n e = record {
   told = told;
   is_told = h;
-  course = ap₂ (course_at p) n e;
+  course = ap₂ (course_at p method') n e;
 }
 
 -- the items that are left are allowed, and what is told of them is told behind what was told
-abbrev pub IsOnCourse : Budget → Program → List Item → List Item → Course → Type 0
-IsOnCourse budget start all items s = AreAllowed s.program items
-    × ((later : List Told) → AreTold budget s.number s.program items later → AreTold budget 1 start all (s.tolds ++ later))
+abbrev pub IsOnCourse : Budget → Program → Method → List Item → List Item → Course → Type 0
+IsOnCourse budget start first all items s = AreAllowed s.program items
+    × ((later : List Told) → AreTold budget s.number s.program s.method items later → AreTold budget 1 start first all (s.tolds ++ later))
 
 -- nothing is told before the first item
-pub begins_course : (budget : Budget) (p : Program) (items rest : List Item) (tolds : List Told)
+pub begins_course : (budget : Budget) (p : Program) (method : Method) (items rest : List Item) (tolds : List Told)
     → rest ≡ items → tolds ≡ [] → AreAllowed p items
-    → IsOnCourse budget p items rest (course_at p 1 tolds)
-begins_course budget p items rest tolds e t h =
-    subst (λ (xs : List Item). IsOnCourse budget p items xs (course_at p 1 tolds)) (sym e)
-    (subst (λ (ts : List Told). IsOnCourse budget p items items (course_at p 1 ts)) (sym t) (h, λ later told. told))
+    → IsOnCourse budget p method items rest (course_at p method 1 tolds)
+begins_course budget p method items rest tolds e t h =
+    subst (λ (xs : List Item). IsOnCourse budget p method items xs (course_at p method 1 tolds)) (sym e)
+    (subst (λ (ts : List Told). IsOnCourse budget p method items items (course_at p method 1 ts)) (sym t) (h, λ later told. told))
 
 -- one item, and then the others
-behind_one : (budget : Budget) (start : Program) (all items : List Item) (act : Act) (work : ℕ) (s t : Course)
-    → IsOnCourse budget start all (record { work = work; act = act } ∷ items) s → IsBehind budget act s t
-    → IsOnCourse budget start all items t
-behind_one budget start all items (Change e) work s t g h =
-    subst (λ (u : Course). IsOnCourse budget start all items u) (sym h) (g.0.1, g.1)
-behind_one budget start all items Solve work s t g h =
-    subst (λ (u : Course). IsOnCourse budget start all items u) (sym h.course) (
+behind_one : (budget : Budget) (start : Program) (first : Method) (all items : List Item) (act : Act) (work : ℕ) (s t : Course)
+    → IsOnCourse budget start first all (record { work = work; act = act } ∷ items) s → IsBehind budget act s t
+    → IsOnCourse budget start first all items t
+behind_one budget start first all items (Change e) work s t g h =
+    subst (λ (u : Course). IsOnCourse budget start first all items u) (sym h.course)
+    (g.0.1, λ later told. g.1 later (t.method, (h.takes, told)))
+behind_one budget start first all items Solve work s t g h =
+    subst (λ (u : Course). IsOnCourse budget start first all items u) (sym h.course) (
       g.0,
-      λ later rest. subst (λ (ts : List Told). AreTold budget 1 start all ts) (sym (append_assoc s.tolds (h.told ∷ []) later))
-          (g.1 (h.told ∷ later) (h.is_told, rest)),
+      λ later rest. subst (λ (ts : List Told). AreTold budget 1 start first all ts) (sym (append_assoc s.tolds (h.told ∷ []) later))
+          (g.1 (h.told ∷ later) (t.method, (h.is_told, rest))),
     )
 
-pub stays_on_course : (budget : Budget) (start : Program) (all items : List Item) (item : Item) (s t : Course)
-    → 1 ≤ length items → item ≡ get_or items 0 item → IsOnCourse budget start all items s → IsBehind budget item.act s t
-    → IsOnCourse budget start all (take (length items - 1) (drop 1 items)) t
-stays_on_course budget start all items item s t some first g h =
-    behind_one budget start all (take (length items - 1) (drop 1 items)) item.act item.work s t
-    (subst (λ (xs : List Item). IsOnCourse budget start all xs s) (taken_apart items item some first) g) h
+pub stays_on_course : (budget : Budget) (start : Program) (first : Method) (all items : List Item) (item : Item) (s t : Course)
+    → 1 ≤ length items → item ≡ get_or items 0 item → IsOnCourse budget start first all items s → IsBehind budget item.act s t
+    → IsOnCourse budget start first all (take (length items - 1) (drop 1 items)) t
+stays_on_course budget start first all items item s t some is g h =
+    behind_one budget start first all (take (length items - 1) (drop 1 items)) item.act item.work s t
+    (subst (λ (xs : List Item). IsOnCourse budget start first all xs s) (taken_apart items item some is) g) h
 
 -- all items are told
-pub all_told : (budget : Budget) (start : Program) (all items : List Item) (s : Course) → length items < 1
-    → IsOnCourse budget start all items s
-    → AreTold budget 1 start all s.tolds
-all_told budget start all items s none g =
+pub all_told : (budget : Budget) (start : Program) (first : Method) (all items : List Item) (s : Course) → length items < 1
+    → IsOnCourse budget start first all items s
+    → AreTold budget 1 start first all s.tolds
+all_told budget start first all items s none g =
     let e : items ≡ [] = none_left items none in
-    subst (λ (tolds : List Told). AreTold budget 1 start all tolds) (append-nil s.tolds)
-    (g.1 [] (subst (λ (xs : List Item). AreTold budget s.number s.program xs []) (sym e) refl))
+    subst (λ (tolds : List Told). AreTold budget 1 start first all tolds) (append-nil s.tolds)
+    (g.1 [] (subst (λ (xs : List Item). AreTold budget s.number s.program s.method xs []) (sym e) refl))

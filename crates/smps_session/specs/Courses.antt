@@ -2,28 +2,37 @@
 use Rattle.std.specs.Prelude.{◌≡◌, ℕ, ◌+◌, List, [], ◌∷◌, ◌++◌}
 use Rattle.scen_defs.specs.Program.{Program}
 use Rattle.edit_defs.specs.declared.edit.Act.{Act}
+use Rattle.edit_defs.specs.declared.edit.Edit.{Edit}
 use Rattle.edit_defs.specs.declared.edit.Act.TheVariants.{Change, Solve}
 use Rattle.edit_defs.specs.After.{after}
 use Rattle.pass_core.specs.declared.budget.Budget.{Budget}
 use Rattle.smps_session.specs.declared.told.Told.{Told}
+use Rattle.tree_method.specs.declared.method.Method.{Method}
+use Rattle.smps_session.specs.Comes.{TakesEdit}
 use Rattle.smps_session.specs.Told.{IsTold}
 
--- the program as it is, the number of the next report, and what was told
+-- the program as it is, the method, the number of the next report, and what was told
 pub record Course : Type 0 where
   pub program : Program
+  pub method : Method
   pub number : ℕ
   pub tolds : List Told
 
-abbrev pub course_at : Program → ℕ → List Told → Course
-course_at p number tolds = record { program = p; number = number; tolds = tolds }
+abbrev pub course_at : Program → Method → ℕ → List Told → Course
+course_at p method number tolds = record { program = p; method = method; number = number; tolds = tolds }
 
 -- a report of the program is told behind the others
 pub record TellsOne (budget : Budget) (s t : Course) : Type 0 where
   pub told : Told
-  pub is_told : IsTold budget s.number s.program told
-  pub course : t ≡ record s { number = s.number + 1; tolds = s.tolds ++ told ∷ [] }
+  pub is_told : IsTold budget s.number s.program s.method told t.method
+  pub course : t ≡ record s { method = t.method; number = s.number + 1; tolds = s.tolds ++ told ∷ [] }
+
+-- an edit changes the program
+pub record Changes (e : Edit) (s t : Course) : Type 0 where
+  pub takes : TakesEdit s.program e s.method t.method
+  pub course : t ≡ record s { program = after s.program e; method = t.method }
 
 -- behind an item: an edit changes the program, and of a SOLVE a report is told
 abbrev pub IsBehind : Budget → Act → Course → Course → Type 0
-IsBehind budget (Change e) s t = t ≡ record s { program = after s.program e }
+IsBehind budget (Change e) s t = Changes e s t
 IsBehind budget Solve s t = TellsOne budget s t

@@ -1,5 +1,5 @@
 -- The reports of a script.
-use Rattle.std.specs.Prelude.{◌≡◌, ℕ, ◌+◌, List, [], ◌∷◌}
+use Rattle.std.specs.Prelude.{◌≡◌, ◌<◌, ℕ, ◌+◌, List, [], ◌∷◌, length}
 use Rattle.scen_defs.specs.Program.{Program, content, view_of}
 use Rattle.scen_defs.specs.declared.program.Program.{Program as ProgramOf}
 use Rattle.scen_defs.specs.declared.report.Report.{Report}
@@ -10,11 +10,16 @@ use Rattle.edit_defs.specs.declared.edit.Act.TheVariants.{Change, Solve}
 use Rattle.edit_defs.specs.declared.edit.Item.{Item}
 use Rattle.edit_defs.specs.After.{after}
 use Rattle.pass_core.specs.declared.budget.Budget.{Budget}
+use Rattle.pass_table.specs.Marks.{nothing}
+use Rattle.tree_method.specs.declared.method.Method.{Method}
+use Rattle.tree_method.specs.Stands.{Begins}
+use Rattle.smps_session.specs.Comes.{ComesOf, TakesEdit}
 use Rattle.smps_session.specs.Reasons.{told_reasons}
 use Rattle.smps_session.specs.declared.told.Told.{Told}
 
--- What is told is the text and the finding of a report of this number that is true of the program, found within the budget.
-pub record IsTold (budget : Budget) (number : ℕ) (p : Program) (told : Told) : Type 0 where
+-- What is told is the text and the finding of a report of this number that is true of the program, found within the budget. It comes of a
+-- method, which goes on from there.
+pub record IsTold (budget : Budget) (number : ℕ) (p : Program) (method : Method) (told : Told) (next : Method) : Type 0 where
   pub program : ProgramOf
   pub content_is : content program ≡ p
   -- the report that is printed, all of it
@@ -27,16 +32,25 @@ pub record IsTold (budget : Budget) (number : ℕ) (p : Program) (told : Told) :
   pub truth : IsTrue (view_of p) (told_reasons program budget) report
   -- it isn't left open where its ends are equal
   pub equal : EqualIsOptimal report
+  -- it comes of solves of the nodes of the program, of which there are no more than have numbers
+  pub comes : length p.nodes < nothing → ComesOf budget program method report next
 
--- a first one, and those behind it
-abbrev pub IsThen : (Told → Type 0) → (List Told → Type 0) → List Told → Type 0
+-- a first one of a method, and those behind it of the method as it is then
+abbrev pub IsThen : (Told → Method → Type 0) → (Method → List Told → Type 0) → List Told → Type 0
 IsThen first behind [] = ⊥
-IsThen first behind (told ∷ tolds) = first told × behind tolds
+IsThen first behind (told ∷ tolds) = (next : Method) × (first told next × behind next tolds)
 
--- One is told for each SOLVE of a script, of the program after the edits before it. They are numbered from this number on.
-abbrev pub AreTold : Budget → ℕ → Program → List Item → List Told → Type 0
-AreTold budget number p [] tolds = tolds ≡ []
-AreTold budget number p (item ∷ items) tolds = elim item.act [
-  | Change e ↦ AreTold budget number (after p e) items tolds
-  | Solve ↦ IsThen (IsTold budget number p) (AreTold budget (number + 1) p items) tolds
+-- One is told for each SOLVE of a script, of the program after the edits before it, and comes of the one method that goes through the script.
+-- They are numbered from this number on.
+abbrev pub AreTold : Budget → ℕ → Program → Method → List Item → List Told → Type 0
+AreTold budget number p method [] tolds = tolds ≡ []
+AreTold budget number p method (item ∷ items) tolds = elim item.act [
+  | Change e ↦ (next : Method) × (TakesEdit p e method next × AreTold budget number (after p e) next items tolds)
+  | Solve ↦ IsThen (λ told next. IsTold budget number p method told next) (λ next. AreTold budget (number + 1) p next items) tolds
 ]
+
+-- the reports of a script come of a method that begins with the program, where that has no more nodes than have numbers
+pub record IsScripted (budget : Budget) (p : Program) (items : List Item) (tolds : List Told) : Type 0 where
+  pub method : Method
+  pub begins : length p.nodes < nothing → Begins p budget method
+  pub told : AreTold budget 1 p method items tolds

@@ -7,6 +7,7 @@ ghost use Rattle.edit_defs.specs.Limits.{counts};
 ghost use Rattle.edit_script.specs.Allowed.{AreAllowed, IsAllowed};
 ghost use Rattle.pass_core.specs.declared.budget.Budget.{Budget as BudgetOf};
 ghost use Rattle.tree_method.specs.Stands.{StandsOn};
+ghost use Rattle.smps_session.specs.Comes.{TakesEdit};
 ghost use Rattle.smps_session.specs.Courses.{course_at, TellsOne, IsBehind};
 
 use crate::told::{Told, told_one};
@@ -46,6 +47,8 @@ impl Progress {
         ensures number { self.new.number ≡ self.old.number }
         ensures stands { (budget : BudgetOf) → StandsOn (content program.old) budget self.old.method
             → OnOk result (StandsOn (content program.new) budget self.new.method) }
+        ensures takes { (budget : BudgetOf) → StandsOn (content program.old) budget self.old.method
+            → OnOk result (TakesEdit (content program.old) edit.now self.old.method self.new.method) }
     {
         self.method.work(alloc, program, work)?;
         self.method.edit(alloc, program, &mut self.counted, edit)
@@ -63,8 +66,8 @@ impl Progress {
         requires stands { StandsOn (content program.now) budget self.old.method }
         ensures counted { self.new.counted ≡ self.old.counted }
         ensures stands { OnOk result (StandsOn (content program.now) budget self.new.method) }
-        ensures told { OnOk result (TellsOne budget (course_at (content program.now) self.old.number tolds.old.items)
-            (course_at (content program.now) self.new.number tolds.new.items)) }
+        ensures told { OnOk result (TellsOne budget (course_at (content program.now) self.old.method self.old.number tolds.old.items)
+            (course_at (content program.now) self.new.method self.new.number tolds.new.items)) }
     {
         let told = told_one(alloc, program, &mut self.method, self.number, budget)?;
         let next = self.number.checked_add(1).ok_or(Memory)?;
@@ -89,8 +92,9 @@ impl Progress {
         ensures keeps { OnOk result (IsProgram (content program.new)) }
         ensures counted { OnOk result (self.new.counted ≡ counts (content program.new).nodes) }
         ensures stands { OnOk result (StandsOn (content program.new) budget self.new.method) }
-        ensures course { OnOk result (IsBehind budget item.now.act (course_at (content program.old) self.old.number tolds.old.items)
-            (course_at (content program.new) self.new.number tolds.new.items)) }
+        ensures course { OnOk result (IsBehind budget item.now.act
+            (course_at (content program.old) self.old.method self.old.number tolds.old.items)
+            (course_at (content program.new) self.new.method self.new.number tolds.new.items)) }
     {
         match &item.act {
             Act::Change(edit) => self.change(alloc, program, edit, item.work),

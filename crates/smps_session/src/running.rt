@@ -1,25 +1,27 @@
 //! The report of a program on a tree.
-ghost use Rattle.std.specs.Prelude.{◌≡◌, IfOk, OnOk};
+ghost use Rattle.std.specs.Prelude.{◌≡◌, ◌<◌, length, IfOk, OnOk};
 ghost use Rattle.scen_defs.specs.Fits.{ListsHaveNames};
 ghost use Rattle.scen_defs.specs.Program.{IsTree, content, view_of};
-ghost use Rattle.scen_defs.specs.Valid.{IsSmall};
+ghost use Rattle.scen_defs.specs.Valid.{IsSmall, IsProgram};
 ghost use Rattle.report_defs.specs.Truth.{IsTrue, HasCounts};
 ghost use Rattle.proved_report.specs.Reports.{EqualIsOptimal};
+ghost use Rattle.pass_table.specs.Marks.{nothing};
 ghost use Rattle.tree_method.specs.Stands.{StandsOn};
 ghost use Rattle.smps_session.specs.Reasons.{told_reasons};
+ghost use Rattle.smps_session.specs.Comes.{is_unfinished, ShowsFound, ComesOf, ComesOfAll};
 
 use frac128::Memory;
 use pass_core::Budget;
 use proved_report::report;
-use scen_defs::{Program, Report};
+use scen_defs::{Finding, Program, Report};
 use std::alloc::Global;
 use tree_method::Method;
 
 /// Solves a program on a tree by the nested method, with so many solves of nodes at most and so many pivots in each, and
 /// tests what was found before it is told: see `proved_report::report`.
 ///
-/// `OpenSolves` tells the solves that were allowed, `OpenPivots` that the pivots of a solve ended, with the number of that solve, from 1,
-/// `OpenPassed` an operation that passes 128 bits and where it stands.
+/// `OpenSolves` tells the solves that were allowed, which were made, `OpenPivots` that the pivots of a solve ended, with the number of that
+/// solve, from 1, `OpenPassed` an operation that passes 128 bits and where it stands.
 pub fn session(alloc: Global, program: &Program, solves: u64, pivots: u64) -> Result<Report, Memory>
     ensures number { IfOk result (λ report. report.number ≡ 1) }
     ensures counts { IsSmall (content program.now) → IfOk result (HasCounts (view_of (content program.now))) }
@@ -27,14 +29,57 @@ pub fn session(alloc: Global, program: &Program, solves: u64, pivots: u64) -> Re
     ensures truth { let p = content program.now in IsSmall p → IsTree (view_of p)
         → IfOk result (IsTrue (view_of p) (told_reasons program.now (record { solves = solves; pivots = pivots }))) }
     ensures equal { IfOk result EqualIsOptimal }
+    ensures comes { let p = content program.now in IsProgram p → length p.nodes < nothing
+        → IfOk result (ComesOfAll (record { solves = solves; pivots = pivots }) program.now) }
 {
     let budget = Budget { solves, pivots };
     let mut method = Method::begin(alloc, program, budget)?;
     reported(alloc, program, &mut method, 1, budget)
 }
 
-/// The report of what the method finds of the program, where nothing is left to find.
+/// The report of what the method finds of the program, where nothing is left to find. Where it is left open though no operation passed, no
+/// pivots ended and solves are left, which never comes of a correct method, the program is begun anew.
 pub(crate) fn reported(
+    alloc: Global,
+    program: &Program,
+    method: &mut Method,
+    number: u32,
+    budget: Budget,
+) -> Result<Report, Memory>
+    ensures number { IfOk result (λ report. report.number ≡ number) }
+    ensures counts { IsSmall (content program.now) → IfOk result (HasCounts (view_of (content program.now))) }
+    ensures names { IfOk result (ListsHaveNames program.now) }
+    ensures truth { let p = content program.now in IsSmall p → StandsOn p budget method.old → IsTree (view_of p)
+        → IfOk result (IsTrue (view_of p) (told_reasons program.now budget)) }
+    ensures equal { IfOk result EqualIsOptimal }
+    ensures stands { let p = content program.now in IsSmall p → StandsOn p budget method.old → OnOk result (StandsOn p budget method.new) }
+    ensures comes { let p = content program.now in IsProgram p → length p.nodes < nothing → StandsOn p budget method.old
+        → IfOk result (λ report. ComesOf budget program.now method.old report method.new) }
+{
+    let mut report = found(alloc, program, method, number, budget)?;
+    for _ in 0..budget.solves {
+        if !is_unfinished(&report, method) {
+            break;
+        }
+        method.start_over(alloc, program)?;
+        report = found(alloc, program, method, number, budget)?;
+    }
+    method.close();
+    Ok(report)
+}
+
+/// Whether a report is left open though solves are left, and neither an operation passed nor pivots ended.
+fn is_unfinished(report: &Report, method: &Method) -> bool
+    ensures { result ≡ is_unfinished report.now.finding method.now }
+{
+    match report.finding {
+        Finding::OpenSolves(_) => !method.is_spent(),
+        _ => false,
+    }
+}
+
+/// The report of what the method finds of the program.
+fn found(
     alloc: Global,
     program: &Program,
     method: &mut Method,
@@ -48,6 +93,8 @@ pub(crate) fn reported(
         → IfOk result (IsTrue (view_of p) (told_reasons program.now budget)) }
     ensures equal { IfOk result EqualIsOptimal }
     ensures stands { let p = content program.now in StandsOn p budget method.old → OnOk result (StandsOn p budget method.new) }
+    ensures shows { let p = content program.now in IsProgram p → length p.nodes < nothing → StandsOn p budget method.old
+        → IfOk result (ShowsFound budget program.now method.old method.new) }
 {
     let found = method.find(alloc, program)?;
     report(

@@ -4,7 +4,7 @@ ghost use Rattle.scen_defs.specs.Program.{content};
 ghost use Rattle.scen_defs.specs.Valid.{IsProgram};
 ghost use Rattle.edit_script.specs.Allowed.{AreAllowed};
 ghost use Rattle.pass_core.specs.declared.budget.Budget.{Budget as BudgetOf};
-ghost use Rattle.smps_session.specs.Told.{AreTold};
+ghost use Rattle.smps_session.specs.Told.{IsScripted};
 
 use crate::items::Progress;
 use crate::told::Told;
@@ -29,7 +29,7 @@ pub fn scripted(
     requires program { IsProgram (content program.old) }
     requires allowed { AreAllowed (content program.old) script.now.items.items }
     ensures { let budget : BudgetOf = record { solves = solves; pivots = pivots } in
-        IfOk result (λ tolds. AreTold budget 1 (content program.old) script.now.items.items tolds.items) }
+        IfOk result (λ tolds. IsScripted budget (content program.old) script.now.items.items tolds.items) }
 {
     let mut tolds = Vec::new(alloc);
     let counted = count(&program.nodes)?;

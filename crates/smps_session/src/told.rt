@@ -31,7 +31,7 @@ pub(crate) fn told_one(
 ) -> Result<Told, Memory>
     requires program { IsProgram (content program.now) }
     requires stands { StandsOn (content program.now) budget method.old }
-    ensures told { IfOk result (IsTold budget number (content program.now)) }
+    ensures told { IfOk result (λ told. IsTold budget number (content program.now) method.old told method.new) }
     ensures stands { OnOk result (StandsOn (content program.now) budget method.new) }
 {
     let report = reported(alloc, program, method, number, budget)?;

@@ -1,6 +1,7 @@
 -- What stands on a program stands, behind an edit, on the program after it.
-use Rattle.std.proofs.Common.{◌≡◌, ℕ, ◌<◌, ◌≤◌, zero, suc, Bool, true, false, List, [], ◌∷◌, map, length, Option, Some, None}
+use Rattle.std.proofs.Common.{◌≡◌, ◌⊎◌, ℕ, ◌<◌, ◌≤◌, zero, suc, leb, Bool, true, false, List, [], ◌∷◌, map, length, Option, Some, None}
 use Rattle.std.proofs.Common.{refl, sym, ap, subst, ◌∙◌, inl, inr, Result, Ok, Err, OnOk, arith}
+use Rattle.std.proofs.lemmas.Bool.{leb-false}
 use Rattle.rationals.specs.Rational.{ℚ}
 use Rattle.smps_words.specs.declared.entry.Entry.{Entry}
 use Rattle.smps_words.specs.declared.entry.Entry.TheVariants.{Cost, Matrix, Rhs}
@@ -25,6 +26,11 @@ use Rattle.run_data.specs.Frames.{Frame, parent_of, stage_of, columns_from, fram
 use Rattle.pass_table.specs.Machine.{Machine}
 use Rattle.pass_table.specs.Marks.{nothing}
 use Rattle.pass_core.specs.declared.budget.Budget.{Budget}
+use Rattle.pass_core.specs.declared.state.Counts.{Counts}
+use Rattle.pass_core.specs.Counting.{one_solve_more, with_commit}
+use Rattle.run_ends.specs.declared.settled.Settled.{Settled}
+use Rattle.run_ends.specs.declared.settled.Settled.TheVariants.{Spent}
+use Rattle.run_ends.specs.Settled.{where_so, shown, ended, or_case}
 use Rattle.pass_core.specs.Explained.{ComesOfSolve, PassesInRun, IsExplained, AreExplained, KeepsExplained}
 use Rattle.pass_core.specs.declared.state.State.{State}
 use Rattle.pass_core.specs.Tabled.{IsTabled, IsTabledBy, StepsTo}
@@ -37,7 +43,7 @@ use Rattle.tree_method.specs.declared.method.Method.{Method}
 use Rattle.tree_method.specs.declared.method.Method.TheVariants.{Working as AtWork}
 use Rattle.tree_method.specs.Edited.{is_grown, KeepsTabled, IsEdited, HasNoTree}
 use Rattle.tree_method.specs.Laws.{TouchesCarry}
-use Rattle.tree_method.specs.Stands.{LeavesOpen, TellsWhy, WorksOn, StandsOn, SolvesNodes, more}
+use Rattle.tree_method.specs.Stands.{LeavesOpen, TellsWhy, IsInBudget, WorksOn, StandsOn, settled_in, SolvesNodes, more}
 use Rattle.tree_method.proofs.Standing.{touches_stand, versions_behind}
 
 -- ---- the frame
@@ -106,13 +112,16 @@ pub works_still : (p : Program) (budget : Budget) (old new : Working) → new.tr
     → (IsProgram p → old.state.frame ≡ frame_of p → IsTabled p old.state → IsTabled p new.state)
     → (IsProgram p → tree_walk p ≡ Ok old.tree → old.state.frame ≡ frame_of p → IsTabled p old.state → PointsStand p old.state.lasts.nodes.items
     → PointsStand p new.state.lasts.nodes.items)
+    → (IsProgram p → tree_walk p ≡ Ok old.tree → old.state.frame ≡ frame_of p → IsTabled p old.state → PointsStand p old.state.lasts.nodes.items
+    → IsInBudget old.state → IsInBudget new.state)
     → WorksOn p budget old → WorksOn p budget new
-works_still p budget old new t k f g w = record {
+works_still p budget old new t k f g h w = record {
   tree = w.tree ∙ ap Ok (sym t);
   frame = k.0 ∙ w.frame;
   budget_is = k.1 ∙ w.budget_is;
   versions = subst (λ (vs : List Version). length p.nodes ≤ length vs) (sym k.2) w.versions;
   explained = subst (λ (tree : Tree). AreExplained p tree new.state) (sym t) (k.3 w.explained);
+  counted = λ i few. h i w.tree w.frame (w.tabled i few) (w.points i few) (w.counted i few);
   tabled = λ i few. f i w.frame (w.tabled i few);
   points = λ i few. g i w.tree w.frame (w.tabled i few) (w.points i few);
 }
@@ -124,8 +133,8 @@ step_tabled p old new told step h = let s = step h.0 h.1 in (s.machine, s.tabled
 
 -- and the points standing
 step_points : (p : Program) (old new : State) (m : Machine) (told : Bool) → MakesStep p old m new told → PointsStand p new.lasts.nodes.items
-step_points p old new m told (begins_none rests points) = points
-step_points p old new m told (opens_run closed opens points) = points
+step_points p old new m told (begins_none rests points counts) = points
+step_points p old new m told (opens_run closed opens points counts) = points
 step_points p old new m told (solves lasts n ready node) = node.points
 
 pub steps_points : (p : Program) (old new : State) (told : Bool)
@@ -133,14 +142,64 @@ pub steps_points : (p : Program) (old new : State) (told : Bool)
     → IsTabled p old → PointsStand p old.lasts.nodes.items → PointsStand p new.lasts.nodes.items
 steps_points p old new told step h points = step_points p old new h.0 told (step h.0 h.1 points)
 
+-- a step counts one more solve, or none
+step_counts : (p : Program) (old new : State) (m : Machine) (told : Bool) → MakesStep p old m new told
+    → (new.counts ≡ old.counts) ⊎ (new.counts ≡ with_commit old.counts)
+step_counts p old new m told (begins_none rests points counts) = inl counts
+step_counts p old new m told (opens_run closed opens points counts) = inl counts
+step_counts p old new m told (solves lasts n ready node) = inr node.counts
+
+-- where something is left to find, so many solves aren't counted yet as are allowed
+not_spent : (stop : Option Open) (counted allowed : ℕ) → ended stop counted allowed ≡ None → counted < allowed
+not_spent (Some why) counted allowed e = absurd (cc)
+not_spent None counted allowed e = go (leb allowed counted) refl e
+  where
+    go : (b : Bool) → leb allowed counted ≡ b → where_so b Spent ≡ None → counted < allowed
+    go true t e = absurd (cc)
+    go false t e = leb-false allowed counted t
+
+ended_by : (shown other : Option Settled) → or_case shown other ≡ None → other ≡ None
+ended_by None other e = e
+ended_by (Some case) other e = absurd (cc)
+
+pub goes_on : (s : State) → settled_in s ≡ None → s.counts.since_report < s.budget.solves
+goes_on s e = not_spent s.stop s.counts.since_report s.budget.solves
+    (ended_by (shown s.kind s.table.closed s.ends) (ended s.stop s.counts.since_report s.budget.solves) e)
+
+one_more_within : (a b : ℕ) → a ≤ b → one_solve_more a ≤ one_solve_more b
+one_more_within a b h = omega (arith, h)
+
+one_more_at_most : (a b : ℕ) → a < b → one_solve_more a ≤ b
+one_more_at_most a b h = omega (arith, h)
+
+-- a state with these counts keeps to the budget
+in_budget : (old new : State) → new.budget ≡ old.budget → (new.counts ≡ old.counts) ⊎ (new.counts ≡ with_commit old.counts)
+    → old.counts.since_report < old.budget.solves → IsInBudget old → IsInBudget new
+in_budget old new b (inl e) less h = record {
+  item = subst (λ (c : Counts). c.since_item ≤ c.since_report) (sym e) h.item;
+  report = omega (arith, h.report, ap (λ (c : Counts). c.since_report) e, ap (λ (x : Budget). x.solves) b);
+}
+in_budget old new b (inr e) less h = record {
+  item = subst (λ (c : Counts). c.since_item ≤ c.since_report) (sym e)
+      (one_more_within old.counts.since_item old.counts.since_report h.item);
+  report = omega (arith, one_more_at_most old.counts.since_report old.budget.solves less, ap (λ (c : Counts). c.since_report) e,
+      ap (λ (x : Budget). x.solves) b);
+}
+
+pub step_in_budget : (p : Program) (old new : State) (told : Bool) → new.budget ≡ old.budget → old.counts.since_report < old.budget.solves
+    → ((m : Machine) → IsTabledBy p old m → PointsStand p old.lasts.nodes.items → MakesStep p old m new told)
+    → IsTabled p old → PointsStand p old.lasts.nodes.items → IsInBudget old → IsInBudget new
+step_in_budget p old new told b less step h points within =
+    in_budget old new b (step_counts p old new h.0 told (step h.0 h.1 points)) less within
+
 -- one more step
 pub solves_more : (p : Program) (budget : Budget) (old : State) (w : Working) (new : State) (told : Bool) → IsProgram p → length p.nodes < nothing
     → WorksOn p budget w → SolvesNodes p old w.state
     → ((m : Machine) → tree_walk p ≡ Ok w.tree → w.state.frame ≡ frame_of p → IsTabledBy p w.state m → PointsStand p w.state.lasts.nodes.items
     → MakesStep p w.state m new told)
-    → SolvesNodes p old new
-solves_more p budget old w new told i few works before step =
-    let t = works.tabled i few in more w.state new t.0 told before t.1 (step t.0 works.tree works.frame t.1 (works.points i few))
+    → settled_in w.state ≡ None → SolvesNodes p old new
+solves_more p budget old w new told i few works before step open_yet =
+    let t = works.tabled i few in more w.state new t.0 told before open_yet t.1 (step t.0 works.tree works.frame t.1 (works.points i few))
 
 -- an edit: its versions are in no table
 versions_tabled : (q : Program) (old new : State) → new ≡ record old { versions = new.versions } → IsTabled q old → IsTabled q new
@@ -178,6 +237,11 @@ works_behind p e budget old new i w h k = record {
   budget_is = h.budget ∙ w.budget_is;
   versions = subst (λ (vs : List Version). length (after p e).nodes ≤ length vs) (sym h.versions) (versions_behind p e old.state.versions w.versions);
   explained = unstopped_is_explained (after p e) new.tree new.state h.reasons;
+  counted = λ j few.
+      let within = w.counted i (let g : length p.nodes ≤ length (after p e).nodes = grows p e in omega (arith, g, few)) in record {
+        item = omega (arith, ap (λ (c : Counts). c.since_item) h.counts);
+        report = omega (arith, within.report, ap (λ (c : Counts). c.since_report) h.counts, ap (λ (b : Budget). b.solves) h.budget);
+      };
   tabled = λ j few. k p (w.tabled i (let g : length p.nodes ≤ length (after p e).nodes = grows p e in omega (arith, g, few)))
       (λ g. frame_stays p e g ∙ sym w.frame) few;
   points = λ j few. empty_stand (after p e) new.state.lasts.nodes.items h.points;

@@ -24,6 +24,7 @@ use Rattle.cut_banks.specs.declared.banks.Banks.{Banks}
 use Rattle.cut_banks.specs.Banks.{edited_banks}
 use Rattle.pass_table.specs.Marks.{nothing}
 use Rattle.pass_core.specs.declared.state.State.{State}
+use Rattle.pass_core.specs.Counting.{after_edit}
 use Rattle.pass_core.specs.Versions.{next_touches, next_versions}
 use Rattle.pass_core.specs.Explained.{IsUnstopped}
 use Rattle.pass_core.specs.Tabled.{IsTabled}
@@ -68,14 +69,15 @@ abbrev pub KeepsTabled : Program → Bool → State → State → Type 0
 KeepsTabled p grows old new = (q : Program) → IsTabled q old → (grows ≡ false → frame_of p ≡ old.frame) → length p.nodes < nothing
     → IsTabled p new
 
--- The method at work behind an edit of the program on which it was at work. Its frame is made anew where nodes came or went, and no node
--- has a last solve.
+-- The method at work behind an edit of the program on which it was at work. Its frame is made anew where nodes came or went, no node has a
+-- last solve, and the solves since the last report stay counted.
 pub record IsEdited (p : Program) (e : Edit) (old new : Working) : Type 0 where
   pub tree : tree_walk (after p e) ≡ Ok new.tree
   pub frame : new.state.frame ≡ pick (is_grown e) (frame_of (after p e)) old.state.frame
   pub budget : new.state.budget ≡ old.state.budget
   pub reasons : IsUnstopped new.state
   pub points : new.state.lasts.nodes.items ≡ []
+  pub counts : new.state.counts ≡ after_edit old.state.counts
   pub versions : new.state.versions ≡ raised_versions p e old.state.versions
   pub pools : new.state.banks ≡ retired p e old.state.versions old.state.banks
 

@@ -1,5 +1,5 @@
 -- On which program the method stands, why it leaves a report of it open, and how it goes on behind an edit.
-use Rattle.std.specs.Prelude.{◌≡◌, ◌⊎◌, ℕ, ◌<◌, ◌≤◌, Bool, length, Ok}
+use Rattle.std.specs.Prelude.{◌≡◌, ◌⊎◌, ℕ, ◌<◌, ◌≤◌, leb, Bool, true, length, Option, None, Ok}
 use Rattle.rationals.specs.Passes.{Operation}
 use Rattle.scen_defs.specs.Program.{Program}
 use Rattle.scen_defs.specs.Valid.{IsProgram}
@@ -15,10 +15,12 @@ use Rattle.pass_table.specs.Machine.{Machine}
 use Rattle.pass_table.specs.Marks.{nothing}
 use Rattle.pass_core.specs.Explained.{ComesOfSolve, PassesInRun, AreExplained}
 use Rattle.pass_core.specs.declared.state.State.{State}
-use Rattle.pass_core.specs.Counting.{after_report}
+use Rattle.pass_core.specs.Beginning.{IsBeginning, StartsOver}
+use Rattle.pass_core.specs.Counting.{no_commits, with_commit, after_report}
 use Rattle.pass_core.specs.Tabled.{IsTabled, IsTabledBy, GoesBySteps}
 use Rattle.pass_core.specs.Turns.{PointsStand, MakesStep}
 use Rattle.run_ends.specs.declared.claims.Closed.{Closed}
+use Rattle.run_ends.specs.declared.settled.Settled.{Settled}
 use Rattle.run_ends.specs.Settled.{settled, why_open}
 use Rattle.run_ends.specs.Claims.{closed_by}
 use Rattle.tree_method.specs.declared.found.Found.{Found}
@@ -58,15 +60,21 @@ pub record TellsWhy (p : Program) (budget : Budget) (found : Found) : Type 0 whe
   pub place : found.place ≡ Cost commits
 
 -- ---- the method
+-- since an edit no more solves are counted than since the last report, and since that no more than are allowed
+pub record IsInBudget (s : State) : Type 0 where
+  pub item : s.counts.since_item ≤ s.counts.since_report
+  pub report : s.counts.since_report ≤ s.budget.solves
+
 -- at work on a program with this budget: the tree and the frame are the program's, there are versions of all its nodes, each reason
--- that is kept is explained, and, where the program has no more nodes than a table has numbers for, the table fits a machine of it, and the
--- points of the last solves stand
+-- that is kept is explained, and, where the program has no more nodes than a table has numbers for, no more solves are counted than are
+-- allowed, the table fits a machine of it, and the points of the last solves stand
 pub record WorksOn (p : Program) (budget : Budget) (w : Working) : Type 0 where
   pub tree : tree_walk p ≡ Ok w.tree
   pub frame : w.state.frame ≡ frame_of p
   pub budget_is : w.state.budget ≡ budget
   pub versions : length p.nodes ≤ length w.state.versions
   pub explained : AreExplained p w.tree w.state
+  pub counted : IsProgram p → length p.nodes < nothing → IsInBudget w.state
   pub tabled : IsProgram p → length p.nodes < nothing → IsTabled p w.state
   pub points : IsProgram p → length p.nodes < nothing → PointsStand p w.state.lasts.nodes.items
 
@@ -74,6 +82,11 @@ pub record WorksOn (p : Program) (budget : Budget) (w : Working) : Type 0 where
 abbrev pub StandsOn : Program → Budget → Method → Type 0
 StandsOn p budget (AtWork w) = WorksOn p budget w
 StandsOn p budget (Idle why own) = (own ≡ budget) × LeavesOpen p budget why
+
+-- before any solve of the program; one that has a tree can be worked on
+abbrev pub Begins : Program → Budget → Method → Type 0
+Begins p budget (AtWork w) = (tree_walk p ≡ Ok w.tree) × IsBeginning p budget w.state × (w.state.counts ≡ no_commits)
+Begins p budget (Idle why own) = (own ≡ budget) × HasNoTree p why
 
 -- The method goes on by steps of a machine of the program: the one that its table fits takes them, and the table fits it behind them. One
 -- that can't go on stays as it is.
@@ -84,11 +97,17 @@ WorksBySteps p (AtWork old) (Idle why own) = ⊥
 WorksBySteps p (Idle why own) new = new ≡ Idle why own
 
 -- ---- what it solves
--- programs of nodes are solved, one behind the other, from one state to another, with the openings of runs between them
+-- whether nothing is left to find, and why
+abbrev pub settled_in : State → Option Settled
+settled_in s = settled s.kind s.table.closed s.ends s.stop s.counts.since_report s.budget.solves
+
+-- where something is left to find, programs of nodes are solved, one behind the other, with the openings of runs between them, or the program
+-- is begun anew, from one state to another
 pub data SolvesNodes (p : Program) (old : State) : State → Type 0 where
   none : SolvesNodes p old old
-  more : (mid new : State) (m : Machine) (told : Bool) → SolvesNodes p old mid → IsTabledBy p mid m → MakesStep p mid m new told
-      → SolvesNodes p old new
+  more : (mid new : State) (m : Machine) (told : Bool) → SolvesNodes p old mid → settled_in mid ≡ None → IsTabledBy p mid m
+      → MakesStep p mid m new told → SolvesNodes p old new
+  anew : (mid new : State) → SolvesNodes p old mid → StartsOver p mid new → SolvesNodes p old new
 
 -- the method has done nothing but that on the program
 abbrev pub WorksBySolves : Program → Method → Method → Type 0
@@ -96,30 +115,51 @@ WorksBySolves p (AtWork old) (AtWork new) = SolvesNodes p old.state new.state
 WorksBySolves p (AtWork old) (Idle why own) = ⊥
 WorksBySolves p (Idle why own) new = Unit {0}
 
--- what the closing of a report claims of a state
+-- what is claimed of the program where nothing is left to find
 abbrev pub closing : State → Closed
-closing s =
-    closed_by (settled s.kind s.table.closed s.ends s.stop s.counts.since_report s.budget.solves) s.ends (why_open s.stop s.budget.solves)
+closing s = closed_by (settled_in s) s.ends (why_open s.stop s.budget.solves)
 
--- what is found is what the closing claims of a state to which such solves lead, and the method goes on with the state behind that
+-- what is found is what is claimed in the state to which such solves lead, and a test of points is told of the cost of its last solve
 pub record IsFoundBySolves (p : Program) (old new : State) (found : Found) : Type 0 where
-  pub before : State
-  pub solves : SolvesNodes p old before
-  pub claim : found.claim ≡ (closing before).claim
-  pub why : found.why ≡ (closing before).why
-  pub behind : new ≡ record before { stop = before.lasting; counts = after_report before.counts }
+  pub solves : SolvesNodes p old new
+  pub claim : found.claim ≡ (closing new).claim
+  pub why : found.why ≡ (closing new).why
+  pub place : found.place ≡ Cost new.counts.all
 
 abbrev pub FindsBySolves : Program → Method → Method → Found → Type 0
 FindsBySolves p (AtWork old) (AtWork new) found = IsFoundBySolves p old.state new.state found
 FindsBySolves p (AtWork old) (Idle why own) found = ⊥
 FindsBySolves p (Idle why own) new found = Unit {0}
 
+-- begun anew, with one more solve
+pub record SolvesAnew (p : Program) (old new : State) : Type 0 where
+  pub solves : SolvesNodes p old new
+  pub counts : new.counts ≡ with_commit old.counts
+
+-- a method at work whose solves haven't ended is begun anew, and makes one more solve
+abbrev pub WorksAnew : Program → Method → Method → Type 0
+WorksAnew p (AtWork old) (AtWork new) = old.state.counts.since_report < old.state.budget.solves → SolvesAnew p old.state new.state
+WorksAnew p (AtWork old) (Idle why own) = ⊥
+WorksAnew p (Idle why own) new = new ≡ Idle why own
+
+-- whether as many solves were made since the last report as are allowed; one that can't go on makes none
+abbrev pub is_spent : Method → Bool
+is_spent (AtWork w) = leb w.state.budget.solves w.state.counts.since_report
+is_spent (Idle why own) = true
+
+-- behind a report: solves are counted from 0 again, and what stopped the method stays only where a later step of the run would do it again
+abbrev pub after_telling : Method → Method
+after_telling (AtWork w) = AtWork (record w {
+  state = record w.state { stop = w.state.lasting; counts = after_report w.state.counts };
+})
+after_telling (Idle why own) = Idle why own
+
 -- A method behind an edit of its program: one at work goes on, unless the program after the edit has no tree; one that couldn't go on
--- begins with the program after the edit.
+-- begins with the program after the edit, where that has no more nodes than a table has numbers for.
 abbrev pub GoesOn : Program → Edit → Method → Method → Type 0
 GoesOn p e (AtWork old) (AtWork new) = IsEdited p e old new
 GoesOn p e (AtWork old) (Idle why own) = (own ≡ old.state.budget) × HasNoTree (after p e) why
-GoesOn p e (Idle why own) new = StandsOn (after p e) own new
+GoesOn p e (Idle why own) new = StandsOn (after p e) own new × (length (after p e).nodes < nothing → Begins (after p e) own new)
 
 -- Behind an edit, where the method goes on with what it has, each touch of the edit carries the version that its part has from then on.
 abbrev pub CarriesVersions : Program → Edit → Method → Method → Type 0

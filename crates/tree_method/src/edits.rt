@@ -7,6 +7,7 @@ ghost use Rattle.edit_defs.specs.Limits.{counts};
 ghost use Rattle.edit_defs.specs.Touches.{touches};
 ghost use Rattle.edit_script.specs.Allowed.{IsAllowed};
 ghost use Rattle.cut_banks.specs.Banks.{edited_banks};
+ghost use Rattle.pass_core.specs.Counting.{after_edit};
 ghost use Rattle.pass_core.specs.Versions.{next_versions};
 ghost use Rattle.pass_core.specs.declared.budget.Budget.{Budget as BudgetOf};
 ghost use Rattle.pass_core.specs.Explained.{IsUnstopped};
@@ -70,6 +71,7 @@ impl Working {
         ensures budget { self.new.state.budget ≡ self.old.state.budget }
         ensures reasons { OnOk result (IsUnstopped self.new.state) }
         ensures points { OnOk result (self.new.state.lasts.nodes.items ≡ []) }
+        ensures counts { OnOk result (self.new.state.counts ≡ after_edit self.old.state.counts) }
         ensures versions { OnOk result (self.new.state.versions
             ≡ fit_versions is_grown (content program.now).nodes self.old.state.versions) }
         ensures banks { OnOk result (self.new.state.banks

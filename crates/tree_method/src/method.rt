@@ -1,6 +1,6 @@
 //! The nested method at work on a program.
-ghost use Rattle.std.specs.Prelude.{◌≡◌, ◌<◌, length, IfOk, OnOk};
-ghost use Rattle.scen_defs.specs.Program.{content};
+ghost use Rattle.std.specs.Prelude.{◌≡◌, ◌<◌, false, length, IfOk, OnOk};
+ghost use Rattle.scen_defs.specs.Program.{content, Program as ProgramOf};
 ghost use Rattle.scen_defs.specs.Valid.{IsProgram, IsSmall};
 ghost use Rattle.run_data.specs.Frames.{frame_of};
 ghost use Rattle.pass_table.specs.Machine.{Machine};
@@ -8,8 +8,9 @@ ghost use Rattle.pass_table.specs.Marks.{nothing};
 ghost use Rattle.pass_core.specs.declared.budget.Budget.{Budget as BudgetOf};
 ghost use Rattle.tree_method.specs.Edited.{IsTreeless};
 ghost use Rattle.pass_core.specs.Tabled.{IsTabledBy, GoesBySteps};
-ghost use Rattle.tree_method.specs.Stands.{WorksOn, StandsOn, WorksBySteps, TellsWhy};
+ghost use Rattle.tree_method.specs.Stands.{WorksOn, StandsOn, Begins, WorksBySteps, TellsWhy};
 ghost use Rattle.tree_method.specs.Stands.{SolvesNodes, WorksBySolves, IsFoundBySolves, FindsBySolves};
+ghost use Rattle.tree_method.specs.Stands.{SolvesAnew, WorksAnew, is_spent, after_telling};
 
 use crate::found::{Found, nothing};
 use frac128::Memory;
@@ -80,20 +81,34 @@ impl Working {
             → WorksOn p budget self.old → IfOk result (IsFoundBySolves p self.old.state self.new.state) }
     {
         self.run(alloc, program, ENDLESS)?;
-        let place = Place::Cost(self.state.commits());
-        let closed = self.state.close(alloc)?;
+        let closed = self.state.found(alloc)?;
         Ok(Found {
             claim: closed.claim,
             why: closed.why,
-            place,
+            place: Place::Cost(self.state.commits()),
         })
+    }
+
+    /// Begins the program anew, and makes the first solve.
+    fn start_over(&mut self, alloc: Global, program: &Program) -> Result<(), Memory>
+        ensures stays { let p = content program.now in (budget : BudgetOf) → IsSmall p
+            → self.old.state.counts.since_report < self.old.state.budget.solves
+            → WorksOn p budget self.old → OnOk result (WorksOn p budget self.new) }
+        ensures solves { let p = content program.now in (budget : BudgetOf) → IsProgram p → length p.nodes < nothing
+            → self.old.state.counts.since_report < self.old.state.budget.solves
+            → WorksOn p budget self.old → OnOk result (SolvesAnew p self.old.state self.new.state) }
+    {
+        self.state.start_over(alloc, program)?;
+        self.state.advance(alloc, program, &self.tree)?;
+        Ok(())
     }
 }
 
 impl Method {
     /// The method before any solve.
     pub fn begin(alloc: Global, program: &Program, budget: Budget) -> Result<Method, Memory>
-        ensures { let p = content program.now in IsSmall p → IfOk result (StandsOn p budget) }
+        ensures stands { let p = content program.now in IsSmall p → IfOk result (StandsOn p budget) }
+        ensures begins { let p = content program.now in IsProgram p → length p.nodes < nothing → IfOk result (Begins p budget) }
     {
         if program.nodes.len() >= MANY {
             return Ok(Method::Idle(Open::Solves(budget.solves), budget));
@@ -137,6 +152,40 @@ impl Method {
         match self {
             Method::Working(working) => working.find(alloc, program),
             Method::Idle(why, _) => Ok(nothing(*why)),
+        }
+    }
+
+    /// Whether as many solves were made since the last report as are allowed, or none can be made.
+    pub fn is_spent(&self) -> bool
+        ensures { result ≡ is_spent self.now }
+    {
+        match self {
+            Method::Working(working) => working.state.is_spent(),
+            Method::Idle(_, _) => true,
+        }
+    }
+
+    /// Begins the program anew, and makes the first solve of it. The solves since the last report stay counted.
+    pub fn start_over(&mut self, alloc: Global, program: &Program) -> Result<(), Memory>
+        ensures stays { let p = content program.now in (budget : BudgetOf) → IsSmall p
+            → is_spent self.old ≡ false → StandsOn p budget self.old → OnOk result (StandsOn p budget self.new) }
+        ensures solves { let p = content program.now in (budget : BudgetOf) → IsProgram p → length p.nodes < nothing
+            → StandsOn p budget self.old → OnOk result (WorksAnew p self.old self.new) }
+    {
+        match self {
+            Method::Working(working) => working.start_over(alloc, program),
+            Method::Idle(_, _) => Ok(()),
+        }
+    }
+
+    /// A report was told: the next one may take as many solves again.
+    pub fn close(&mut self)
+        ensures after { self.new ≡ after_telling self.old }
+        ensures stays { (p : ProgramOf) (budget : BudgetOf) → StandsOn p budget self.old → StandsOn p budget self.new }
+    {
+        match self {
+            Method::Working(working) => working.state.close(),
+            Method::Idle(_, _) => {}
         }
     }
 }

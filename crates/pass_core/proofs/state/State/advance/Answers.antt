@@ -50,7 +50,7 @@ returns-then-not-has_room-clause-solves c = λ m i walk frame t stand.
     let s = c.get_ready.new.self in
     let u : IsTabledBy p s m = ready_tabled p m c.args.self.now s t c.in_ok-get_ready.ensures.others c.in_ok-get_ready.ensures.begun in
     begins_none (λ room n may. let no : false ≡ true = c.if-not-has_room.ensures.1 (room_in m s.table u.fits room) in absurd (cc))
-    (c.in_ok-get_ready.ensures.points p stand)
+    (c.in_ok-get_ready.ensures.points p stand) (ap (λ (x : State). x.counts) c.in_ok-get_ready.ensures.others)
 
 pub returns-then-ne-clause-solves : goal.returns-then-ne-clause-solves
 returns-then-ne-clause-solves c = λ m i walk frame t stand.
@@ -60,6 +60,7 @@ returns-then-ne-clause-solves c = λ m i walk frame t stand.
     let room : HasRoom m = room_of m s.table u.fits (c.if-not-has_room.ensures.0 refl) in
     opens_run ((c.if-is_closed.ensures.meaning m u.fits).0 refl) (c.in_ok-open_next.ensures.tabled p m u c.in_ok-get_ready.ensures.begun room.1)
     (c.in_ok-open_next.ensures.points p (c.in_ok-get_ready.ensures.points p stand))
+    (c.in_ok-open_next.ensures.counts ∙ ap (λ (x : State). x.counts) c.in_ok-get_ready.ensures.others)
 
 pub returns-in_ok-solve-in-Some-clause-solves : goal.returns-in_ok-solve-in-Some-clause-solves
 returns-in_ok-solve-in-Some-clause-solves c = λ m i walk frame t stand.
@@ -80,4 +81,4 @@ returns-in-None-clause-solves c = λ m i walk frame t stand.
     let s = c.get_ready.new.self in
     let u : IsTabledBy p s m = ready_tabled p m c.args.self.now s t c.in_ok-get_ready.ensures.others c.in_ok-get_ready.ensures.begun in
     let none = c.in-None.ensures m u.valid u.fits (u.idle 0) in
-    begins_none (λ room. none.0) (c.in_ok-get_ready.ensures.points p stand)
+    begins_none (λ room. none.0) (c.in_ok-get_ready.ensures.points p stand) (ap (λ (x : State). x.counts) c.in_ok-get_ready.ensures.others)

@@ -9,7 +9,7 @@ use Rattle.pass_core.specs.declared.state.State.{State}
 use Rattle.pass_core.specs.Tabled.{KeepsPools, EndsSolve, IsAbout}
 use Rattle.pass_core.specs.Turns.{AreUpTo, KeepsPoints, EndsBy}
 use Rattle.pass_core.proofs.Standing.{same_points, then_points}
-use Rattle.pass_core.proofs.Tabling.{ends_then, told_ends, neither_ends, counted_solving, counted_ends, left_ends}
+use Rattle.pass_core.proofs.Tabling.{ends_then, told_ends, neither_ends, left_ends}
 use Rattle.pass_core.proofs.Explaining.{then_kept, left_kept, point_gives, point_finds, at_place, on_ok}
 use Rattle.pass_core.proofs.state.State.commit.Goals as goal
 
@@ -32,8 +32,8 @@ returns-in-NoPoint-clause-explained c = λ t e.
 
 pub returns-in-PivotsEnded-clause-explained : goal.returns-in-PivotsEnded-clause-explained
 returns-in-PivotsEnded-clause-explained c = λ t e.
-    left_kept (content c.args.program.now) c.args.tree.now (record c.args.self.now { counts = c.raise.new.self }) c.left_open.new.self
-    (reason.Pivots c.raise.new.self.all) c.left_open.ensures.others (record { task = c.args.begun.now.task; is_task = t; comes = e ∙ c.in-PivotsEnded.is })
+    left_kept (content c.args.program.now) c.args.tree.now c.args.self.now c.left_open.new.self
+    (reason.Pivots c.args.self.now.counts.all) c.left_open.ensures.others (record { task = c.args.begun.now.task; is_task = t; comes = e ∙ c.in-PivotsEnded.is })
 
 pub returns-in-Passed-clause-explained : goal.returns-in-Passed-clause-explained
 returns-in-Passed-clause-explained c = λ t e.
@@ -42,70 +42,53 @@ returns-in-Passed-clause-explained c = λ t e.
     let old = c.args.self.now in
     let made : ComesOfSolve p old.frame tree old.budget.pivots (solved.Passed c.in-Passed.in_cut c.in-Passed.passed) =
     record { task = c.args.begun.now.task; is_task = t; comes = e ∙ c.in-Passed.is } in
-    left_kept p tree (record c.args.self.now { counts = c.raise.new.self }) c.left_open-in-Passed.new.self
+    left_kept p tree c.args.self.now c.left_open-in-Passed.new.self
     (reason.Passed c.solve_place-place.result c.in-Passed.passed) c.left_open-in-Passed.ensures.others
     (subst (λ (place : Place). PassesInRun p old.frame tree old.budget.pivots place c.in-Passed.passed) (sym c.solve_place-place.ensures)
-    (at_place p old.frame tree old.budget.pivots c.raise.new.self.all c.in-Passed.in_cut c.in-Passed.passed made))
+    (at_place p old.frame tree old.budget.pivots c.args.self.now.counts.all c.in-Passed.in_cut c.in-Passed.passed made))
 
 pub returns-in_ok-point-in-Point-clause-tabled : goal.returns-in_ok-point-in-Point-clause-tabled
 returns-in_ok-point-in-Point-clause-tabled c = λ m f solving number node about.
     let old = c.args.self.now in
-    let rs = c.args.begun.now.readings.items in
     let trial = c.args.begun.now.task.trial in
     let all : Solved = solved.Point c.in-Point.point c.in-Point.value c.in-Point.cut in
     on_ok c.complete.result (KeepsPools c.point.new.self c.complete.new.self) (EndsSolve (EndsBy trial c.args.solved) old c.complete.new.self m f)
     (λ k. told_ends trial c.args.solved all old c.complete.new.self m f c.in-Point.is
     (ends_then (EndsBy trial all) old c.point.new.self c.complete.new.self m f
-    (counted_ends (EndsBy trial all) old c.raise.new.self c.point.new.self m f
-    (c.in_ok-point-in-Point.ensures.tabled m f (counted_solving old c.raise.new.self m f rs solving) number node
-    (subst (IsAbout c.args.node) c.in-Point.is about))) k))
+    (c.in_ok-point-in-Point.ensures.tabled m f solving number node (subst (IsAbout c.args.node) c.in-Point.is about)) k))
     c.complete.ensures.pools
 
 pub returns-in-NoPoint-clause-tabled : goal.returns-in-NoPoint-clause-tabled
 returns-in-NoPoint-clause-tabled c = λ m f solving number node about.
     let old = c.args.self.now in
-    let rs = c.args.begun.now.readings.items in
     let trial = c.args.begun.now.task.trial in
     let all : Solved = solved.NoPoint c.in-NoPoint.cut in
-    let s : State = record old { counts = c.raise.new.self } in
-    on_ok c.no_point.result (EndsSolve (EndsBy trial all) s c.no_point.new.self m f) (EndsSolve (EndsBy trial c.args.solved) old c.no_point.new.self m f)
-    (λ e. told_ends trial c.args.solved all old c.no_point.new.self m f c.in-NoPoint.is
-    (counted_ends (EndsBy trial all) old c.raise.new.self c.no_point.new.self m f e))
-    (c.no_point.ensures.tabled m f (counted_solving old c.raise.new.self m f rs solving) number node
-    (subst (IsAbout c.args.node) c.in-NoPoint.is about))
+    on_ok c.no_point.result (EndsSolve (EndsBy trial all) old c.no_point.new.self m f) (EndsSolve (EndsBy trial c.args.solved) old c.no_point.new.self m f)
+    (told_ends trial c.args.solved all old c.no_point.new.self m f c.in-NoPoint.is)
+    (c.no_point.ensures.tabled m f solving number node (subst (IsAbout c.args.node) c.in-NoPoint.is about))
 
 pub returns-in-PivotsEnded-clause-tabled : goal.returns-in-PivotsEnded-clause-tabled
 returns-in-PivotsEnded-clause-tabled c = λ m f solving number node about.
     let old = c.args.self.now in
-    let rs = c.args.begun.now.readings.items in
     let trial = c.args.begun.now.task.trial in
     let all : Solved = solved.PivotsEnded in
-    let s : State = record old { counts = c.raise.new.self } in
     told_ends trial c.args.solved all old c.left_open.new.self m f c.in-PivotsEnded.is
-    (counted_ends (EndsBy trial all) old c.raise.new.self c.left_open.new.self m f
-    (left_ends (EndsBy trial all) s c.left_open.new.self m f rs _ _ (counted_solving old c.raise.new.self m f rs solving) number c.left_open.ensures.drops c.left_open.ensures.others (refl, refl)))
+    (left_ends (EndsBy trial all) old c.left_open.new.self m f c.args.begun.now.readings.items _ _ solving number
+    c.left_open.ensures.drops c.left_open.ensures.others (refl, refl))
 
 pub returns-in-Passed-clause-tabled : goal.returns-in-Passed-clause-tabled
 returns-in-Passed-clause-tabled c = λ m f solving number node about.
     let old = c.args.self.now in
-    let rs = c.args.begun.now.readings.items in
     let trial = c.args.begun.now.task.trial in
     let all : Solved = solved.Passed c.in-Passed.in_cut c.in-Passed.passed in
-    let s : State = record old { counts = c.raise.new.self } in
     told_ends trial c.args.solved all old c.left_open-in-Passed.new.self m f c.in-Passed.is
-    (counted_ends (EndsBy trial all) old c.raise.new.self c.left_open-in-Passed.new.self m f
-    (left_ends (EndsBy trial all) s c.left_open-in-Passed.new.self m f rs _ _ (counted_solving old c.raise.new.self m f rs solving) number
-    c.left_open-in-Passed.ensures.drops c.left_open-in-Passed.ensures.others (refl, refl)))
+    (left_ends (EndsBy trial all) old c.left_open-in-Passed.new.self m f c.args.begun.now.readings.items _ _ solving number
+    c.left_open-in-Passed.ensures.drops c.left_open-in-Passed.ensures.others (refl, refl))
 
 pub returns-in-Loose-clause-tabled : goal.returns-in-Loose-clause-tabled
 returns-in-Loose-clause-tabled c = λ m f solving number node about.
-    let old = c.args.self.now in
-    let rs = c.args.begun.now.readings.items in
-    let trial = c.args.begun.now.task.trial in
-    let s : State = record old { counts = c.raise.new.self } in
-    counted_ends (EndsBy trial c.args.solved) old c.raise.new.self c.left_stuck.new.self m f
-    (neither_ends trial c.args.solved s c.left_stuck.new.self m f rs _ _ (counted_solving old c.raise.new.self m f rs solving) number
-    c.left_stuck.ensures.drops c.left_stuck.ensures.others c.in-Loose.is)
+    neither_ends c.args.begun.now.task.trial c.args.solved c.args.self.now c.left_stuck.new.self m f c.args.begun.now.readings.items _ _ solving number
+    c.left_stuck.ensures.drops c.left_stuck.ensures.others c.in-Loose.is
 
 pub returns-in_ok-point-in-Point-clause-points : goal.returns-in_ok-point-in-Point-clause-points
 returns-in_ok-point-in-Point-clause-points c = λ p t x.

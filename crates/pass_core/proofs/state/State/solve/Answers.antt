@@ -15,9 +15,10 @@ use Rattle.cut_banks.specs.Banks.{pools_of}
 use Rattle.cut_banks.specs.Pools.{numbers_read}
 use Rattle.run_data.specs.Frames.{children_in}
 use Rattle.pass_core.specs.declared.state.Begun.{Begun}
+use Rattle.pass_core.specs.declared.state.State.{State}
 use Rattle.pass_core.specs.Tabled.{EndsSolve, EndsBegun}
 use Rattle.pass_core.proofs.Explaining.{on_ok}
-use Rattle.pass_core.proofs.Tabling.{stuck_ends, begun_flight, read_machine, reads_number, at_node, begun_solving, solve_ends, anyhow, lives, within_pools}
+use Rattle.pass_core.proofs.Tabling.{stuck_ends, begun_flight, read_machine, reads_number, at_node, begun_solving, begun_counted, solve_ends, anyhow, lives, within_pools}
 use Rattle.pass_core.proofs.CutNodes.{answer_about}
 use Rattle.pass_core.proofs.state.State.solve.Goals as goal
 
@@ -31,9 +32,10 @@ returns-then-not-fits-clause-tabled c = λ m i frame b.
     c.left_stuck-then-not-fits.ensures.drops c.left_stuck-then-not-fits.ensures.others
 
 pub returns-clause-tabled : goal.returns-clause-tabled
-returns-clause-tabled c = λ m i frame b.
+returns-clause-tabled c = λ m i frame begun.
     let p = content c.args.program.now in
-    let s = c.args.self.now in
+    let s : State = record c.args.self.now { counts = c.raise.new.self } in
+    let b = begun_counted p c.args.self.now m c.args.node c.raise.new.self begun in
     let n = c.args.node in
     let node : c.in-Some.begun.task.datum.node ≡ n =
     subst (λ (o : Option Begun). IfSome o (λ (x : Begun). x.task.datum.node ≡ c.args.node)) c.in-Some.is c.in_ok-begun.ensures.node in
@@ -74,22 +76,25 @@ returns-then-not-fits-clause-solves c = λ m i walk frame b stand.
     absurd (let no : false ≡ true = c.if-not-fits.ensures.exact.1 problem in cc)
 
 pub returns-clause-solves : goal.returns-clause-solves
-returns-clause-solves c = λ m i walk frame b stand.
+returns-clause-solves c = λ m i walk frame begun stand.
     let p = content c.args.program.now in
-    let s = c.args.self.now in
+    let old = c.args.self.now in
+    let s : State = record old { counts = c.raise.new.self } in
     let n = c.args.node in
+    let b = begun_counted p old m n c.raise.new.self begun in
     let t : Task = c.in-Some.begun.task in
     let all : Solved = c.in_ok-solved.solved in
-    let task : IsTaskOf p s n t =
-    subst (λ (o : Option Begun). IsSomeAnd o (λ (x : Begun). IsTaskOf p s n x.task)) c.in-Some.is (c.in_ok-begun.ensures.stated i walk frame (lives p s m n i frame b)) in
+    let task : IsTaskOf p old n t =
+    subst (λ (o : Option Begun). IsSomeAnd o (λ (x : Begun). IsTaskOf p old n x.task)) c.in-Some.is (c.in_ok-begun.ensures.stated i walk frame (lives p old m n i frame begun)) in
     let node : t.datum.node ≡ n =
     subst (λ (o : Option Begun). IfSome o (λ (x : Begun). x.task.datum.node ≡ c.args.node)) c.in-Some.is c.in_ok-begun.ensures.node in
     let rs : c.in-Some.begun.readings.items ≡ numbers_read (pools_of s.kind s.banks) (children_in s.frame n) =
     subst (λ (o : Option Begun). IfSome o (λ (x : Begun).
     x.readings.items ≡ numbers_read (pools_of c.args.self.now.kind c.args.self.now.banks) (children_in c.args.self.now.frame c.args.node)))
     c.in-Some.is c.in_ok-begun.ensures.readings in
-    let trial : AreUpTo p (node_at p.nodes n).stage t.trial = task_trial p s n t i (lives p s m n i frame b) frame stand task in
-    solved_by p s m n i frame b t all c.commit.new.self c.commit.result task (c.if-not-fits.ensures.exact.0 refl) stand c.in_ok-solved.ensures.exact
+    let trial : AreUpTo p (node_at p.nodes n).stage t.trial = task_trial p old n t i (lives p old m n i frame begun) frame stand task in
+    solved_by p old c.raise.new.self m n i frame b t all c.commit.new.self c.commit.result c.raise.ensures task (c.if-not-fits.ensures.exact.0 refl) stand
+    c.in_ok-solved.ensures.exact
     (c.commit.ensures.tabled (read_machine p s m n i frame b) (begun_flight p s m n i frame b)
     (begun_solving p s m n i frame b c.in-Some.begun.readings.items rs) (reads_number p s m n i frame b) (at_node p s m n i frame b)
     (answer_about t n all node c.in_ok-solved.ensures.answer))

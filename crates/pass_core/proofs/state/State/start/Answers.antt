@@ -1,8 +1,35 @@
+use Rattle.std.proofs.Common.{ℕ, replicate, ap, refl, ◌∙◌}
 use Rattle.scen_defs.specs.Program.{content}
-use Rattle.pass_core.proofs.Parentage.{started}
+use Rattle.run_data.specs.Counts.{untouched}
+use Rattle.run_data.specs.Frames.{Frame}
+use Rattle.cut_banks.specs.Banks.{empty_banks}
+use Rattle.pass_core.proofs.Beginning.{all_nodes}
+use Rattle.pass_core.proofs.Parentage.{are_parents, made_one, started}
 use Rattle.pass_core.proofs.state.State.start.Goals as goal
 
 pub returns-clause-tabled : goal.returns-clause-tabled
 returns-clause-tabled c = λ i.
     started (content c.args.program.now) _ c.in_ok-frame.frame c.parents.result.now c.nodes-nodes.result c.in_ok-table.field-0 i c.frame.view_is
     (c.in_ok-frame.ensures i.small) c.parents.ensures c.in-Some.is c.in_ok-table.ensures.fits c.in_ok-empty.ensures c.nodes-nodes.ensures
+
+pub returns-clause-beginning : goal.returns-clause-beginning
+returns-clause-beginning c = λ small.
+    let p = content c.args.program.now in
+    let n = all_nodes p c.in_ok-frame.frame c.nodes-nodes.result small (c.in_ok-frame.ensures small) c.nodes-nodes.ensures in
+    record {
+      frame = c.frame.view_is ∙ c.in_ok-frame.ensures small;
+      budget_is = refl;
+      kind = refl;
+      pools = c.in_ok-empty.ensures ∙ ap empty_banks n;
+      points = c.in_ok-none.ensures;
+      ends = c.none-2.ensures;
+      versions = c.in_ok-untouched.ensures ∙ ap (λ (k : ℕ). replicate k untouched) n;
+      stop = refl;
+      lasting = refl;
+      is_begun = refl;
+    }
+
+pub returns-in_default-clause-some : goal.returns-in_default-clause-some
+returns-in_default-clause-some c = λ i few.
+    made_one c.in_ok-table.field-0 c.parents.result.now _ c.in_ok-table.ensures.some
+    (c.parents.ensures ∙ ap (λ (f : Frame). f.parents) (c.in_ok-frame.ensures i.small)) c.in_default.is (are_parents (content c.args.program.now) i few)

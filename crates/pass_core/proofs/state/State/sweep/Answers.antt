@@ -13,6 +13,7 @@ loop-due-preserved c = record {
   budget = c.sweep_for.ensures.budget ∙ c.loop-due.invariant.budget;
   table = c.sweep_for.ensures.table ∙ c.loop-due.invariant.table;
   begun = c.sweep_for.ensures.begun ∙ c.loop-due.invariant.begun;
+  counts = c.sweep_for.ensures.counts ∙ c.loop-due.invariant.counts;
 }
 
 pub returns-clause-banks : goal.returns-clause-banks

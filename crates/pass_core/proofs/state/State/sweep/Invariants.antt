@@ -10,4 +10,5 @@ invariant-loop-due l = record {
   budget : l.self.budget ≡ l.initial.self.budget;
   table : l.self.table ≡ l.initial.self.table;
   begun : l.self.is_begun ≡ l.initial.self.is_begun;
+  counts : l.self.counts ≡ l.initial.self.counts;
 }

@@ -14,15 +14,18 @@ loop-init c = ((λ budget w. w), (λ m i f h. (goes_nowhere (content c.args.prog
 pub loop-preserved : goal.loop-preserved
 loop-preserved c =
     let p = content c.args.program.now in
-    let new : Working = record { state = c.advance.new.self; tree = c.loop.self.tree } in (
+    let new : Working = record { state = c.advance.new.self; tree = c.loop.self.tree } in
+    let open_yet : settled_in c.loop.self.state ≡ None = XXX in (
       (λ budget w. works_still p budget c.loop.self new refl c.in_ok-advance.ensures.explained
           (λ i f. step_tabled p c.loop.self.state new.state _ (λ m. c.in_ok-advance.ensures.tabled m i f))
-          (λ i t f. steps_points p c.loop.self.state new.state _ (λ m. c.in_ok-advance.ensures.solves m i t f)) (c.loop.invariant.0 budget w)),
+          (λ i t f. steps_points p c.loop.self.state new.state _ (λ m. c.in_ok-advance.ensures.solves m i t f))
+          (λ i t f. step_in_budget p c.loop.self.state new.state _ c.in_ok-advance.ensures.explained.1 (goes_on c.loop.self.state open_yet)
+          (λ m. c.in_ok-advance.ensures.solves m i t f)) (c.loop.invariant.0 budget w)),
       (λ m i f h.
           let before = c.loop.invariant.1 m i f h in
           (goes_further p m c.loop.self.state new.state _ before.0 (λ j. c.in_ok-advance.ensures.tabled j i before.1), c.in_ok-advance.ensures.explained.0 ∙ before.1)),
       (λ budget i few w. solves_more p budget c.args.self.now.state c.loop.self new.state _ i few (c.loop.invariant.0 budget w) (c.loop.invariant.2 budget i few w)
-          (λ m. c.in_ok-advance.ensures.solves m i)),
+          (λ m. c.in_ok-advance.ensures.solves m i) open_yet),
     )
 
 pub returns-then-is_ripe-clause-stays : goal.returns-then-is_ripe-clause-stays
@@ -35,7 +38,9 @@ returns-then-is_ripe-clause-stays c = elim c.then-is_ripe.branch [
       subst (λ (working : Working). WorksOn p budget working) (sym way.self-is)
       (works_still p budget c.loop.self new refl way.in_ok-advance.ensures.explained
       (λ i f. step_tabled p c.loop.self.state new.state _ (λ m. way.in_ok-advance.ensures.tabled m i f))
-      (λ i t f. steps_points p c.loop.self.state new.state _ (λ m. way.in_ok-advance.ensures.solves m i t f)) (c.loop.invariant.0 budget w))
+      (λ i t f. steps_points p c.loop.self.state new.state _ (λ m. way.in_ok-advance.ensures.solves m i t f))
+      (λ i t f. step_in_budget p c.loop.self.state new.state _ way.in_ok-advance.ensures.explained.1 (goes_on c.loop.self.state YYY)
+      (λ m. way.in_ok-advance.ensures.solves m i t f)) (c.loop.invariant.0 budget w))
 ]
 
 pub returns-then-is_ripe-clause-steps : goal.returns-then-is_ripe-clause-steps
@@ -60,5 +65,5 @@ returns-then-is_ripe-clause-solves c = elim c.then-is_ripe.branch [
       let new : Working = record { state = way.advance.new.self; tree = c.loop.self.tree } in
       subst (λ (working : Working). SolvesNodes p c.args.self.now.state working.state) (sym way.self-is)
       (solves_more p budget c.args.self.now.state c.loop.self new.state _ i few (c.loop.invariant.0 budget w) (c.loop.invariant.2 budget i few w)
-      (λ m. way.in_ok-advance.ensures.solves m i))
+      (λ m. way.in_ok-advance.ensures.solves m i) YYY)
 ]
