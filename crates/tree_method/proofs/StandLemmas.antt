@@ -1,7 +1,8 @@
 -- What stands on a program stands, behind an edit, on the program after it.
-use Rattle.std.proofs.Common.{◌≡◌, ◌⊎◌, ℕ, ◌<◌, ◌≤◌, zero, suc, leb, Bool, true, false, List, [], ◌∷◌, map, length, Option, Some, None}
+use Rattle.std.proofs.Common.{◌≡◌, ◌⊎◌, ℕ, ◌<◌, ◌≤◌, zero, suc, leb, ◌||◌, is_some, Bool, true, false, List, [], ◌∷◌, map, length, replicate, Option, Some, None, IfSome}
 use Rattle.std.proofs.Common.{refl, sym, ap, subst, ◌∙◌, inl, inr, Result, Ok, Err, OnOk, arith}
-use Rattle.std.proofs.lemmas.Bool.{leb-false}
+use Rattle.std.proofs.lemmas.Bool.{leb-false, lt-leb}
+use Rattle.std.proofs.lemmas.List.{length-replicate}
 use Rattle.rationals.specs.Rational.{ℚ}
 use Rattle.smps_words.specs.declared.entry.Entry.{Entry}
 use Rattle.smps_words.specs.declared.entry.Entry.TheVariants.{Cost, Matrix, Rhs}
@@ -27,11 +28,18 @@ use Rattle.pass_table.specs.Machine.{Machine}
 use Rattle.pass_table.specs.Marks.{nothing}
 use Rattle.pass_core.specs.declared.budget.Budget.{Budget}
 use Rattle.pass_core.specs.declared.state.Counts.{Counts}
-use Rattle.pass_core.specs.Counting.{one_solve_more, with_commit}
+use Rattle.pass_core.specs.Counting.{no_commits, one_solve_more, with_commit}
 use Rattle.run_ends.specs.declared.settled.Settled.{Settled}
 use Rattle.run_ends.specs.declared.settled.Settled.TheVariants.{Spent}
-use Rattle.run_ends.specs.Settled.{where_so, shown, ended, or_case}
-use Rattle.pass_core.specs.Explained.{ComesOfSolve, PassesInRun, IsExplained, AreExplained, KeepsExplained}
+use Rattle.run_ends.specs.Settled.{where_so, shown, ended, or_case, settled}
+use Rattle.run_ends.specs.declared.ends.Ends.{Ends}
+use Rattle.run_ends.specs.Ends.{no_ends}
+use Rattle.scen_defs.specs.declared.report.Kind.{Kind}
+use Rattle.scen_defs.specs.declared.report.Kind.TheVariants.{Feasible}
+use Rattle.run_data.specs.Counts.{untouched}
+use Rattle.pass_core.specs.Beginning.{IsBeginning, StartsOver}
+use Rattle.pass_core.proofs.Beginning.{first_counted}
+use Rattle.pass_core.specs.Explained.{ComesOfSolve, PassesInRun, IsExplained, AreExplained, KeepsExplained, IsUnstopped}
 use Rattle.pass_core.specs.declared.state.State.{State}
 use Rattle.pass_core.specs.Tabled.{IsTabled, IsTabledBy, StepsTo}
 use Rattle.pass_core.specs.Turns.{PointsStand, MakesStep, begins_none, opens_run, solves}
@@ -43,7 +51,7 @@ use Rattle.tree_method.specs.declared.method.Method.{Method}
 use Rattle.tree_method.specs.declared.method.Method.TheVariants.{Working as AtWork}
 use Rattle.tree_method.specs.Edited.{is_grown, KeepsTabled, IsEdited, HasNoTree}
 use Rattle.tree_method.specs.Laws.{TouchesCarry}
-use Rattle.tree_method.specs.Stands.{LeavesOpen, TellsWhy, IsInBudget, WorksOn, StandsOn, settled_in, SolvesNodes, more}
+use Rattle.tree_method.specs.Stands.{LeavesOpen, TellsWhy, IsInBudget, WorksOn, StandsOn, settled_in, SolvesNodes, none, more, anew, SolvesAnew}
 use Rattle.tree_method.proofs.Standing.{touches_stand, versions_behind}
 
 -- ---- the frame
@@ -172,6 +180,15 @@ one_more_within a b h = omega (arith, h)
 one_more_at_most : (a b : ℕ) → a < b → one_solve_more a ≤ b
 one_more_at_most a b h = omega (arith, h)
 
+-- where an edit may not come yet, something is left to find
+pub not_ripe : (work counted : ℕ) (case : Option Settled) → (leb work counted || is_some case) ≡ false → case ≡ None
+not_ripe work counted None e = refl
+not_ripe work counted (Some case) e = absurd (let no : true ≡ false = sym (or_true (leb work counted)) ∙ e in cc)
+  where
+    or_true : (b : Bool) → (b || true) ≡ true
+    or_true true = refl
+    or_true false = refl
+
 -- a state with these counts keeps to the budget
 in_budget : (old new : State) → new.budget ≡ old.budget → (new.counts ≡ old.counts) ⊎ (new.counts ≡ with_commit old.counts)
     → old.counts.since_report < old.budget.solves → IsInBudget old → IsInBudget new
@@ -191,6 +208,76 @@ pub step_in_budget : (p : Program) (old new : State) (told : Bool) → new.budge
     → IsTabled p old → PointsStand p old.lasts.nodes.items → IsInBudget old → IsInBudget new
 step_in_budget p old new told b less step h points within =
     in_budget old new b (step_counts p old new h.0 told (step h.0 h.1 points)) less within
+
+-- ---- a program that is begun anew
+-- nothing that stops the method, no end and no point is known
+begun_unstopped : (p : Program) (budget : Budget) (s : State) → IsBeginning p budget s → IsUnstopped s
+begun_unstopped p budget s b = record {
+  stop = subst (λ (o : Option Open). IfSome o (λ why. why ≡ Solves s.budget.solves)) (sym b.stop) tt;
+  lasting = b.lasting;
+  ends = b.ends;
+  points = b.points;
+}
+
+pub begins_on : (p : Program) (budget : Budget) (w : Working) → IsBeginning p budget w.state → tree_walk p ≡ Ok w.tree
+    → (IsProgram p → length p.nodes < nothing → IsTabled p w.state) → (IsProgram p → length p.nodes < nothing → IsInBudget w.state) → WorksOn p budget w
+begins_on p budget w b t tabled within = record {
+  tree = t;
+  frame = b.frame;
+  budget_is = b.budget_is;
+  versions = subst (λ (vs : List Version). length p.nodes ≤ length vs) (sym b.versions) (omega (arith, length-replicate (length p.nodes) untouched));
+  explained = unstopped_is_explained p w.tree w.state (begun_unstopped p budget w.state b);
+  counted = within;
+  tabled = tabled;
+  points = λ i few. empty_stand p w.state.lasts.nodes.items b.points;
+}
+
+-- without a solve the counts are within any budget
+pub none_counted : (s : State) → s.counts ≡ no_commits → IsInBudget s
+none_counted s e = record {
+  item = omega (arith, ap (λ (c : Counts). c.since_item) e, ap (λ (c : Counts). c.since_report) e);
+  report = omega (arith, ap (λ (c : Counts). c.since_report) e);
+}
+
+-- the method stands on a program that is begun anew, or on which nothing changed
+pub over_stands : (p : Program) (budget : Budget) (tree : Tree) (old new : State) → (new ≡ old) ⊎ StartsOver p old new
+    → (IsProgram p → length p.nodes < nothing → IsTabled p new) → WorksOn p budget (record { state = old; tree = tree })
+    → WorksOn p budget (record { state = new; tree = tree })
+over_stands p budget tree old new (inl e) tabled w = subst (λ (s : State). WorksOn p budget (record { state = s; tree = tree })) (sym e) w
+over_stands p budget tree old new (inr o) tabled w =
+    begins_on p budget (record { state = new; tree = tree }) (subst (λ (b : Budget). IsBeginning p b new) w.budget_is o.beginning) w.tree tabled
+    (λ i few. let h = w.counted i few in record {
+      item = subst (λ (c : Counts). c.since_item ≤ c.since_report) (sym o.counts) h.item;
+      report = omega (arith, h.report, ap (λ (c : Counts). c.since_report) o.counts, ap (λ (b : Budget). b.solves) o.beginning.budget_is);
+    })
+
+-- as many solves are left there as before
+pub same_left : (p : Program) (old new : State) → (new ≡ old) ⊎ StartsOver p old new → old.counts.since_report < old.budget.solves
+    → new.counts.since_report < new.budget.solves
+same_left p old new (inl e) less = subst (λ (s : State). s.counts.since_report < s.budget.solves) (sym e) less
+same_left p old new (inr o) less =
+    omega (arith, less, ap (λ (c : Counts). c.since_report) o.counts, ap (λ (b : Budget). b.solves) o.beginning.budget_is)
+
+pub on_ok_if : {X E : Type 0} (r : Result X E) (A B : Type 0) → (A → OnOk r B) → OnOk r (A → B)
+on_ok_if (Ok x) A B f = f
+on_ok_if (Err e) A B f = tt
+
+-- something is left to find there
+pub begun_open : (p : Program) (budget : Budget) (s : State) → IsBeginning p budget s → s.counts.since_report < s.budget.solves → settled_in s ≡ None
+begun_open p budget s b less =
+    ap (λ (kind : Kind). settled kind s.table.closed s.ends s.stop s.counts.since_report s.budget.solves) b.kind
+    ∙ ap (λ (ends : Ends). settled Feasible s.table.closed ends s.stop s.counts.since_report s.budget.solves) b.ends
+    ∙ ap (λ (stop : Option Open). settled Feasible s.table.closed no_ends stop s.counts.since_report s.budget.solves) b.stop
+    ∙ ap (λ (spent : Bool). where_so spent Spent) (lt-leb s.budget.solves s.counts.since_report less)
+
+-- begun anew, its first step is a solve
+pub solves_anew : (p : Program) (old mid new : State) (told : Bool) → IsProgram p → StartsOver p old mid → IsTabled p mid
+    → mid.counts.since_report < mid.budget.solves
+    → ((m : Machine) → IsTabledBy p mid m → MakesStep p mid m new told) → SolvesAnew p old new
+solves_anew p old mid new told i over tabled less step = record {
+  solves = more mid new tabled.0 told (anew old mid none over) (begun_open p old.budget mid over.beginning less) tabled.1 (step tabled.0 tabled.1);
+  counts = first_counted p mid i new told over.beginning.frame over.beginning.is_begun tabled step ∙ ap with_commit over.counts;
+}
 
 -- one more step
 pub solves_more : (p : Program) (budget : Budget) (old : State) (w : Working) (new : State) (told : Bool) → IsProgram p → length p.nodes < nothing

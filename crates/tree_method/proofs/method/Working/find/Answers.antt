@@ -1,10 +1,8 @@
-use Rattle.std.proofs.Common.{refl, sym, ap, subst}
+use Rattle.std.proofs.Common.{refl, ap}
+use Rattle.scen_defs.specs.declared.report.Place.TheVariants.{Cost}
 use Rattle.run_ends.specs.declared.claims.Closed.{Closed}
-use Rattle.pass_core.specs.declared.state.State.{State}
-use Rattle.pass_core.specs.Turns.{PointsStand}
 use Rattle.scen_defs.specs.Program.{content}
-use Rattle.pass_core.specs.Tabled.{GoesBySteps}
-use Rattle.tree_method.proofs.StandLemmas.{works_still, tells_why}
+use Rattle.tree_method.proofs.StandLemmas.{tells_why}
 use Rattle.tree_method.proofs.method.Working.find.Goals as goal
 
 pub returns-clause-why : goal.returns-clause-why
@@ -13,24 +11,10 @@ returns-clause-why c = λ budget w.
     tells_why (content c.args.program.now) budget c.run.new.self _ c.commits.result works
     (c.in_ok-closed.ensures.explained (content c.args.program.now) c.run.new.self.tree works.explained) refl
 
-pub returns-clause-stays : goal.returns-clause-stays
-returns-clause-stays c = λ budget w. works_still (content c.args.program.now) budget c.run.new.self
-    (record { state = c.close.new.self; tree = c.run.new.self.tree }) refl
-    (c.in_ok-closed.ensures.kept (content c.args.program.now) c.run.new.self.tree)
-    (λ i f h. (h.0, c.in_ok-closed.ensures.tabled (content c.args.program.now) h.0 h.1))
-    (λ i t f h points. subst (λ (s : State). PointsStand (content c.args.program.now) s.lasts.nodes.items) (sym c.in_ok-closed.ensures.state) points)
-    (c.in_ok-run.ensures.stays budget w)
-
-pub returns-clause-steps : goal.returns-clause-steps
-returns-clause-steps c = λ m i f h.
-    let ran = c.in_ok-run.ensures.steps m i f h in
-    record { machine = ran.machine; steps = ran.steps; tabled = c.in_ok-closed.ensures.tabled (content c.args.program.now) ran.machine ran.tabled }
-
 pub returns-clause-solves : goal.returns-clause-solves
 returns-clause-solves c = λ budget i few w. record {
-  before = c.run.new.self.state;
   solves = c.in_ok-run.ensures.solves budget i few w;
   claim = ap (λ (x : Closed). x.claim) c.in_ok-closed.ensures.claim;
   why = ap (λ (x : Closed). x.why) c.in_ok-closed.ensures.claim;
-  behind = c.in_ok-closed.ensures.state;
+  place = ap Cost c.commits.ensures;
 }

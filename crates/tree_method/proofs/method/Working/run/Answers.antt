@@ -1,10 +1,10 @@
-use Rattle.std.proofs.Common.{refl, sym, subst, ◌∙◌}
+use Rattle.std.proofs.Common.{◌≡◌, None, refl, sym, subst, ◌∙◌}
 use Rattle.scen_defs.specs.Program.{content}
 use Rattle.pass_core.specs.Tabled.{GoesBySteps}
 use Rattle.pass_core.proofs.Tabling.{goes_further, goes_nowhere}
 use Rattle.tree_method.specs.declared.method.Working.{Working}
-use Rattle.tree_method.specs.Stands.{WorksOn, SolvesNodes, none}
-use Rattle.tree_method.proofs.StandLemmas.{works_still, step_tabled, steps_points, solves_more}
+use Rattle.tree_method.specs.Stands.{WorksOn, settled_in, SolvesNodes, none}
+use Rattle.tree_method.proofs.StandLemmas.{works_still, step_tabled, steps_points, goes_on, not_ripe, step_in_budget, solves_more}
 use Rattle.tree_method.proofs.method.Working.run.Goals as goal
 use Rattle.tree_method.proofs.method.Working.run.Goals.{then-is_ripe-via-then-is_ripe, then-is_ripe-via-else-is_ripe+in_ok-advance+then-not-branch}
 
@@ -15,7 +15,7 @@ pub loop-preserved : goal.loop-preserved
 loop-preserved c =
     let p = content c.args.program.now in
     let new : Working = record { state = c.advance.new.self; tree = c.loop.self.tree } in
-    let open_yet : settled_in c.loop.self.state ≡ None = XXX in (
+    let open_yet : settled_in c.loop.self.state ≡ None = not_ripe c.args.work _ _ (sym c.is_ripe.ensures ∙ c.if-is_ripe.false) in (
       (λ budget w. works_still p budget c.loop.self new refl c.in_ok-advance.ensures.explained
           (λ i f. step_tabled p c.loop.self.state new.state _ (λ m. c.in_ok-advance.ensures.tabled m i f))
           (λ i t f. steps_points p c.loop.self.state new.state _ (λ m. c.in_ok-advance.ensures.solves m i t f))
@@ -39,7 +39,7 @@ returns-then-is_ripe-clause-stays c = elim c.then-is_ripe.branch [
       (works_still p budget c.loop.self new refl way.in_ok-advance.ensures.explained
       (λ i f. step_tabled p c.loop.self.state new.state _ (λ m. way.in_ok-advance.ensures.tabled m i f))
       (λ i t f. steps_points p c.loop.self.state new.state _ (λ m. way.in_ok-advance.ensures.solves m i t f))
-      (λ i t f. step_in_budget p c.loop.self.state new.state _ way.in_ok-advance.ensures.explained.1 (goes_on c.loop.self.state YYY)
+      (λ i t f. step_in_budget p c.loop.self.state new.state _ way.in_ok-advance.ensures.explained.1 (goes_on c.loop.self.state (not_ripe c.args.work _ _ (sym c.is_ripe.ensures ∙ way.if-is_ripe.false)))
       (λ m. way.in_ok-advance.ensures.solves m i t f)) (c.loop.invariant.0 budget w))
 ]
 
@@ -65,5 +65,5 @@ returns-then-is_ripe-clause-solves c = elim c.then-is_ripe.branch [
       let new : Working = record { state = way.advance.new.self; tree = c.loop.self.tree } in
       subst (λ (working : Working). SolvesNodes p c.args.self.now.state working.state) (sym way.self-is)
       (solves_more p budget c.args.self.now.state c.loop.self new.state _ i few (c.loop.invariant.0 budget w) (c.loop.invariant.2 budget i few w)
-      (λ m. way.in_ok-advance.ensures.solves m i) YYY)
+      (λ m. way.in_ok-advance.ensures.solves m i) (not_ripe c.args.work _ _ (sym c.is_ripe.ensures ∙ way.if-is_ripe.false)))
 ]

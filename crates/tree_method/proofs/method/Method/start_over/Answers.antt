@@ -1,0 +1,19 @@
+use Rattle.std.proofs.Common.{◌≡◌, false, OnOk, sym, subst}
+use Rattle.std.proofs.lemmas.Bool.{leb-false}
+use Rattle.scen_defs.specs.Program.{Program, content}
+use Rattle.tree_method.specs.declared.method.Method.{Method}
+use Rattle.tree_method.specs.declared.method.Method.TheVariants.{Working as AtWork}
+use Rattle.tree_method.specs.Stands.{StandsOn, is_spent, WorksAnew}
+use Rattle.tree_method.proofs.StandLemmas.{on_ok_if}
+use Rattle.tree_method.proofs.method.Method.start_over.Goals as goal
+
+pub returns-in-Working-clause-stays : goal.returns-in-Working-clause-stays
+returns-in-Working-clause-stays c = λ budget small left s.
+    c.start_over.ensures.stays budget small (leb-false _ _ (subst (λ (m : Method). is_spent m ≡ false) c.in-Working.is left))
+    (subst (StandsOn (content c.args.program.now) budget) c.in-Working.is s)
+
+pub returns-in-Working-clause-solves : goal.returns-in-Working-clause-solves
+returns-in-Working-clause-solves c = λ budget i few s.
+    let p : Program = content c.args.program.now in
+    subst (λ (m : Method). OnOk c.start_over.result (WorksAnew p m (AtWork c.start_over.new.self))) (sym c.in-Working.is)
+    (on_ok_if c.start_over.result _ _ (λ left. c.start_over.ensures.solves budget i few left (subst (StandsOn p budget) c.in-Working.is s)))

@@ -1,0 +1,29 @@
+use Rattle.std.proofs.Common.{◌≡◌, ◌<◌, refl, ap, arith, ◌∙◌}
+use Rattle.scen_defs.specs.Program.{content}
+use Rattle.pass_core.specs.declared.budget.Budget.{Budget}
+use Rattle.pass_core.specs.declared.state.Counts.{Counts}
+use Rattle.tree_method.specs.declared.method.Working.{Working}
+use Rattle.tree_method.proofs.StandLemmas.{over_stands, same_left, works_still, step_tabled, steps_points, step_in_budget, solves_anew}
+use Rattle.tree_method.proofs.method.Working.start_over.Goals as goal
+
+pub returns-clause-stays : goal.returns-clause-stays
+returns-clause-stays c = λ budget small left w.
+    let p = content c.args.program.now in
+    let mid : Working = record { state = c.start_over.new.self; tree = c.args.self.now.tree } in
+    let new : Working = record { state = c.advance.new.self; tree = c.args.self.now.tree } in
+    let over = over_stands p budget mid.tree c.args.self.now.state mid.state (c.in_ok-start_over.ensures.over small) c.in_ok-start_over.ensures.tabled w in
+    works_still p budget mid new refl c.in_ok-advance.ensures.explained
+    (λ i f. step_tabled p mid.state new.state _ (λ m. c.in_ok-advance.ensures.tabled m i f))
+    (λ i t f. steps_points p mid.state new.state _ (λ m. c.in_ok-advance.ensures.solves m i t f))
+    (λ i t f. step_in_budget p mid.state new.state _ c.in_ok-advance.ensures.explained.1
+    (same_left p c.args.self.now.state mid.state (c.in_ok-start_over.ensures.over small) left) (λ m. c.in_ok-advance.ensures.solves m i t f)) over
+
+pub returns-clause-solves : goal.returns-clause-solves
+returns-clause-solves c = λ budget i few left w.
+    let p = content c.args.program.now in
+    let mid : Working = record { state = c.start_over.new.self; tree = c.args.self.now.tree } in
+    let starts = c.in_ok-start_over.ensures.starts i few in
+    let over = over_stands p budget mid.tree c.args.self.now.state mid.state (c.in_ok-start_over.ensures.over i.small) c.in_ok-start_over.ensures.tabled w in
+    solves_anew p c.args.self.now.state mid.state c.advance.new.self _ i starts (c.in_ok-start_over.ensures.tabled i few)
+    (same_left p c.args.self.now.state mid.state (c.in_ok-start_over.ensures.over i.small) left)
+    (λ m t. c.in_ok-advance.ensures.solves m i over.tree over.frame t (over.points i few))
