@@ -22,6 +22,7 @@ use Rattle.proved_report.specs.Reports.{EqualIsOptimal}
 use Rattle.smps_session.specs.Told.{IsTold, AreTold}
 use Rattle.pass_table.specs.Marks.{nothing}
 use Rattle.tree_method.specs.declared.method.Method.{Method}
+use Rattle.tree_method.specs.Stands.{WorksBySolves, GoesOn}
 use Rattle.smps_session.specs.Comes.{ComesOf, TakesEdit}
 use Rattle.smps_session.specs.Courses.{Course, course_at, TellsOne, IsBehind}
 
@@ -75,6 +76,12 @@ pub item_allowed : (p : Program) (item : Item) (items : List Item) → 1 ≤ len
 item_allowed p item items some first h =
     first_allowed p item.act (take (length items - 1) (drop 1 items)) item.work
     (subst (λ (xs : List Item). AreAllowed p xs) (taken_apart items item some first) h)
+
+-- what a method does at an edit
+pub takes_edit : {A E : Type 0} (result : Result A E) (p : Program) (e : Edit) (old worked new : Method)
+    → (length p.nodes < nothing → WorksBySolves p old worked) → OnOk result (GoesOn p e worked new) → OnOk result (TakesEdit p e old new)
+takes_edit (Ok x) p e old worked new w g = record { worked = worked; works = w; goes = g }
+takes_edit (Err x) p e old worked new w g = tt
 
 -- an item that is an edit
 changed : {A E : Type 0} (result : Result A E) (budget : Budget) (e : Edit) (p q : Program) (method method' : Method) (number number' : ℕ)

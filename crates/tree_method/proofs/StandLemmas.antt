@@ -1,5 +1,5 @@
 -- What stands on a program stands, behind an edit, on the program after it.
-use Rattle.std.proofs.Common.{◌≡◌, ◌⊎◌, ℕ, ◌<◌, ◌≤◌, zero, suc, leb, ◌||◌, is_some, Bool, true, false, List, [], ◌∷◌, map, length, replicate, Option, Some, None, IfSome}
+use Rattle.std.proofs.Common.{◌≡◌, ◌⊎◌, ℕ, ◌<◌, ◌≤◌, ◌^◌, zero, suc, leb, ◌||◌, is_some, Bool, true, false, List, [], ◌∷◌, map, length, replicate, Option, Some, None, IfSome}
 use Rattle.std.proofs.Common.{refl, sym, ap, subst, ◌∙◌, inl, inr, Result, Ok, Err, OnOk, arith}
 use Rattle.std.proofs.lemmas.Bool.{leb-false, lt-leb}
 use Rattle.std.proofs.lemmas.List.{length-replicate}
@@ -278,6 +278,28 @@ solves_anew p old mid new told i over tabled less step = record {
   solves = more mid new tabled.0 told (anew old mid none over) (begun_open p old.budget mid over.beginning less) tabled.1 (step tabled.0 tabled.1);
   counts = first_counted p mid i new told over.beginning.frame over.beginning.is_begun tabled step ∙ ap with_commit over.counts;
 }
+
+-- ---- solves behind one another
+pub solves_behind : (p : Program) (a b c : State) → SolvesNodes p a b → SolvesNodes p b c → SolvesNodes p a c
+solves_behind p a b c x none = x
+solves_behind p a b c x (more mid new m told y left t step) = more mid new m told (solves_behind p a b mid x y) left t step
+solves_behind p a b c x (anew mid new y over) = anew mid new (solves_behind p a b mid x y) over
+
+-- the solves that are counted since a report don't become less, and have 64 bits
+pub more_counted : (p : Program) (a b : State) → a.counts.since_report < 2 ^ 64 → SolvesNodes p a b
+    → (a.counts.since_report ≤ b.counts.since_report) × (b.counts.since_report < 2 ^ 64)
+more_counted p a b less none = (omega arith, less)
+more_counted p a b less (more mid new m told y left t step) =
+    let h = more_counted p a mid less y in go (step_counts p mid new m told step) h
+  where
+    go : (new.counts ≡ mid.counts) ⊎ (new.counts ≡ with_commit mid.counts)
+        → (a.counts.since_report ≤ mid.counts.since_report) × (mid.counts.since_report < 2 ^ 64)
+        → (a.counts.since_report ≤ new.counts.since_report) × (new.counts.since_report < 2 ^ 64)
+    go (inl e) h = let k = ap (λ (c : Counts). c.since_report) e in (omega (arith, h.0, k), omega (arith, h.1, k))
+    go (inr e) h = let k = ap (λ (c : Counts). c.since_report) e in (omega (arith, h.0, h.1, k), omega (arith, h.1, k))
+more_counted p a b less (anew mid new y over) =
+    let h = more_counted p a mid less y in
+    let k = ap (λ (c : Counts). c.since_report) over.counts in (omega (arith, h.0, k), omega (arith, h.1, k))
 
 -- one more step
 pub solves_more : (p : Program) (budget : Budget) (old : State) (w : Working) (new : State) (told : Bool) → IsProgram p → length p.nodes < nothing

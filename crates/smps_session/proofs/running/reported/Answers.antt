@@ -1,25 +1,56 @@
+use Rattle.std.proofs.Common.{◌≡◌, ◌<◌, ◌^◌, false, inl, inr, refl, arith}
 use Rattle.scen_defs.specs.Program.{content}
-use Rattle.tree_method.specs.Stands.{StandsOn}
-use Rattle.smps_session.proofs.ReasonLemmas.{true_told}
-use Rattle.smps_session.proofs.ToldLemmas.{on_ok}
+use Rattle.scen_defs.proofs.Valid.{programs_are_trees}
+use Rattle.tree_method.specs.Stands.{is_spent}
+use Rattle.smps_session.proofs.ComeLemmas.{first_counts, counts_fewer, left_over, round_counts, ended_by, comes_of}
 use Rattle.smps_session.proofs.running.reported.Goals as goal
 
-pub returns-clause-number : goal.returns-clause-number
-returns-clause-number c = c.report.ensures.number
+pub loop-init : goal.loop-init
+loop-init c = record {
+  number = c.in_ok-report.ensures.number;
+  counts = c.in_ok-report.ensures.counts;
+  names = c.in_ok-report.ensures.names;
+  truth = λ small stands tree. c.in_ok-report.ensures.truth stands tree;
+  equal = c.in_ok-report.ensures.equal;
+  stands = λ small stands. c.in_ok-report.ensures.stands stands;
+  under_way = λ i few stands. (c.in_ok-report.ensures.shows i few stands, first_counts c.found.new.method);
+}
 
-pub returns-clause-counts : goal.returns-clause-counts
-returns-clause-counts c = c.report.ensures.counts
-
-pub returns-clause-names : goal.returns-clause-names
-returns-clause-names c = c.report.ensures.names
-
-pub returns-clause-truth : goal.returns-clause-truth
-returns-clause-truth c = λ stands tree. true_told c.args.program.now c.args.budget c.in_ok-found.found c.args.number c.report.result
-    (c.in_ok-found.ensures.why c.args.budget stands) c.report.ensures.exact (c.report.ensures.truth tree)
-
-pub returns-clause-equal : goal.returns-clause-equal
-returns-clause-equal c = c.report.ensures.equal
+pub loop-preserved : goal.loop-preserved
+loop-preserved c =
+    let p = content c.args.program.now in
+    let budget = c.args.budget in
+    let left : is_spent c.loop.method ≡ false =
+    left_over c.loop.report.finding c.loop.method c.is_unfinished.result c.is_unfinished.ensures c.if-not-is_unfinished.false in
+    let bits : budget.solves < 2 ^ 64 = omega (arith, c.ranges) in
+    record {
+      number = c.in_ok-report-2.ensures.number;
+      counts = c.in_ok-report-2.ensures.counts;
+      names = c.in_ok-report-2.ensures.names;
+      truth = λ small stands tree.
+          c.in_ok-report-2.ensures.truth (c.in_ok-start_over.ensures.stays budget small left (c.loop.invariant.stands small stands)) tree;
+      equal = c.in_ok-report-2.ensures.equal;
+      stands = λ small stands.
+          c.in_ok-report-2.ensures.stands (c.in_ok-start_over.ensures.stays budget small left (c.loop.invariant.stands small stands));
+      under_way = λ i few stands.
+          let mid = c.loop.invariant.stands i.small stands in
+          let before = c.loop.invariant.under_way i few stands in
+          round_counts budget c.args.program.now c.loop.counter c.args.method.now c.loop.method c.start_over.new.self c.found-in-loop.new.method
+          c.loop.report c.in_ok-report-2.report bits left mid i few before.0 before.1 (c.in_ok-start_over.ensures.solves budget i few mid)
+          (c.in_ok-report-2.ensures.shows i few (c.in_ok-start_over.ensures.stays budget i.small left mid));
+    }
 
 pub returns-clause-stands : goal.returns-clause-stands
-returns-clause-stands c = λ stands. on_ok c.report.result (StandsOn (content c.args.program.now) c.args.budget c.find.new.self)
-    (c.in_ok-found.ensures.stays c.args.budget stands)
+returns-clause-stands c = λ small stands. c.close.ensures.stays (content c.args.program.now) c.args.budget (c.loop.invariant.stands small stands)
+
+pub returns-clause-comes : goal.returns-clause-comes
+returns-clause-comes c = λ i few stands.
+    let p = content c.args.program.now in
+    let under = c.loop.invariant.under_way i few stands in
+    comes_of c.args.budget c.args.program.now c.args.method.now c.loop.method c.close.new.self c.loop.report i few
+    (c.loop.invariant.stands i.small stands) (c.loop.invariant.truth i.small stands (programs_are_trees p i).0) under.0
+    (elim c.loop-test.branch [
+      | goal.else-loop-test way ↦ inr (counts_fewer c.loop.counter c.args.budget.solves c.loop.method (omega (arith, way.loop-test.false)) under.1)
+      | goal.then-loop-test+then-not-is_unfinished way ↦
+          inl (ended_by c.loop.report.finding c.loop.method way.is_unfinished.result way.is_unfinished.ensures way.if-not-is_unfinished.true)
+    ]) c.close.ensures.after

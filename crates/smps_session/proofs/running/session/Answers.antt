@@ -1,3 +1,4 @@
+use Rattle.smps_session.proofs.ComeLemmas.{comes_of_all}
 use Rattle.smps_session.proofs.running.session.Goals as goal
 
 pub returns-clause-number : goal.returns-clause-number
@@ -10,7 +11,12 @@ pub returns-clause-names : goal.returns-clause-names
 returns-clause-names c = c.reported.ensures.names
 
 pub returns-clause-truth : goal.returns-clause-truth
-returns-clause-truth c = λ small tree. c.reported.ensures.truth (c.in_ok-method.ensures small) tree
+returns-clause-truth c = λ small tree. c.reported.ensures.truth small (c.in_ok-method.ensures.stands small) tree
 
 pub returns-clause-equal : goal.returns-clause-equal
 returns-clause-equal c = c.reported.ensures.equal
+
+pub returns-clause-comes : goal.returns-clause-comes
+returns-clause-comes c = λ i few.
+    comes_of_all _ c.args.program.now c.in_ok-method.method c.reported.new.method c.reported.result (c.in_ok-method.ensures.begins i few)
+    (c.reported.ensures.comes i few (c.in_ok-method.ensures.stands i.small))

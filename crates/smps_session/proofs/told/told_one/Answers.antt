@@ -5,11 +5,11 @@ use Rattle.smps_session.proofs.ToldLemmas.{is_told}
 use Rattle.smps_session.proofs.told.told_one.Goals as goal
 
 pub returns-clause-told : goal.returns-clause-told
-returns-clause-told c = is_told c.args.budget c.args.number c.args.program.now c.in_ok-report.report _
+returns-clause-told c = is_told c.args.budget c.args.number c.args.program.now c.args.method.now c.reported.new.method c.in_ok-report.report _
     c.in_ok-report.ensures.number (rw c.new-text.ensures.items at c.in_ok-print_report.ensures.ok) refl
     (c.in_ok-report.ensures.counts c.requires.program.small)
-    (c.in_ok-report.ensures.truth c.requires.stands (programs_are_trees (content c.args.program.now) c.requires.program).0)
-    c.in_ok-report.ensures.equal
+    (c.in_ok-report.ensures.truth c.requires.program.small c.requires.stands (programs_are_trees (content c.args.program.now) c.requires.program).0)
+    c.in_ok-report.ensures.equal (λ few. c.in_ok-report.ensures.comes c.requires.program few c.requires.stands)
 
 pub returns-clause-stands : goal.returns-clause-stands
-returns-clause-stands c = c.in_ok-report.ensures.stands c.requires.stands
+returns-clause-stands c = c.in_ok-report.ensures.stands c.requires.program.small c.requires.stands

@@ -1,4 +1,11 @@
+use Rattle.scen_defs.specs.Program.{content}
+use Rattle.smps_session.proofs.ToldLemmas.{takes_edit}
 use Rattle.smps_session.proofs.items.Progress.change.Goals as goal
 
 pub returns-clause-stands : goal.returns-clause-stands
 returns-clause-stands c = λ budget stands. c.edit.ensures.stands budget (c.in_ok-work.ensures.stays budget stands)
+
+pub returns-clause-takes : goal.returns-clause-takes
+returns-clause-takes c = λ budget stands.
+    takes_edit c.edit.result (content c.args.program.now) c.args.edit.now c.args.self.now.method c.work.new.self c.edit.new.self
+    (λ few. c.in_ok-work.ensures.solves budget c.requires.program few stands) c.edit.ensures.method

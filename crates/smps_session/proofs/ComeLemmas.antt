@@ -1,0 +1,145 @@
+-- How a report comes of the method.
+use Rattle.std.proofs.Common.{◌≡◌, ◌<◌, ◌≤◌, ℕ, ◌+◌, ◌^◌, ◌⊎◌, inl, inr, ◌&&◌, not, Bool, true, false, length, Result, Ok, Err, IfOk, OnOk, refl, sym, ap, subst, ◌∙◌, arith}
+use Rattle.std.proofs.lemmas.Bool.{leb-true, leb-false}
+use Rattle.scen_defs.specs.Program.{content, view_of}
+use Rattle.scen_defs.specs.Valid.{IsProgram}
+use Rattle.report_defs.specs.Truth.{Explains, IsTrue}
+use Rattle.pass_table.specs.Marks.{nothing}
+use Rattle.scen_defs.specs.declared.program.Program.{Program}
+use Rattle.scen_defs.specs.declared.report.Finding.{Finding}
+use Rattle.scen_defs.specs.declared.report.Finding.TheVariants.{Optimal, Infeasible, Unbounded, OpenSolves, OpenPivots, OpenPassed}
+use Rattle.scen_defs.specs.declared.report.Place.{Place}
+use Rattle.scen_defs.specs.declared.report.Place.TheVariants.{Cost}
+use Rattle.scen_defs.specs.declared.report.Report.{Report}
+use Rattle.proved_report.specs.declared.claim.Claim.{Claim}
+use Rattle.proved_report.specs.declared.open.Open.{Open}
+use Rattle.proved_report.specs.Reports.{claimed_report, IsClaimed}
+use Rattle.pass_core.specs.declared.budget.Budget.{Budget}
+use Rattle.pass_core.specs.declared.state.Counts.{Counts}
+use Rattle.pass_core.specs.declared.state.State.{State}
+use Rattle.pass_core.specs.Counting.{one_solve_more}
+use Rattle.tree_method.specs.declared.found.Found.{Found}
+use Rattle.tree_method.specs.declared.method.Method.{Method}
+use Rattle.tree_method.specs.declared.method.Method.TheVariants.{Working as AtWork, Idle}
+use Rattle.tree_method.specs.declared.method.Working.{Working}
+use Rattle.tree_method.specs.Stands.{StandsOn, Begins, SolvesNodes, none, more, anew, FindsBySolves, WorksAnew, SolvesAnew, WorksBySteps, is_spent, after_telling}
+use Rattle.tree_method.proofs.StandLemmas.{more_counted, solves_behind}
+use Rattle.smps_session.specs.Reasons.{told_reasons}
+use Rattle.smps_session.specs.Comes.{tells_solves, is_unfinished, ShowsClosing, ShowsFound, ComesOf, ComesOfAll}
+
+-- ---- what is found and tested
+claimed_so : (program : Program) (number solves : ℕ) (place place' : Place) (why why' : Open) (claim claim' : Claim) (report : Report)
+    → report.number ≡ number → place ≡ place' → why ≡ why' → claim ≡ claim' → IsClaimed program number place why solves claim report
+    → IsClaimed program report.number place' why' solves claim' report
+claimed_so program number solves place place' why why' claim claim' report n p w k c = record { is = cc (n, p, w, k, c.is) }
+
+shows_one : (budget : Budget) (program : Program) (old new : Method) (found : Found) (number : ℕ) (report : Report)
+    → FindsBySolves (content program) old new found → WorksBySteps (content program) old new → report.number ≡ number
+    → IsClaimed program number found.place found.why budget.solves found.claim report → ShowsFound budget program old new report
+shows_one budget program (AtWork old) (AtWork new) found number report f steps n c = record {
+  solves = f.solves;
+  claimed = claimed_so program number budget.solves found.place _ found.why _ found.claim _ report n f.place f.why f.claim c;
+}
+shows_one budget program (AtWork old) (Idle why own) found number report f steps n c = f
+shows_one budget program (Idle why own) new found number report f steps n c = steps
+
+pub shows_found : {E : Type 0} (budget : Budget) (program : Program) (old new : Method) (found : Found) (number : ℕ) (result : Result Report E)
+    → FindsBySolves (content program) old new found → WorksBySteps (content program) old new → IfOk result (λ report. report.number ≡ number)
+    → IfOk result (IsClaimed program number found.place found.why budget.solves found.claim)
+    → IfOk result (ShowsFound budget program old new)
+shows_found budget program old new found number (Ok report) f steps n c = shows_one budget program old new found number report f steps n c
+shows_found budget program old new found number (Err e) f steps n c = tt
+
+-- ---- a program that is begun anew until its solves have ended
+-- so many solves at least are counted
+abbrev pub HasCounted : ℕ → Method → Type 0
+HasCounted k (AtWork w) = k ≤ w.state.counts.since_report
+HasCounted k (Idle why own) = Unit {0}
+
+pub first_counts : (method : Method) → HasCounted 0 method
+first_counts (AtWork w) = omega arith
+first_counts (Idle why own) = tt
+
+is_left : (finding : Finding) (method : Method) → is_unfinished finding method ≡ true → is_spent method ≡ false
+is_left finding method e = go (tells_solves finding) (is_spent method) refl e
+  where
+    go : (b spent : Bool) → is_spent method ≡ spent → (b && not spent) ≡ true → is_spent method ≡ false
+    go true true s e = absurd (let no : false ≡ true = e in cc)
+    go true false s e = s
+    go false spent s e = absurd (let no : false ≡ true = e in cc)
+
+pub left_over : (finding : Finding) (method : Method) (told : Bool) → told ≡ is_unfinished finding method → told ≡ true → is_spent method ≡ false
+left_over finding method told e t = is_left finding method (sym e ∙ t)
+
+pub counts_fewer : (k j : ℕ) (method : Method) → j ≤ k → HasCounted k method → HasCounted j method
+counts_fewer k j (AtWork w) less h = omega (arith, less, h)
+counts_fewer k j (Idle why own) less h = tt
+
+-- behind one more solve, and what is found then
+pub round_counts : (budget : Budget) (program : Program) (k : ℕ) (old mid next new : Method) (report report' : Report) → budget.solves < 2 ^ 64
+    → is_spent mid ≡ false → StandsOn (content program) budget mid → IsProgram (content program) → length (content program).nodes < nothing
+    → ShowsFound budget program old mid report → HasCounted k mid → WorksAnew (content program) mid next → ShowsFound budget program next new report'
+    → ShowsFound budget program old new report' × HasCounted (k + 1) new
+round_counts budget program k (Idle why own) mid next new report report' bits left stands i few shows counted works shows' =
+    absurd (let no : true ≡ false = sym (ap is_spent shows) ∙ left in cc)
+round_counts budget program k (AtWork old) (Idle why own) next new report report' bits left stands i few shows counted works shows' = absurd shows
+round_counts budget program k (AtWork old) (AtWork mid) (Idle why own) new report report' bits left stands i few shows counted works shows' = absurd works
+round_counts budget program k (AtWork old) (AtWork mid) (AtWork next) (Idle why own) report report' bits left stands i few shows counted works shows' = absurd shows'
+round_counts budget program k (AtWork old) (AtWork mid) (AtWork next) (AtWork new) report report' bits left stands i few shows counted works shows' =
+    let p = content program in
+    let less : mid.state.counts.since_report < mid.state.budget.solves = leb-false mid.state.budget.solves mid.state.counts.since_report left in
+    let allowed : mid.state.budget.solves ≡ budget.solves = ap (λ (b : Budget). b.solves) stands.budget_is in
+    let anew = works less in
+    let raised : next.state.counts.since_report ≡ one_solve_more mid.state.counts.since_report = ap (λ (c : Counts). c.since_report) anew.counts in
+    let one : next.state.counts.since_report ≡ mid.state.counts.since_report + 1 = omega (arith, raised, less, allowed, bits) in
+    let bound : next.state.counts.since_report < 2 ^ 64 = omega (arith, one, less, allowed, bits) in
+    let later = more_counted p next.state new.state bound shows'.solves in (
+      record {
+        solves = solves_behind p old.state mid.state new.state shows.solves (solves_behind p mid.state next.state new.state anew.solves shows'.solves);
+        claimed = shows'.claimed;
+      },
+      omega (arith, counted, one, later.0),
+    )
+
+-- where the report tells the number of solves, they have ended
+abbrev pub HasEnded : Budget → Finding → Method → Type 0
+HasEnded budget finding method = (tells_solves finding ≡ true → is_spent method ≡ true) ⊎ HasCounted budget.solves method
+
+pub ended_by : (finding : Finding) (method : Method) (told : Bool) → told ≡ is_unfinished finding method → told ≡ false
+    → tells_solves finding ≡ true → is_spent method ≡ true
+ended_by finding method told e n t = go (tells_solves finding) (is_spent method) t (sym n ∙ e)
+  where
+    go : (b spent : Bool) → b ≡ true → false ≡ (b && not spent) → spent ≡ true
+    go true true t e = refl
+    go true false t e = absurd (let no : false ≡ true = e in cc)
+    go false spent t e = absurd (let no : false ≡ true = t in cc)
+
+all_counted : (budget : Budget) (w : Working) (finding : Finding) (n : ℕ) → w.state.budget ≡ budget → finding ≡ OpenSolves n
+    → HasEnded budget finding (AtWork w) → budget.solves ≤ w.state.counts.since_report
+all_counted budget w finding n b e (inr counted) = counted
+all_counted budget w finding n b e (inl ended) =
+    let spent = leb-true w.state.budget.solves w.state.counts.since_report (ended (ap tells_solves e)) in
+    omega (arith, spent, ap (λ (x : Budget). x.solves) b)
+
+pub comes_of : (budget : Budget) (program : Program) (old mid new : Method) (report : Report) → IsProgram (content program)
+    → length (content program).nodes < nothing → StandsOn (content program) budget mid → IsTrue (view_of (content program)) (told_reasons program budget) report
+    → ShowsFound budget program old mid report → HasEnded budget report.finding mid → new ≡ after_telling mid → ComesOf budget program old report new
+comes_of budget program (Idle why own) mid new report i few stands truth shows ended e =
+    e ∙ ap after_telling shows
+comes_of budget program (AtWork old) (Idle why own) new report i few stands truth shows ended e = absurd shows
+comes_of budget program (AtWork old) (AtWork mid) new report i few stands truth shows ended e = (mid, (record { shows = shows; spent = spent }, e))
+  where
+    told : (finding : Finding) (n : ℕ) → finding ≡ OpenSolves n → Explains (view_of (content program)) (told_reasons program budget) report finding → n ≡ budget.solves
+    told finding n e t = subst (Explains (view_of (content program)) (told_reasons program budget) report) e t
+
+    spent : (n : ℕ) → report.finding ≡ OpenSolves n → mid.state.counts.since_report ≡ n
+    spent n f =
+        let within = (stands.counted i few).report in
+        let all = all_counted budget mid report.finding n stands.budget_is f ended in
+        let allowed : mid.state.budget.solves ≡ budget.solves = ap (λ (x : Budget). x.solves) stands.budget_is in
+        omega (arith, within, all, allowed, told report.finding n f truth.finding)
+
+pub comes_of_all : {E : Type 0} (budget : Budget) (program : Program) (method next : Method) (result : Result Report E) → Begins (content program) budget method
+    → IfOk result (λ report. ComesOf budget program method report next) → IfOk result (ComesOfAll budget program)
+comes_of_all budget program method next (Ok report) b c = record { method = method; next = next; begins = b; comes = c }
+comes_of_all budget program method next (Err e) b c = tt
