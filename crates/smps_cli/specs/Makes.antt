@@ -13,7 +13,9 @@ use Rattle.command_words.specs.declared.command.Plan.{Plan}
 use Rattle.workload_maker.specs.Texts.{Made, made_of}
 use Rattle.input_files.specs.Fetched.{Texts}
 use Rattle.program_files.specs.Meant.{MeansProgram}
+use Rattle.tree_method.specs.Stands.{HasFewNodes}
 use Rattle.smps_session.specs.Reasons.{told_reasons}
+use Rattle.smps_session.specs.Comes.{ComesOfAll}
 use Rattle.smps_cli.specs.declared.status.Status.{Status}
 use Rattle.smps_cli.specs.declared.status.Status.TheVariants.{Done}
 use Rattle.smps_cli.specs.Ends.{MayEnd, RefusesTexts}
@@ -52,13 +54,14 @@ summary_text plan program report = plan_line plan ++ size_line program report ++
 abbrev pub make_limit : ℕ
 make_limit = 100000
 
--- The output is the summary of the workload and of a report that is true of its program.
+-- The output is the summary of the workload and of a report that is true of its program, and comes of solves of its nodes.
 pub record PrintsSummary (plan : Plan) (status : Status) (output : List ℕ) : Type 0 where
   pub program : Program
   pub means : MeansProgram (texts_of (workload plan)) (content program)
   pub report : Report
   pub truth : IsTrue (seen program) (told_reasons program (record { solves = make_limit; pivots = make_limit })) report
   pub counts : HasCounts (seen program) report
+  pub comes : HasFewNodes (content program) → ComesOfAll (record { solves = make_limit; pivots = make_limit }) program report
   pub text : output ≡ summary_text plan program report
   pub told : status ≡ command_status report.finding
 

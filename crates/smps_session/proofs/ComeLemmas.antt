@@ -4,7 +4,6 @@ use Rattle.std.proofs.lemmas.Bool.{leb-true, leb-false}
 use Rattle.scen_defs.specs.Program.{content, view_of}
 use Rattle.scen_defs.specs.Valid.{IsProgram}
 use Rattle.report_defs.specs.Truth.{Explains, IsTrue}
-use Rattle.pass_table.specs.Marks.{nothing}
 use Rattle.scen_defs.specs.declared.program.Program.{Program}
 use Rattle.scen_defs.specs.declared.report.Finding.{Finding}
 use Rattle.scen_defs.specs.declared.report.Finding.TheVariants.{Optimal, Infeasible, Unbounded, OpenSolves, OpenPivots, OpenPassed}
@@ -22,7 +21,7 @@ use Rattle.tree_method.specs.declared.found.Found.{Found}
 use Rattle.tree_method.specs.declared.method.Method.{Method}
 use Rattle.tree_method.specs.declared.method.Method.TheVariants.{Working as AtWork, Idle}
 use Rattle.tree_method.specs.declared.method.Working.{Working}
-use Rattle.tree_method.specs.Stands.{StandsOn, Begins, SolvesNodes, none, more, anew, FindsBySolves, WorksAnew, SolvesAnew, WorksBySteps, is_spent, after_telling}
+use Rattle.tree_method.specs.Stands.{HasFewNodes, StandsOn, Begins, SolvesNodes, none, more, anew, FindsBySolves, WorksAnew, SolvesAnew, WorksBySteps, is_spent, after_telling}
 use Rattle.tree_method.proofs.StandLemmas.{more_counted, solves_behind}
 use Rattle.smps_session.specs.Reasons.{told_reasons}
 use Rattle.smps_session.specs.Comes.{tells_solves, is_unfinished, ShowsClosing, ShowsFound, ComesOf, ComesOfAll}
@@ -77,7 +76,7 @@ counts_fewer k j (Idle why own) less h = tt
 
 -- behind one more solve, and what is found then
 pub round_counts : (budget : Budget) (program : Program) (k : ℕ) (old mid next new : Method) (report report' : Report) → budget.solves < 2 ^ 64
-    → is_spent mid ≡ false → StandsOn (content program) budget mid → IsProgram (content program) → length (content program).nodes < nothing
+    → is_spent mid ≡ false → StandsOn (content program) budget mid → IsProgram (content program) → HasFewNodes (content program)
     → ShowsFound budget program old mid report → HasCounted k mid → WorksAnew (content program) mid next → ShowsFound budget program next new report'
     → ShowsFound budget program old new report' × HasCounted (k + 1) new
 round_counts budget program k (Idle why own) mid next new report report' bits left stands i few shows counted works shows' =
@@ -122,7 +121,7 @@ all_counted budget w finding n b e (inl ended) =
     omega (arith, spent, ap (λ (x : Budget). x.solves) b)
 
 pub comes_of : (budget : Budget) (program : Program) (old mid new : Method) (report : Report) → IsProgram (content program)
-    → length (content program).nodes < nothing → StandsOn (content program) budget mid → IsTrue (view_of (content program)) (told_reasons program budget) report
+    → HasFewNodes (content program) → StandsOn (content program) budget mid → IsTrue (view_of (content program)) (told_reasons program budget) report
     → ShowsFound budget program old mid report → HasEnded budget report.finding mid → new ≡ after_telling mid → ComesOf budget program old report new
 comes_of budget program (Idle why own) mid new report i few stands truth shows ended e =
     e ∙ ap after_telling shows

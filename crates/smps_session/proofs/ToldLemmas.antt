@@ -20,9 +20,8 @@ use Rattle.smps_session.specs.Reasons.{told_reasons}
 use Rattle.smps_session.specs.declared.told.Told.{Told}
 use Rattle.proved_report.specs.Reports.{EqualIsOptimal}
 use Rattle.smps_session.specs.Told.{IsTold, AreTold}
-use Rattle.pass_table.specs.Marks.{nothing}
 use Rattle.tree_method.specs.declared.method.Method.{Method}
-use Rattle.tree_method.specs.Stands.{WorksBySolves, GoesOn}
+use Rattle.tree_method.specs.Stands.{HasFewNodes, WorksBySolves, GoesOn}
 use Rattle.smps_session.specs.Comes.{ComesOf, TakesEdit}
 use Rattle.smps_session.specs.Courses.{Course, course_at, TellsOne, IsBehind}
 
@@ -34,7 +33,7 @@ on_ok (Err e) A a = tt
 pub is_told : (budget : Budget) (number : ℕ) (program : ProgramOf) (method next : Method) (report : Report) (told : Told)
     → report.number ≡ number → told.text.items ≡ report_text program report → told.finding ≡ report.finding
     → HasCounts (view_of (content program)) report → IsTrue (view_of (content program)) (told_reasons program budget) report
-    → EqualIsOptimal report → (length (content program).nodes < nothing → ComesOf budget program method report next)
+    → EqualIsOptimal report → (HasFewNodes (content program) → ComesOf budget program method report next)
     → IsTold budget number (content program) method told next
 is_told budget number program method next report told n t f counts truth equal comes = record {
   program = program;
@@ -79,7 +78,7 @@ item_allowed p item items some first h =
 
 -- what a method does at an edit
 pub takes_edit : {A E : Type 0} (result : Result A E) (p : Program) (e : Edit) (old worked new : Method)
-    → (length p.nodes < nothing → WorksBySolves p old worked) → OnOk result (GoesOn p e worked new) → OnOk result (TakesEdit p e old new)
+    → (HasFewNodes p → WorksBySolves p old worked) → OnOk result (GoesOn p e worked new) → OnOk result (TakesEdit p e old new)
 takes_edit (Ok x) p e old worked new w g = record { worked = worked; works = w; goes = g }
 takes_edit (Err x) p e old worked new w g = tt
 

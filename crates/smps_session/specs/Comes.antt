@@ -1,5 +1,5 @@
 -- How a report comes of the method: of its solves, of what it claims behind them, and of the test of that.
-use Rattle.std.specs.Prelude.{◌≡◌, ◌<◌, ◌&&◌, ℕ, Bool, true, false, not, length}
+use Rattle.std.specs.Prelude.{◌≡◌, ◌&&◌, ℕ, Bool, true, false, not}
 use Rattle.scen_defs.specs.Program.{Program, content}
 use Rattle.scen_defs.specs.declared.program.Program.{Program as ProgramOf}
 use Rattle.scen_defs.specs.declared.report.Finding.{Finding}
@@ -10,12 +10,11 @@ use Rattle.proved_report.specs.Reports.{IsClaimed}
 use Rattle.edit_defs.specs.declared.edit.Edit.{Edit}
 use Rattle.pass_core.specs.declared.budget.Budget.{Budget}
 use Rattle.pass_core.specs.declared.state.State.{State}
-use Rattle.pass_table.specs.Marks.{nothing}
 use Rattle.tree_method.specs.declared.method.Method.{Method}
 use Rattle.tree_method.specs.declared.method.Method.TheVariants.{Working as AtWork, Idle}
 use Rattle.tree_method.specs.declared.method.Working.{Working}
 use Rattle.tree_method.specs.Edited.{HasNoTree}
-use Rattle.tree_method.specs.Stands.{SolvesNodes, WorksBySolves, GoesOn, Begins, closing, is_spent, after_telling}
+use Rattle.tree_method.specs.Stands.{HasFewNodes, SolvesNodes, WorksBySolves, GoesOn, Begins, closing, is_spent, after_telling}
 
 -- left open by the number of solves
 abbrev pub tells_solves : Finding → Bool
@@ -62,5 +61,5 @@ pub record ComesOfAll (budget : Budget) (program : ProgramOf) (report : Report) 
 -- a method solves nodes of the program before an edit, and goes on behind it
 pub record TakesEdit (p : Program) (e : Edit) (old new : Method) : Type 0 where
   pub worked : Method
-  pub works : length p.nodes < nothing → WorksBySolves p old worked
+  pub works : HasFewNodes p → WorksBySolves p old worked
   pub goes : GoesOn p e worked new

@@ -1,5 +1,5 @@
 -- The reports of a script.
-use Rattle.std.specs.Prelude.{◌≡◌, ◌<◌, ℕ, ◌+◌, List, [], ◌∷◌, length}
+use Rattle.std.specs.Prelude.{◌≡◌, ℕ, ◌+◌, List, [], ◌∷◌}
 use Rattle.scen_defs.specs.Program.{Program, content, view_of}
 use Rattle.scen_defs.specs.declared.program.Program.{Program as ProgramOf}
 use Rattle.scen_defs.specs.declared.report.Report.{Report}
@@ -10,9 +10,8 @@ use Rattle.edit_defs.specs.declared.edit.Act.TheVariants.{Change, Solve}
 use Rattle.edit_defs.specs.declared.edit.Item.{Item}
 use Rattle.edit_defs.specs.After.{after}
 use Rattle.pass_core.specs.declared.budget.Budget.{Budget}
-use Rattle.pass_table.specs.Marks.{nothing}
 use Rattle.tree_method.specs.declared.method.Method.{Method}
-use Rattle.tree_method.specs.Stands.{Begins}
+use Rattle.tree_method.specs.Stands.{HasFewNodes, Begins}
 use Rattle.smps_session.specs.Comes.{ComesOf, TakesEdit}
 use Rattle.smps_session.specs.Reasons.{told_reasons}
 use Rattle.smps_session.specs.declared.told.Told.{Told}
@@ -33,7 +32,7 @@ pub record IsTold (budget : Budget) (number : ℕ) (p : Program) (method : Metho
   -- it isn't left open where its ends are equal
   pub equal : EqualIsOptimal report
   -- it comes of solves of the nodes of the program, of which there are no more than have numbers
-  pub comes : length p.nodes < nothing → ComesOf budget program method report next
+  pub comes : HasFewNodes p → ComesOf budget program method report next
 
 -- a first one of a method, and those behind it of the method as it is then
 abbrev pub IsThen : (Told → Method → Type 0) → (Method → List Told → Type 0) → List Told → Type 0
@@ -52,5 +51,5 @@ AreTold budget number p method (item ∷ items) tolds = elim item.act [
 -- the reports of a script come of a method that begins with the program, where that has no more nodes than have numbers
 pub record IsScripted (budget : Budget) (p : Program) (items : List Item) (tolds : List Told) : Type 0 where
   pub method : Method
-  pub begins : length p.nodes < nothing → Begins p budget method
+  pub begins : HasFewNodes p → Begins p budget method
   pub told : AreTold budget 1 p method items tolds

@@ -1,12 +1,11 @@
 //! The report of a program on a tree.
-ghost use Rattle.std.specs.Prelude.{◌≡◌, ◌<◌, length, IfOk, OnOk};
+ghost use Rattle.std.specs.Prelude.{◌≡◌, IfOk, OnOk};
 ghost use Rattle.scen_defs.specs.Fits.{ListsHaveNames};
 ghost use Rattle.scen_defs.specs.Program.{IsTree, content, view_of};
 ghost use Rattle.scen_defs.specs.Valid.{IsSmall, IsProgram};
 ghost use Rattle.report_defs.specs.Truth.{IsTrue, HasCounts};
 ghost use Rattle.proved_report.specs.Reports.{EqualIsOptimal};
-ghost use Rattle.pass_table.specs.Marks.{nothing};
-ghost use Rattle.tree_method.specs.Stands.{StandsOn};
+ghost use Rattle.tree_method.specs.Stands.{HasFewNodes, StandsOn};
 ghost use Rattle.smps_session.specs.Reasons.{told_reasons};
 ghost use Rattle.smps_session.specs.Comes.{is_unfinished, ShowsFound, ComesOf, ComesOfAll};
 
@@ -29,7 +28,7 @@ pub fn session(alloc: Global, program: &Program, solves: u64, pivots: u64) -> Re
     ensures truth { let p = content program.now in IsSmall p → IsTree (view_of p)
         → IfOk result (IsTrue (view_of p) (told_reasons program.now (record { solves = solves; pivots = pivots }))) }
     ensures equal { IfOk result EqualIsOptimal }
-    ensures comes { let p = content program.now in IsProgram p → length p.nodes < nothing
+    ensures comes { let p = content program.now in IsProgram p → HasFewNodes p
         → IfOk result (ComesOfAll (record { solves = solves; pivots = pivots }) program.now) }
 {
     let budget = Budget { solves, pivots };
@@ -53,7 +52,7 @@ pub(crate) fn reported(
         → IfOk result (IsTrue (view_of p) (told_reasons program.now budget)) }
     ensures equal { IfOk result EqualIsOptimal }
     ensures stands { let p = content program.now in IsSmall p → StandsOn p budget method.old → OnOk result (StandsOn p budget method.new) }
-    ensures comes { let p = content program.now in IsProgram p → length p.nodes < nothing → StandsOn p budget method.old
+    ensures comes { let p = content program.now in IsProgram p → HasFewNodes p → StandsOn p budget method.old
         → IfOk result (λ report. ComesOf budget program.now method.old report method.new) }
 {
     let mut report = found(alloc, program, method, number, budget)?;
@@ -93,7 +92,7 @@ fn found(
         → IfOk result (IsTrue (view_of p) (told_reasons program.now budget)) }
     ensures equal { IfOk result EqualIsOptimal }
     ensures stands { let p = content program.now in StandsOn p budget method.old → OnOk result (StandsOn p budget method.new) }
-    ensures shows { let p = content program.now in IsProgram p → length p.nodes < nothing → StandsOn p budget method.old
+    ensures shows { let p = content program.now in IsProgram p → HasFewNodes p → StandsOn p budget method.old
         → IfOk result (ShowsFound budget program.now method.old method.new) }
 {
     let found = method.find(alloc, program)?;

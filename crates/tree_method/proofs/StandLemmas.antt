@@ -199,8 +199,12 @@ in_budget old new b (inl e) less h = record {
 in_budget old new b (inr e) less h = record {
   item = subst (λ (c : Counts). c.since_item ≤ c.since_report) (sym e)
       (one_more_within old.counts.since_item old.counts.since_report h.item);
-  report = omega (arith, one_more_at_most old.counts.since_report old.budget.solves less, ap (λ (c : Counts). c.since_report) e,
-      ap (λ (x : Budget). x.solves) b);
+  report = omega (
+    arith,
+    one_more_at_most old.counts.since_report old.budget.solves less,
+    ap (λ (c : Counts). c.since_report) e,
+    ap (λ (x : Budget). x.solves) b,
+  );
 }
 
 pub step_in_budget : (p : Program) (old new : State) (told : Bool) → new.budget ≡ old.budget → old.counts.since_report < old.budget.solves

@@ -32,6 +32,10 @@ use Rattle.edit_defs.specs.After.{after}
 use Rattle.tree_method.specs.Edited.{IsEdited, HasNoTree}
 use Rattle.tree_method.specs.Laws.{TouchesCarry}
 
+-- the program has no more nodes than a table has numbers for
+abbrev pub HasFewNodes : Program → Type 0
+HasFewNodes p = length p.nodes < nothing
+
 -- ---- why a report is left open
 -- the program has a tree, of which this holds
 pub record HasTree (p : Program) (Holds : Tree → Type 0) : Type 0 where
@@ -74,9 +78,9 @@ pub record WorksOn (p : Program) (budget : Budget) (w : Working) : Type 0 where
   pub budget_is : w.state.budget ≡ budget
   pub versions : length p.nodes ≤ length w.state.versions
   pub explained : AreExplained p w.tree w.state
-  pub counted : IsProgram p → length p.nodes < nothing → IsInBudget w.state
-  pub tabled : IsProgram p → length p.nodes < nothing → IsTabled p w.state
-  pub points : IsProgram p → length p.nodes < nothing → PointsStand p w.state.lasts.nodes.items
+  pub counted : IsProgram p → HasFewNodes p → IsInBudget w.state
+  pub tabled : IsProgram p → HasFewNodes p → IsTabled p w.state
+  pub points : IsProgram p → HasFewNodes p → PointsStand p w.state.lasts.nodes.items
 
 -- it is at work on the program, or tells why it can't be
 abbrev pub StandsOn : Program → Budget → Method → Type 0
@@ -159,7 +163,7 @@ after_telling (Idle why own) = Idle why own
 abbrev pub GoesOn : Program → Edit → Method → Method → Type 0
 GoesOn p e (AtWork old) (AtWork new) = IsEdited p e old new
 GoesOn p e (AtWork old) (Idle why own) = (own ≡ old.state.budget) × HasNoTree (after p e) why
-GoesOn p e (Idle why own) new = StandsOn (after p e) own new × (length (after p e).nodes < nothing → Begins (after p e) own new)
+GoesOn p e (Idle why own) new = StandsOn (after p e) own new × (HasFewNodes (after p e) → Begins (after p e) own new)
 
 -- Behind an edit, where the method goes on with what it has, each touch of the edit carries the version that its part has from then on.
 abbrev pub CarriesVersions : Program → Edit → Method → Method → Type 0

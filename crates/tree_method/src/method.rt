@@ -1,14 +1,13 @@
 //! The nested method at work on a program.
-ghost use Rattle.std.specs.Prelude.{◌≡◌, ◌<◌, false, length, IfOk, OnOk};
+ghost use Rattle.std.specs.Prelude.{◌≡◌, ◌<◌, false, IfOk, OnOk};
 ghost use Rattle.scen_defs.specs.Program.{content, Program as ProgramOf};
 ghost use Rattle.scen_defs.specs.Valid.{IsProgram, IsSmall};
 ghost use Rattle.run_data.specs.Frames.{frame_of};
 ghost use Rattle.pass_table.specs.Machine.{Machine};
-ghost use Rattle.pass_table.specs.Marks.{nothing};
 ghost use Rattle.pass_core.specs.declared.budget.Budget.{Budget as BudgetOf};
 ghost use Rattle.tree_method.specs.Edited.{IsTreeless};
 ghost use Rattle.pass_core.specs.Tabled.{IsTabledBy, GoesBySteps};
-ghost use Rattle.tree_method.specs.Stands.{WorksOn, StandsOn, Begins, WorksBySteps, TellsWhy};
+ghost use Rattle.tree_method.specs.Stands.{HasFewNodes, WorksOn, StandsOn, Begins, WorksBySteps, TellsWhy};
 ghost use Rattle.tree_method.specs.Stands.{SolvesNodes, WorksBySolves, IsFoundBySolves, FindsBySolves};
 ghost use Rattle.tree_method.specs.Stands.{SolvesAnew, WorksAnew, is_spent, after_telling};
 
@@ -58,7 +57,7 @@ impl Working {
             → WorksOn p budget self.old → OnOk result (WorksOn p budget self.new) }
         ensures steps { let p = content program.now in (m : Machine) → IsProgram p → self.old.state.frame ≡ frame_of p
             → IsTabledBy p self.old.state m → OnOk result (GoesBySteps p m self.new.state) }
-        ensures solves { let p = content program.now in (budget : BudgetOf) → IsProgram p → length p.nodes < nothing
+        ensures solves { let p = content program.now in (budget : BudgetOf) → IsProgram p → HasFewNodes p
             → WorksOn p budget self.old → OnOk result (SolvesNodes p self.old.state self.new.state) }
     {
         for _ in 0..u64::MAX {
@@ -77,7 +76,7 @@ impl Working {
             → WorksOn p budget self.old → OnOk result (WorksOn p budget self.new) }
         ensures steps { let p = content program.now in (m : Machine) → IsProgram p → self.old.state.frame ≡ frame_of p
             → IsTabledBy p self.old.state m → OnOk result (GoesBySteps p m self.new.state) }
-        ensures solves { let p = content program.now in (budget : BudgetOf) → IsProgram p → length p.nodes < nothing
+        ensures solves { let p = content program.now in (budget : BudgetOf) → IsProgram p → HasFewNodes p
             → WorksOn p budget self.old → IfOk result (IsFoundBySolves p self.old.state self.new.state) }
     {
         self.run(alloc, program, ENDLESS)?;
@@ -94,7 +93,7 @@ impl Working {
         ensures stays { let p = content program.now in (budget : BudgetOf) → IsSmall p
             → self.old.state.counts.since_report < self.old.state.budget.solves
             → WorksOn p budget self.old → OnOk result (WorksOn p budget self.new) }
-        ensures solves { let p = content program.now in (budget : BudgetOf) → IsProgram p → length p.nodes < nothing
+        ensures solves { let p = content program.now in (budget : BudgetOf) → IsProgram p → HasFewNodes p
             → self.old.state.counts.since_report < self.old.state.budget.solves
             → WorksOn p budget self.old → OnOk result (SolvesAnew p self.old.state self.new.state) }
     {
@@ -108,7 +107,7 @@ impl Method {
     /// The method before any solve.
     pub fn begin(alloc: Global, program: &Program, budget: Budget) -> Result<Method, Memory>
         ensures stands { let p = content program.now in IsSmall p → IfOk result (StandsOn p budget) }
-        ensures begins { let p = content program.now in IsProgram p → length p.nodes < nothing → IfOk result (Begins p budget) }
+        ensures begins { let p = content program.now in IsProgram p → HasFewNodes p → IfOk result (Begins p budget) }
     {
         if program.nodes.len() >= MANY {
             return Ok(Method::Idle(Open::Solves(budget.solves), budget));
@@ -129,7 +128,7 @@ impl Method {
             → StandsOn p budget self.old → OnOk result (StandsOn p budget self.new) }
         ensures steps { OnOk result (WorksBySteps (content program.now) self.old self.new) }
         // where the method stands on the program, it solves programs of its nodes
-        ensures solves { let p = content program.now in (budget : BudgetOf) → IsProgram p → length p.nodes < nothing
+        ensures solves { let p = content program.now in (budget : BudgetOf) → IsProgram p → HasFewNodes p
             → StandsOn p budget self.old → OnOk result (WorksBySolves p self.old self.new) }
     {
         match self {
@@ -146,7 +145,7 @@ impl Method {
             → StandsOn p budget self.old → OnOk result (StandsOn p budget self.new) }
         ensures steps { OnOk result (WorksBySteps (content program.now) self.old self.new) }
         // where the method stands on the program, what it finds comes of solves of programs of its nodes
-        ensures solves { let p = content program.now in (budget : BudgetOf) → IsProgram p → length p.nodes < nothing
+        ensures solves { let p = content program.now in (budget : BudgetOf) → IsProgram p → HasFewNodes p
             → StandsOn p budget self.old → IfOk result (FindsBySolves p self.old self.new) }
     {
         match self {
@@ -169,7 +168,7 @@ impl Method {
     pub fn start_over(&mut self, alloc: Global, program: &Program) -> Result<(), Memory>
         ensures stays { let p = content program.now in (budget : BudgetOf) → IsSmall p
             → is_spent self.old ≡ false → StandsOn p budget self.old → OnOk result (StandsOn p budget self.new) }
-        ensures solves { let p = content program.now in (budget : BudgetOf) → IsProgram p → length p.nodes < nothing
+        ensures solves { let p = content program.now in (budget : BudgetOf) → IsProgram p → HasFewNodes p
             → StandsOn p budget self.old → OnOk result (WorksAnew p self.old self.new) }
     {
         match self {

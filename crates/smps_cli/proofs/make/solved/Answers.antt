@@ -11,6 +11,7 @@ returns c = record {
   report = c.in_ok-report.report;
   truth = c.in_ok-report.ensures.truth c.requires.keeps.small c.requires.tree;
   counts = c.in_ok-report.ensures.counts c.requires.keeps.small;
+  comes = c.in_ok-report.ensures.comes c.requires.keeps;
   text = c.in_ok-output.ensures;
   told = c.command_status.ensures;
 }

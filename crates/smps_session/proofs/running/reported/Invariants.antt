@@ -4,8 +4,7 @@ use Rattle.scen_defs.specs.Program.{IsTree, content, view_of}
 use Rattle.scen_defs.specs.Valid.{IsSmall, IsProgram}
 use Rattle.report_defs.specs.Truth.{IsTrue, HasCounts}
 use Rattle.proved_report.specs.Reports.{EqualIsOptimal}
-use Rattle.pass_table.specs.Marks.{nothing}
-use Rattle.tree_method.specs.Stands.{StandsOn}
+use Rattle.tree_method.specs.Stands.{HasFewNodes, StandsOn}
 use Rattle.smps_session.specs.Reasons.{told_reasons}
 use Rattle.smps_session.proofs.ComeLemmas.{HasCounted}
 use Rattle.smps_session.specs.Comes.{ShowsFound}
@@ -20,6 +19,6 @@ invariant-loop l = record {
       → IsTrue (view_of (content l.program)) (told_reasons l.program l.budget) l.report;
   equal : EqualIsOptimal l.report;
   stands : IsSmall (content l.program) → StandsOn (content l.program) l.budget l.fn.method → StandsOn (content l.program) l.budget l.method;
-  under_way : IsProgram (content l.program) → length (content l.program).nodes < nothing → StandsOn (content l.program) l.budget l.fn.method
+  under_way : IsProgram (content l.program) → HasFewNodes (content l.program) → StandsOn (content l.program) l.budget l.fn.method
       → ShowsFound l.budget l.program l.fn.method l.method l.report × HasCounted l.counter l.method;
 }

@@ -11,9 +11,14 @@ loop-rest-init c = record {
   program = c.requires.program;
   counted = c.in_ok-counted.ensures ∙ ap (λ (nodes : List (Option NodeOf)). counts (nodes_content nodes)) c.deref.ensures.value;
   stands = c.in_ok-method.ensures.stands c.requires.program.small;
-  course = (c.in_ok-method.method, (c.in_ok-method.ensures.begins c.requires.program,
+  course = (
+    c.in_ok-method.method,
+    (
+      c.in_ok-method.ensures.begins c.requires.program,
       begins_course (record { solves = c.args.solves; pivots = c.args.pivots }) (content c.args.program.now) c.in_ok-method.method c.args.script.now.items.items
-      c.as_slice-rest.result.now c.new-tolds.result.items c.as_slice-rest.ensures.value c.new-tolds.ensures.items c.requires.allowed));
+          c.as_slice-rest.result.now c.new-tolds.result.items c.as_slice-rest.ensures.value c.new-tolds.ensures.items c.requires.allowed,
+    ),
+  );
 }
 
 pub take-requires-clause-allowed : goal.take-requires-clause-allowed
@@ -28,12 +33,17 @@ loop-rest-preserved c = record {
   program = c.in_ok-take.ensures.keeps;
   counted = c.in_ok-take.ensures.counted;
   stands = c.in_ok-take.ensures.stands;
-  course = (c.loop-rest.invariant.course.0, (c.loop-rest.invariant.course.1.0,
+  course = (
+    c.loop-rest.invariant.course.0,
+    (
+      c.loop-rest.invariant.course.1.0,
       stays_on_course (record { solves = c.args.solves; pivots = c.args.pivots }) (content c.args.program.now) c.loop-rest.invariant.course.0
-      c.args.script.now.items.items c.loop-rest.rest.now c.item-item.result
-      (course_at (content c.loop-rest.program) c.loop-rest.progress.method c.loop-rest.progress.number c.loop-rest.tolds.items)
-      (course_at (content c.take.new.program) c.take.new.self.method c.take.new.self.number c.take.new.tolds.items)
-      c.in-len1-up.len_at_least c.item-item.is c.loop-rest.invariant.course.1.1 c.in_ok-take.ensures.course));
+          c.args.script.now.items.items c.loop-rest.rest.now c.item-item.result
+          (course_at (content c.loop-rest.program) c.loop-rest.progress.method c.loop-rest.progress.number c.loop-rest.tolds.items)
+          (course_at (content c.take.new.program) c.take.new.self.method c.take.new.self.number c.take.new.tolds.items)
+          c.in-len1-up.len_at_least c.item-item.is c.loop-rest.invariant.course.1.1 c.in_ok-take.ensures.course,
+    ),
+  );
 }
 
 pub returns : goal.returns

@@ -4,9 +4,8 @@ use Rattle.scen_defs.specs.Valid.{IsProgram}
 use Rattle.edit_defs.specs.Limits.{counts}
 use Rattle.smps_session.specs.Courses.{course_at}
 use Rattle.smps_session.proofs.ToldLemmas.{IsOnCourse}
-use Rattle.pass_table.specs.Marks.{nothing}
 use Rattle.tree_method.specs.declared.method.Method.{Method}
-use Rattle.tree_method.specs.Stands.{StandsOn, Begins}
+use Rattle.tree_method.specs.Stands.{HasFewNodes, StandsOn, Begins}
 use Rattle.smps_session.proofs.scripts.scripted.Given as goal
 
 abbrev pub invariant-loop-rest : goal.invariant-loop-rest
@@ -14,7 +13,7 @@ invariant-loop-rest l = record {
   program : IsProgram (content l.program);
   counted : l.progress.counted ≡ counts (content l.program).nodes;
   stands : StandsOn (content l.program) (record { solves = l.solves; pivots = l.pivots }) l.progress.method;
-  course : (method : Method) × ((length (content l.fn.program).nodes < nothing → Begins (content l.fn.program) (record { solves = l.solves; pivots = l.pivots }) method)
+  course : (method : Method) × ((HasFewNodes (content l.fn.program) → Begins (content l.fn.program) (record { solves = l.solves; pivots = l.pivots }) method)
       × IsOnCourse (record { solves = l.solves; pivots = l.pivots }) (content l.fn.program) method l.script.items.items l.rest
       (course_at (content l.program) l.progress.method l.progress.number l.tolds.items));
 }
