@@ -7,3 +7,4 @@ pub mod Parentage
 pub mod Tabling
 pub mod CutNodes
 pub mod Solving
+pub mod Making

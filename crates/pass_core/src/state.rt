@@ -10,6 +10,7 @@ ghost use Rattle.pass_table.specs.Machine.{Machine};
 ghost use Rattle.pass_core.specs.Counting.{no_commits, with_commit, first_stop, first_or};
 ghost use Rattle.run_ends.specs.Ends.{no_ends};
 ghost use Rattle.pass_core.specs.Explained.{IsDatumOf, KeepsExplained};
+ghost use Rattle.pass_core.specs.Made.{BankBooks, AreBooksOf, CutsAreMade};
 ghost use Rattle.pass_core.specs.Tabled.{IsTabled, IsTabledBy, StepsTo, IsBegunBy, EndsBegun};
 ghost use Rattle.pass_core.specs.Turns.{PointsStand, KeepsPoints, IsTaskOf, EndsAnyhow, SolvesNode, AreReady, MakesStep};
 
@@ -142,6 +143,10 @@ impl State {
         ensures solves { let p = content program.now in (m : Machine) → IsProgram p → tree_walk p ≡ Ok tree.now
             → self.old.frame ≡ frame_of p → IsTabledBy p self.old m → PointsStand p self.old.lasts.nodes.items
             → IfOk result (λ told. MakesStep p self.old m self.new told) }
+        // where books are right of the program, and all cuts are made for them, they are so afterwards
+        ensures made { let p = content program.now in (b : BankBooks) → IsProgram p → tree_walk p ≡ Ok tree.now
+            → self.old.frame ≡ frame_of p → AreBooksOf p self.old.versions b → CutsAreMade b self.old
+            → OnOk result (CutsAreMade b self.new) }
     {
         self.get_ready(alloc)?;
         if !self.table.has_room() {
@@ -191,6 +196,9 @@ impl State {
         ensures solves { let p = content program.now in (m : Machine) → IsProgram p → tree_walk p ≡ Ok tree.now
             → self.old.frame ≡ frame_of p → IsBegunBy p self.old m node → PointsStand p self.old.lasts.nodes.items
             → OnOk result (SolvesNode p self.old m node self.new) }
+        ensures made { let p = content program.now in (b : BankBooks) → IsProgram p → tree_walk p ≡ Ok tree.now
+            → self.old.frame ≡ frame_of p → AreBooksOf p self.old.versions b → CutsAreMade b self.old
+            → OnOk result (CutsAreMade b self.new) }
     {
         self.banks.keeps_nodes();
         let Some(begun) = self.begun(alloc, program, tree, node)? else {
