@@ -8,3 +8,4 @@ pub mod Tabling
 pub mod CutNodes
 pub mod Solving
 pub mod Making
+pub mod MadeAfterEdits

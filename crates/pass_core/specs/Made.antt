@@ -7,10 +7,14 @@ use Rattle.scen_defs.specs.Valid.{Lives}
 use Rattle.scen_defs.specs.declared.report.Kind.{Kind}
 use Rattle.scen_defs.specs.declared.report.Kind.TheVariants.{Feasible, Recession, Cost}
 use Rattle.cut_defs.specs.Data.{Book, IsRight}
+use Rattle.cut_defs.specs.declared.kinds.Bank.{Bank}
+use Rattle.cut_defs.specs.declared.kinds.Bank.TheVariants.{Plain, Cone}
 use Rattle.cut_defs.specs.declared.kinds.CutKind.TheVariants.{Bound}
+use Rattle.cut_defs.specs.declared.versions.Due.{Due}
 use Rattle.cut_defs.specs.Stored.{Stored, source_of, IsMadeFor}
 use Rattle.edit_defs.specs.Data.{view_in}
 use Rattle.cut_pool.specs.Laws.{AllMadeFor}
+use Rattle.cut_pool.specs.Pool.{IsShiftOf}
 use Rattle.cut_banks.specs.declared.banks.Banks.{Banks}
 use Rattle.run_data.specs.declared.versions.Version.{Version}
 use Rattle.run_data.specs.Counts.{version_of}
@@ -59,6 +63,16 @@ CutsAreMade b s = PoolsAreMade b s.banks × EndsAreMade b s.kind s.ends
 -- from one state to another the kind of the run stays, and where all cuts are made for the books they stay so
 abbrev pub KeepsMade : BankBooks → State → State → Type 0
 KeepsMade b old new = (new.kind ≡ old.kind) × (CutsAreMade b old → CutsAreMade b new)
+
+-- ---- behind an edit
+-- the book of a bank
+abbrev pub bank_book : Bank → BankBooks → Book
+bank_book Plain b = b.plain
+bank_book Cone b = b.cone
+
+-- where a due has a shift, it is one of the book of its bank
+abbrev pub HasShiftOf : BankBooks → Due → Type 0
+HasShiftOf b due = IsShiftOf (bank_book due.bank b) due.shift
 
 -- ---- the cuts of a dual
 -- a Bound cut about node n, made for a book

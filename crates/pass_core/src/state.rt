@@ -1,8 +1,9 @@
 //! What is known of a program, and the next step.
-ghost use Rattle.std.specs.Prelude.{◌≡◌, ◌≤◌, [], None, Ok, length, true, IfOk, IfSome, IsSomeAnd, OnOk};
+ghost use Rattle.std.specs.Prelude.{◌≡◌, ◌≤◌, ℕ, [], None, Ok, length, true, IfOk, IfSome, IsSomeAnd, OnOk};
 ghost use Rattle.scen_defs.specs.Program.{content, Program as ProgramOf};
 ghost use Rattle.scen_tree.specs.Trees.{Tree as TreeOf, tree_walk};
 ghost use Rattle.scen_defs.specs.Valid.{IsSmall, IsProgram, Lives};
+ghost use Rattle.run_data.specs.Counts.{untouched, version_of};
 ghost use Rattle.run_data.specs.Frames.{frame_of, children_in};
 ghost use Rattle.cut_banks.specs.Banks.{pools_of};
 ghost use Rattle.cut_banks.specs.Pools.{numbers_read};
@@ -109,6 +110,9 @@ impl State {
         ensures versions { let p = content program.now in
             IsSmall p → IfOk result (λ all. IfSome all (λ s. length p.nodes ≤ length s.versions)) }
         ensures tabled { let p = content program.now in IsProgram p → IfOk result (λ all. IfSome all (IsTabled p)) }
+        // there are no cuts, which are made for every book, and no edit touched a node
+        ensures made { (b : BankBooks) → IfOk result (λ all. IfSome all (CutsAreMade b)) }
+        ensures untouched { (n : ℕ) → IfOk result (λ all. IfSome all (λ s. version_of s.versions n ≡ untouched)) }
     {
         let frame = Frame::of(alloc, program)?;
         let Some(table) = Turns::start(alloc, frame.parents())? else {
