@@ -8,3 +8,5 @@ pub mod Parentage
 pub mod Tabling
 pub mod CutNodes
 pub mod Solving
+pub mod Making
+pub mod MadeAfterEdits

@@ -127,7 +127,7 @@ places_pass {A} test k n (x ∷ xs) c = go (test x) refl (places_pass test (suc 
     go false q rest c = later rest c
 
 -- a place is below n where a live node there has the parent n
-below_live : (n i : ℕ) (nodes : List (Option Node)) → passes_at (is_below n) i (map position_of nodes) ≡ true
+pub below_live : (n i : ℕ) (nodes : List (Option Node)) → passes_at (is_below n) i (map position_of nodes) ≡ true
     → (passes_at is_live i nodes ≡ true) × ((node_at nodes i).parent ≡ Some n)
 below_live n i [] h = no h
 below_live n zero (None ∷ nodes) h = no h

@@ -4,3 +4,4 @@ pub mod Versions
 pub mod Explained
 pub mod Tabled
 pub mod Turns
+pub mod Made

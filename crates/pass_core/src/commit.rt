@@ -4,14 +4,15 @@ ghost use Rattle.rationals.specs.Passes.{Operation};
 ghost use Rattle.scen_defs.specs.Lists.{pick};
 ghost use Rattle.scen_defs.specs.Program.{content, node_at, Program as ProgramOf};
 ghost use Rattle.scen_tree.specs.Trees.{Tree as TreeOf};
-ghost use Rattle.cut_defs.specs.Stored.{source_of};
+ghost use Rattle.cut_defs.specs.Stored.{source_of, IsMadeFor};
 ghost use Rattle.node_lp.specs.Told.{node_solved};
 ghost use Rattle.pass_table.specs.Machine.{Machine, Flight};
 ghost use Rattle.pass_table.specs.Fits.{Fits};
 ghost use Rattle.run_ends.specs.Lasts.{kept, joined_points};
 ghost use Rattle.run_ends.specs.Ends.{with_lower, cheaper, after_root, after_policy};
 ghost use Rattle.pass_core.specs.Counting.{first_stop, is_added, after_answer};
-ghost use Rattle.pass_core.specs.Explained.{IsTask, GivesCut, point_found, FindsPoint, KeepsExplained};
+ghost use Rattle.pass_core.specs.Made.{BankBooks, run_book, KeepsMade};
+ghost use Rattle.pass_core.specs.Explained.{IsTask, GivesCut, cut_given, point_found, FindsPoint, KeepsExplained};
 ghost use Rattle.pass_core.specs.Tabled.{pool_number, IsSolving, EndsSolve, Drops, RaisesPool, KeepsPools, committed_with, IsAbout};
 ghost use Rattle.pass_core.specs.Turns.{AreUpTo, KeepsPoints, EndsBy};
 
@@ -56,6 +57,8 @@ impl State {
             → OnOk result (EndsSolve (EndsBy begun.now.task.trial solved) self.old self.new m f) }
         ensures points { (p : ProgramOf) → AreUpTo p (node_at p.nodes node).stage begun.now.task.trial
             → IfSome (point_found solved) (AreUpTo p (node_at p.nodes node).stage) → OnOk result (KeepsPoints p self.old self.new) }
+        ensures made { (b : BankBooks) → IfSome (cut_given solved) (IsMadeFor (run_book self.old.kind b))
+            → OnOk result (KeepsMade b self.old self.new) }
     {
         match solved {
             Solved::Point { point, value, cut } => {
@@ -117,6 +120,7 @@ impl State {
             → OnOk result (EndsSolve (EndsBy begun.now.task.trial (Solved.Point point value cut)) self.old self.new m f) }
         ensures points { (p : ProgramOf) → AreUpTo p (node_at p.nodes node).stage begun.now.task.trial
             → AreUpTo p (node_at p.nodes node).stage point → OnOk result (KeepsPoints p self.old self.new) }
+        ensures made { (b : BankBooks) → IfSome cut (IsMadeFor (run_book self.old.kind b)) → OnOk result (KeepsMade b self.old self.new) }
     {
         if !self.keep(node, &begun.task.trial, point)? {
             return Ok(());
@@ -138,6 +142,7 @@ impl State {
             → IfSome cut (GivesCut p self.old.frame tree self.old.budget.pivots trial.now)
             → OnOk result (KeepsExplained p tree self.old self.new) }
         ensures raises { IfSome cut (λ c. (source_of c).node ≡ node) → IfOk result (λ told. RaisesPool told node self.old self.new) }
+        ensures made { (b : BankBooks) → IfSome cut (IsMadeFor (run_book self.old.kind b)) → OnOk result (KeepsMade b self.old self.new) }
         ensures lasts { OnOk result (self.new.lasts ≡ self.old.lasts) }
         ensures low { IfOk result (λ told. told ≡ true → 0 < node) }
     {
@@ -160,6 +165,7 @@ impl State {
             → ((k : ℕ) → m.number k ≡ pool_number self.old k) → f.node ≡ node → (source_of cut).node ≡ node
             → OnOk result (EndsSolve (EndsBy begun.now.task.trial (Solved.NoPoint cut)) self.old self.new m f) }
         ensures points { (p : ProgramOf) → OnOk result (KeepsPoints p self.old self.new) }
+        ensures made { (b : BankBooks) → IsMadeFor (run_book self.old.kind b) cut → OnOk result (KeepsMade b self.old self.new) }
     {
         self.lasts.forget(node);
         let is_raised = self.take_ray(node, &begun.task.trial, cut)?;
@@ -173,6 +179,7 @@ impl State {
             → GivesCut p self.old.frame tree self.old.budget.pivots trial.now cut
             → OnOk result (KeepsExplained p tree self.old self.new) }
         ensures raises { (source_of cut).node ≡ node → IfOk result (λ told. RaisesPool told node self.old self.new) }
+        ensures made { (b : BankBooks) → IsMadeFor (run_book self.old.kind b) cut → OnOk result (KeepsMade b self.old self.new) }
         ensures lasts { OnOk result (self.new.lasts ≡ self.old.lasts) }
         ensures low { IfOk result (λ told. told ≡ true → 0 < node) }
     {
@@ -240,6 +247,7 @@ impl State {
             → GivesCut p self.old.frame tree self.old.budget.pivots trial.now cut
             → OnOk result (KeepsExplained p tree self.old self.new) }
         ensures raises { IfOk result (λ told. RaisesPool told (source_of cut).node self.old self.new) }
+        ensures made { (b : BankBooks) → IsMadeFor (run_book self.old.kind b) cut → OnOk result (KeepsMade b self.old self.new) }
         ensures lasts { OnOk result (self.new.lasts ≡ self.old.lasts) }
     {
         match self.banks.offer(self.kind, cut, trial)? {
@@ -287,6 +295,7 @@ impl State {
     fn complete(&mut self, alloc: Global, program: &Program, tree: &Tree) -> Result<(), Memory>
         ensures explained { OnOk result (KeepsExplained (content program.now) tree.now self.old self.new) }
         ensures pools { OnOk result (KeepsPools self.old self.new) }
+        ensures made { (b : BankBooks) → OnOk result (KeepsMade b self.old self.new) }
         ensures lasts { OnOk result (self.new.lasts ≡ self.old.lasts) }
     {
         if !self.table.is_complete() {

@@ -1,6 +1,6 @@
 //! What an edit of the program leaves.
 ghost use Rattle.std.specs.Prelude.{◌≡◌, ◌<◌, ◌∷◌, [], false, length, IfOk, OnOk};
-ghost use Rattle.scen_defs.specs.Lists.{pick};
+ghost use Rattle.scen_defs.specs.Lists.{Each, pick};
 ghost use Rattle.scen_defs.specs.Program.{content, Program as ProgramOf};
 ghost use Rattle.scen_defs.specs.Valid.{IsProgram};
 ghost use Rattle.run_data.specs.Counts.{grown};
@@ -11,6 +11,7 @@ ghost use Rattle.pass_table.specs.Marks.{nothing};
 ghost use Rattle.one_worker.specs.Parents.{AreParents};
 ghost use Rattle.pass_core.specs.Counting.{after_edit};
 ghost use Rattle.pass_core.specs.Explained.{IsUnstopped};
+ghost use Rattle.pass_core.specs.Made.{BankBooks, PoolsAreMade, CutsAreMade, HasShiftOf};
 ghost use Rattle.pass_core.specs.Tabled.{IsTabled, IsUnused};
 
 use crate::state::State;
@@ -90,6 +91,8 @@ impl State {
         ensures tabled { let p = content program.now in (q : ProgramOf) → IsTabled q self.old
             → (is_grown ≡ false → frame_of p ≡ self.old.frame) → length p.nodes < nothing
             → OnOk result (IsTabled p self.new) }
+        // where the shifts of the dues are those of books for which all cuts were made, all cuts are made for these books
+        ensures made { (b : BankBooks) → Each (HasShiftOf b) dues.now → PoolsAreMade b self.old.banks → OnOk result (CutsAreMade b self.new) }
     {
         self.grow(alloc, program, is_grown)?;
         self.sweep(alloc, dues)?;

@@ -1,11 +1,16 @@
 //! The opening of the next run: each pool gets a cut that holds for every dual of the run before.
 
-ghost use Rattle.std.specs.Prelude.{◌≡◌, ◌+◌, ◌<◌, ◌^◌, ℕ, true, IfErr, OnOk};
-ghost use Rattle.scen_defs.specs.Program.{content, Program as ProgramOf};
-ghost use Rattle.scen_tree.specs.Trees.{Tree as TreeOf};
-ghost use Rattle.run_data.specs.Frames.{Frame as FrameOf};
+ghost use Rattle.std.specs.Prelude.{◌≡◌, ◌+◌, ◌<◌, ◌^◌, ℕ, true, None, Ok, length, replicate, IfErr, IfOk, IfSome, OnOk};
+ghost use Rattle.scen_defs.specs.Lists.{Each, passes_at};
+ghost use Rattle.scen_defs.specs.Program.{content, is_live, Program as ProgramOf};
+ghost use Rattle.scen_defs.specs.Valid.{IsProgram, Lives};
+ghost use Rattle.scen_tree.specs.Trees.{Tree as TreeOf, tree_walk};
+ghost use Rattle.cut_defs.specs.Stored.{IsMadeFor};
+ghost use Rattle.node_lp.specs.Problem.{is_priced};
+ghost use Rattle.run_data.specs.Frames.{Frame as FrameOf, frame_of};
 ghost use Rattle.pass_table.specs.Machine.{Machine};
 ghost use Rattle.pass_core.specs.Explained.{AreExplained, FailsToOpen, IsCutOfSolve, KeepsExplained};
+ghost use Rattle.pass_core.specs.Made.{BankBooks, run_book, AreBooksOf, CutsAreMade, KeepsMade, IsGroundOf, HasGrounds, cuts_there};
 ghost use Rattle.pass_core.specs.Tabled.{IsTabledBy, KeepsTable, KeepsPools, Opens};
 ghost use Rattle.pass_core.specs.Turns.{KeepsPoints};
 
@@ -21,7 +26,9 @@ use scen_tree::Tree;
 use std::alloc::Global;
 
 /// The run that follows a closed one.
-fn next(kind: Kind) -> Kind {
+fn next(kind: Kind) -> Kind
+    ensures { is_priced result ≡ true }
+{
     match kind {
         Kind::Feasible => Kind::Recession,
         Kind::Recession | Kind::Cost => Kind::Cost,
@@ -29,7 +36,9 @@ fn next(kind: Kind) -> Kind {
 }
 
 /// Whether a node stands at this place.
-fn is_live(program: &Program, node: u32) -> bool {
+fn is_live(program: &Program, node: u32) -> bool
+    ensures { result ≡ passes_at is_live node (content program.now).nodes }
+{
     match program.nodes.get(node as usize) {
         Some(place) => place.is_some(),
         None => false,
@@ -37,9 +46,11 @@ fn is_live(program: &Program, node: u32) -> bool {
 }
 
 /// No cut of any node.
-fn none(alloc: Global, nodes: u32) -> Result<Vec<Option<SharedCut>>, Memory> {
+fn none(alloc: Global, nodes: u32) -> Result<Vec<Option<SharedCut>>, Memory>
+    ensures { IfOk result (λ cuts. cuts.items ≡ replicate nodes None) }
+{
     let mut cuts = Vec::new(alloc);
-    for _ in 0..nodes {
+    for _node in 0..nodes {
         cuts.push(None)?;
     }
     Ok(cuts)
@@ -50,7 +61,9 @@ fn shared(
     alloc: Global,
     cuts: &[Option<SharedCut>],
     nodes: &[u32],
-) -> Result<Vec<SharedCut>, Memory> {
+) -> Result<Vec<SharedCut>, Memory>
+    ensures { IfOk result (λ all. all.items ≡ cuts_there cuts.now nodes.now) }
+{
     let mut all = Vec::new(alloc);
     for node in nodes {
         if let Some(Some(cut)) = cuts.get(*node as usize) {
@@ -82,6 +95,9 @@ impl State {
             → OnOk result (Opens p m self.new) }
         ensures points { (p : ProgramOf) → OnOk result (KeepsPoints p self.old self.new) }
         ensures counts { OnOk result (self.new.counts ≡ self.old.counts) }
+        ensures made { let p = content program.now in (b : BankBooks) → IsProgram p → tree_walk p ≡ Ok tree.now
+            → self.old.frame ≡ frame_of p → AreBooksOf p self.old.versions b → CutsAreMade b self.old
+            → OnOk result (CutsAreMade b self.new) }
     {
         let kind = next(self.kind);
         match self.first_cuts(alloc, program, tree, kind) {
@@ -95,6 +111,7 @@ impl State {
             → (AreExplained p tree self.old → FailsToOpen p self.old.frame tree self.old.budget.pivots fault)
             → OnOk result (KeepsExplained p tree self.old self.new) }
         ensures pools { OnOk result (KeepsPools self.old self.new) }
+        ensures made { (b : BankBooks) → OnOk result (KeepsMade b self.old self.new) }
         ensures points { (p : ProgramOf) → OnOk result (KeepsPoints p self.old self.new) }
     {
         match fault {
@@ -118,8 +135,11 @@ impl State {
         tree: &Tree,
         kind: Kind,
     ) -> Result<Vec<Option<SharedCut>>, CutFault>
-        ensures { AreExplained (content program.now) tree.now self.now
+        ensures fails { AreExplained (content program.now) tree.now self.now
             → IfErr result (FailsToOpen (content program.now) self.now.frame tree.now self.now.budget.pivots) }
+        ensures made { let p = content program.now in (b : BankBooks) → is_priced kind ≡ true → IsProgram p → tree_walk p ≡ Ok tree.now
+            → self.now.frame ≡ frame_of p → AreBooksOf p self.now.versions b
+            → IfOk result (λ cuts. Each (λ place. IfSome place (IsMadeFor (run_book kind b))) cuts.items) }
     {
         match self.opening_dual(alloc) {
             Ok(dual) => self.ground_cuts(alloc, program, tree, kind, &dual),
@@ -147,7 +167,10 @@ impl State {
         kind: Kind,
         dual: &Values,
     ) -> Result<Vec<Option<SharedCut>>, CutFault>
-        ensures { IfErr result (FailsToOpen (content program.now) self.now.frame tree.now self.now.budget.pivots) }
+        ensures fails { IfErr result (FailsToOpen (content program.now) self.now.frame tree.now self.now.budget.pivots) }
+        ensures made { let p = content program.now in (b : BankBooks) → is_priced kind ≡ true → IsProgram p → tree_walk p ≡ Ok tree.now
+            → self.now.frame ≡ frame_of p → AreBooksOf p self.now.versions b
+            → IfOk result (λ cuts. Each (λ place. IfSome place (IsMadeFor (run_book kind b))) cuts.items) }
     {
         let nodes = self.frame.nodes();
         let mut cuts = none(alloc, nodes)?;
@@ -174,7 +197,10 @@ impl State {
         node: u32,
         cuts: &[Option<SharedCut>],
     ) -> Result<SharedCut, CutFault>
-        ensures { IfErr result (FailsToOpen (content program.now) self.now.frame tree.now self.now.budget.pivots) }
+        ensures fails { IfErr result (FailsToOpen (content program.now) self.now.frame tree.now self.now.budget.pivots) }
+        ensures ground { let p = content program.now in (b : BankBooks) → is_priced kind ≡ true → IsProgram p → tree_walk p ≡ Ok tree.now
+            → self.now.frame ≡ frame_of p → AreBooksOf p self.now.versions b → Lives p node
+            → HasGrounds p (run_book kind b) (node + 1) cuts.now → IfOk result (IsGroundOf (run_book kind b) node) }
     {
         let version = self.versions.of(node);
         let Some(datum) = datum_of(alloc, program, &self.frame, tree, version, kind, node)? else {
@@ -196,6 +222,8 @@ impl State {
             → OnOk result (Opens p m self.new) }
         ensures points { (p : ProgramOf) → OnOk result (KeepsPoints p self.old self.new) }
         ensures counts { OnOk result (self.new.counts ≡ self.old.counts) }
+        ensures made { (b : BankBooks) → Each (λ place. IfSome place (IsMadeFor (run_book kind b))) cuts.items → CutsAreMade b self.old
+            → OnOk result (CutsAreMade b self.new) }
     {
         self.put_all(kind, &cuts)?;
         self.kind = kind;
@@ -210,6 +238,8 @@ impl State {
     fn put_all(&mut self, kind: Kind, cuts: &[Option<SharedCut>]) -> Result<(), Memory>
         ensures explained { (p : ProgramOf) (tree : TreeOf) → OnOk result (KeepsExplained p tree self.old self.new) }
         ensures kept { OnOk result (KeepsTable self.old self.new) }
+        ensures made { (b : BankBooks) → Each (λ place. IfSome place (IsMadeFor (run_book kind b))) cuts.now
+            → OnOk result (KeepsMade b self.old self.new) }
     {
         for place in cuts {
             self.put(kind, place)?;
@@ -221,6 +251,7 @@ impl State {
     fn put(&mut self, kind: Kind, place: &Option<SharedCut>) -> Result<(), Memory>
         ensures explained { (p : ProgramOf) (tree : TreeOf) → OnOk result (KeepsExplained p tree self.old self.new) }
         ensures kept { OnOk result (KeepsTable self.old self.new) }
+        ensures made { (b : BankBooks) → IfSome place.now (IsMadeFor (run_book kind b)) → OnOk result (KeepsMade b self.old self.new) }
     {
         let Some(cut) = place else {
             return Ok(());

@@ -1,8 +1,9 @@
 //! What is known of a program, and the next step.
-ghost use Rattle.std.specs.Prelude.{◌≡◌, ◌⊎◌, ◌<◌, Ok, length, true, IfOk, IfSome, IsSome, IsSomeAnd, OnOk};
+ghost use Rattle.std.specs.Prelude.{◌≡◌, ◌⊎◌, ◌<◌, ℕ, Ok, length, true, IfOk, IfSome, IsSome, IsSomeAnd, OnOk};
 ghost use Rattle.scen_defs.specs.Program.{content, Program as ProgramOf};
 ghost use Rattle.scen_tree.specs.Trees.{Tree as TreeOf, tree_walk};
 ghost use Rattle.scen_defs.specs.Valid.{IsSmall, IsProgram, Lives};
+ghost use Rattle.run_data.specs.Counts.{untouched, version_of};
 ghost use Rattle.run_data.specs.Frames.{frame_of, children_in};
 ghost use Rattle.cut_banks.specs.Banks.{pools_of};
 ghost use Rattle.cut_banks.specs.Pools.{numbers_read};
@@ -11,6 +12,7 @@ ghost use Rattle.pass_table.specs.Marks.{nothing};
 ghost use Rattle.pass_core.specs.Counting.{no_commits, with_commit, first_stop, first_or};
 ghost use Rattle.pass_core.specs.Beginning.{IsBeginning, StartsOver};
 ghost use Rattle.pass_core.specs.Explained.{IsDatumOf, KeepsExplained};
+ghost use Rattle.pass_core.specs.Made.{BankBooks, AreBooksOf, CutsAreMade};
 ghost use Rattle.pass_core.specs.Tabled.{IsTabled, IsTabledBy, StepsTo, IsBegunBy, EndsBegun};
 ghost use Rattle.pass_core.specs.Turns.{PointsStand, KeepsPoints, IsTaskOf, EndsAnyhow, SolvesNode, AreReady, MakesStep};
 
@@ -103,6 +105,9 @@ impl State {
         ensures counts { IfOk result (λ all. IfSome all (λ s. s.counts ≡ no_commits)) }
         ensures tabled { let p = content program.now in IsProgram p → IfOk result (λ all. IfSome all (IsTabled p)) }
         ensures some { let p = content program.now in IsProgram p → length p.nodes < nothing → IfOk result (λ all. IsSome all) }
+        // there are no cuts, which are made for every book, and no edit touched a node
+        ensures made { (b : BankBooks) → IfOk result (λ all. IfSome all (CutsAreMade b)) }
+        ensures untouched { (n : ℕ) → IfOk result (λ all. IfSome all (λ s. version_of s.versions n ≡ untouched)) }
     {
         let frame = Frame::of(alloc, program)?;
         let Some(table) = Turns::start(alloc, frame.parents())? else {
@@ -152,6 +157,10 @@ impl State {
         ensures solves { let p = content program.now in (m : Machine) → IsProgram p → tree_walk p ≡ Ok tree.now
             → self.old.frame ≡ frame_of p → IsTabledBy p self.old m → PointsStand p self.old.lasts.nodes.items
             → IfOk result (λ told. MakesStep p self.old m self.new told) }
+        // where books are right of the program, and all cuts are made for them, they are so afterwards
+        ensures made { let p = content program.now in (b : BankBooks) → IsProgram p → tree_walk p ≡ Ok tree.now
+            → self.old.frame ≡ frame_of p → AreBooksOf p self.old.versions b → CutsAreMade b self.old
+            → OnOk result (CutsAreMade b self.new) }
     {
         self.get_ready(alloc)?;
         if !self.table.has_room() {
@@ -201,6 +210,9 @@ impl State {
         ensures solves { let p = content program.now in (m : Machine) → IsProgram p → tree_walk p ≡ Ok tree.now
             → self.old.frame ≡ frame_of p → IsBegunBy p self.old m node → PointsStand p self.old.lasts.nodes.items
             → OnOk result (SolvesNode p self.old m node self.new) }
+        ensures made { let p = content program.now in (b : BankBooks) → IsProgram p → tree_walk p ≡ Ok tree.now
+            → self.old.frame ≡ frame_of p → AreBooksOf p self.old.versions b → CutsAreMade b self.old
+            → OnOk result (CutsAreMade b self.new) }
     {
         self.banks.keeps_nodes();
         let Some(begun) = self.begun(alloc, program, tree, node)? else {

@@ -1,4 +1,4 @@
-use Rattle.std.proofs.Common.{◌≡◌, true, false, refl, ap, ◌∙◌}
+use Rattle.std.proofs.Common.{◌≡◌, true, false, List, refl, sym, ap, subst, ◌∙◌}
 use Rattle.scen_defs.specs.Program.{content}
 use Rattle.pass_core.specs.declared.state.State.{State}
 use Rattle.pass_core.specs.Turns.{EndsAnyhow}
@@ -6,6 +6,9 @@ use Rattle.pass_core.specs.Turns.MakesStep.{begins_none, opens_run}
 use Rattle.pass_core.proofs.Solving.{solves_before, step_solved}
 use Rattle.pass_core.specs.Tabled.{IsTabledBy, HasRoom, IsBegunBy}
 use Rattle.pass_core.proofs.Tabling.{ready_tabled, refit, room_of, room_in, begun_by, rested, opening, turned}
+use Rattle.run_data.specs.declared.versions.Version.{Version}
+use Rattle.pass_core.specs.Made.{AreBooksOf}
+use Rattle.pass_core.proofs.Making.{same_made}
 use Rattle.pass_core.proofs.state.State.advance.Goals as goal
 
 pub returns-then-not-has_room-clause-tabled : goal.returns-then-not-has_room-clause-tabled
@@ -82,3 +85,29 @@ returns-in-None-clause-solves c = λ m i walk frame t stand.
     let u : IsTabledBy p s m = ready_tabled p m c.args.self.now s t c.in_ok-get_ready.ensures.others c.in_ok-get_ready.ensures.begun in
     let none = c.in-None.ensures m u.valid u.fits (u.idle 0) in
     begins_none (λ room. none.0) (c.in_ok-get_ready.ensures.points p stand) (ap (λ (x : State). x.counts) c.in_ok-get_ready.ensures.others)
+
+pub returns-then-not-has_room-clause-made : goal.returns-then-not-has_room-clause-made
+returns-then-not-has_room-clause-made c = λ b i walk frame right h.
+    let e = c.in_ok-get_ready.ensures.others in
+    (same_made b c.args.self.now c.get_ready.new.self (ap (λ (x : State). x.banks) e) (ap (λ (x : State). x.kind) e) (ap (λ (x : State). x.ends) e)).1 h
+
+pub returns-then-ne-clause-made : goal.returns-then-ne-clause-made
+returns-then-ne-clause-made c = λ b i walk frame right h.
+    let p = content c.args.program.now in
+    let e = c.in_ok-get_ready.ensures.others in
+    c.in_ok-open_next.ensures.made b i walk (ap (λ (x : State). x.frame) e ∙ frame)
+    (subst (λ (vs : List Version). AreBooksOf p vs b) (sym (ap (λ (x : State). x.versions) e)) right)
+    ((same_made b c.args.self.now c.get_ready.new.self (ap (λ (x : State). x.banks) e) (ap (λ (x : State). x.kind) e) (ap (λ (x : State). x.ends) e)).1 h)
+
+pub returns-in_ok-solve-in-Some-clause-made : goal.returns-in_ok-solve-in-Some-clause-made
+returns-in_ok-solve-in-Some-clause-made c = λ b i walk frame right h.
+    let p = content c.args.program.now in
+    let e = c.in_ok-get_ready.ensures.others in
+    c.in_ok-solve-in-Some.ensures.made b i walk (ap (λ (x : State). x.frame) e ∙ frame)
+    (subst (λ (vs : List Version). AreBooksOf p vs b) (sym (ap (λ (x : State). x.versions) e)) right)
+    ((same_made b c.args.self.now c.get_ready.new.self (ap (λ (x : State). x.banks) e) (ap (λ (x : State). x.kind) e) (ap (λ (x : State). x.ends) e)).1 h)
+
+pub returns-in-None-clause-made : goal.returns-in-None-clause-made
+returns-in-None-clause-made c = λ b i walk frame right h.
+    let e = c.in_ok-get_ready.ensures.others in
+    (same_made b c.args.self.now c.get_ready.new.self (ap (λ (x : State). x.banks) e) (ap (λ (x : State). x.kind) e) (ap (λ (x : State). x.ends) e)).1 h

@@ -11,6 +11,9 @@ use Rattle.pass_core.specs.Turns.{AreUpTo, KeepsPoints, EndsBy}
 use Rattle.pass_core.proofs.Standing.{same_points, then_points}
 use Rattle.pass_core.proofs.Tabling.{ends_then, told_ends, neither_ends, left_ends}
 use Rattle.pass_core.proofs.Explaining.{then_kept, left_kept, point_gives, point_finds, at_place, on_ok}
+use Rattle.cut_defs.specs.Stored.{IsMadeFor}
+use Rattle.pass_core.specs.Made.{run_book, KeepsMade}
+use Rattle.pass_core.proofs.Making.{then_made}
 use Rattle.pass_core.proofs.state.State.commit.Goals as goal
 
 pub returns-in_ok-point-in-Point-clause-explained : goal.returns-in_ok-point-in-Point-clause-explained
@@ -111,3 +114,11 @@ returns-in-Passed-clause-points c = λ p t x.
 
 pub returns-in-Loose-clause-points : goal.returns-in-Loose-clause-points
 returns-in-Loose-clause-points c = λ p t x. same_points p c.args.self.now c.left_stuck.new.self (ap (λ (s : State). s.lasts) c.left_stuck.ensures.others)
+
+pub returns-in_ok-point-in-Point-clause-made : goal.returns-in_ok-point-in-Point-clause-made
+returns-in_ok-point-in-Point-clause-made c = λ b h.
+    let old = c.args.self.now in
+    on_ok c.complete.result (KeepsMade b c.point.new.self c.complete.new.self) (KeepsMade b old c.complete.new.self)
+    (then_made b old c.point.new.self c.complete.new.self
+    (c.in_ok-point-in-Point.ensures.made b (subst (λ (all : Solved). IfSome (cut_given all) (IsMadeFor (run_book old.kind b))) c.in-Point.is h)))
+    (c.complete.ensures.made b)

@@ -5,6 +5,9 @@ use Rattle.one_worker.specs.Parents.{AreParents}
 use Rattle.pass_core.specs.Tabled.{IsTabled, IsUnused}
 use Rattle.pass_core.proofs.Explaining.{on_ok}
 use Rattle.pass_core.proofs.Parentage.{edited_tabled, each_ok}
+use Rattle.pass_core.specs.Explained.{IsUnstopped}
+use Rattle.pass_core.specs.Made.{CutsAreMade}
+use Rattle.pass_core.proofs.MadeAfterEdits.{all_made_behind}
 use Rattle.pass_core.proofs.state.State.edited.Goals as goal
 
 pub returns-clause-tabled : goal.returns-clause-tabled
@@ -23,3 +26,12 @@ returns-clause-tabled c = λ q t same few.
     (λ parents kept. unused kept parents))
     (each_ok c.begin_anew.result (AreParents mid.frame.parents) (mid.is_begun ≡ false → c.args.is_grown ≡ false → IsUnused mid) (IsUnused new)
     c.begin_anew.ensures.unused)
+
+pub returns-clause-made : goal.returns-clause-made
+returns-clause-made c = λ b h all.
+    let p = content c.args.program.now in
+    let new = c.begin_anew.new.self in
+    on_ok c.begin_anew.result (IsUnstopped new) (CutsAreMade b new)
+    (all_made_behind b c.args.is_grown p.nodes c.args.dues.now c.args.self.now.banks new h all
+    (c.begin_anew.ensures.banks ∙ c.in_ok-sweep.ensures.banks ∙ ap (swept_banks c.args.dues.now) c.in_ok-grow.ensures.banks))
+    c.begin_anew.ensures.reasons

@@ -5,6 +5,7 @@ use Rattle.pass_core.specs.Turns.{EndsBy}
 use Rattle.pass_core.proofs.Standing.{same_points, then_points, forgotten_stand}
 use Rattle.pass_core.proofs.Tabling.{lasts_keeps, offered_ends}
 use Rattle.pass_core.proofs.Explaining.{then_kept, table_kept, forgotten_kept}
+use Rattle.pass_core.proofs.Making.{same_made, then_made}
 use Rattle.pass_core.proofs.state.State.no_point.Goals as goal
 
 pub returns-clause-explained : goal.returns-clause-explained
@@ -29,3 +30,11 @@ returns-clause-points c = λ p.
     then_points p c.args.self.now s c.commit_last.new.self
     (forgotten_stand p c.args.self.now.lasts.nodes.items c.forget.new.self.nodes.items c.args.node c.forget.ensures)
     (same_points p s c.commit_last.new.self (ap (λ (x : State). x.lasts) c.commit_last.ensures.others ∙ c.in_ok-is_raised.ensures.lasts))
+
+pub returns-clause-made : goal.returns-clause-made
+returns-clause-made c = λ b h.
+    let s : State = record c.args.self.now { lasts = c.forget.new.self } in
+    let f = c.commit_last.ensures.others in
+    then_made b c.args.self.now s c.commit_last.new.self (same_made b c.args.self.now s refl refl refl)
+    (then_made b s c.take_ray.new.self c.commit_last.new.self (c.in_ok-is_raised.ensures.made b h)
+    (same_made b c.take_ray.new.self c.commit_last.new.self (ap (λ (x : State). x.banks) f) (ap (λ (x : State). x.kind) f) (ap (λ (x : State). x.ends) f)))

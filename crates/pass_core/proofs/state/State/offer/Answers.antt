@@ -1,10 +1,16 @@
-use Rattle.std.proofs.Common.{sym, subst, ◌∙◌}
+use Rattle.std.proofs.Common.{sym, ap, subst, ◌∙◌}
 use Rattle.cut_defs.specs.Stored.{source_of}
 use Rattle.cut_banks.specs.Banks.{pools_of}
 use Rattle.pass_core.specs.declared.state.State.{State}
 use Rattle.pass_core.specs.Explained.{KeepsExplained}
 use Rattle.pass_core.proofs.Tabling.{offered, unanswered, stop_keeps}
 use Rattle.pass_core.proofs.Explaining.{offer_kept, offer_passes}
+use Rattle.pass_core.specs.Counting.{after_answer}
+use Rattle.cut_banks.specs.Pools.{may_take}
+use Rattle.cut_pool.specs.Pool.{offer_of, after_offer}
+use Rattle.cut_defs.specs.Stored.{IsMadeFor}
+use Rattle.pass_core.specs.Made.{run_book, KeepsMade}
+use Rattle.pass_core.proofs.Making.{offered_have, bank_changed, banks_made, answered_made, then_made, same_made}
 use Rattle.pass_core.proofs.state.State.offer.Goals as goal
 
 pub returns-in-Some-clause-explained : goal.returns-in-Some-clause-explained
@@ -25,3 +31,29 @@ returns-in-None-clause-raises c =
     let s : State = record c.args.self.now { banks = c.offer.new.self } in
     unanswered c.args.self.now c.stuck.new.self c.args.cut c.args.trial.now c.offer.new.self
     (sym c.in-None.is ∙ c.in_ok-offer.ensures.answer) c.in_ok-offer.ensures.ok (stop_keeps s c.stuck.new.self _ c.stuck.ensures)
+
+pub returns-in-Some-clause-made : goal.returns-in-Some-clause-made
+returns-in-Some-clause-made c = λ b h.
+    let old = c.args.self.now in
+    let s : State = record old { banks = c.offer.new.self } in
+    let cut = c.args.cut in
+    let trial = c.args.trial.now in
+    subst (λ (t : State). KeepsMade b old t) (sym c.judged.ensures.state)
+    (then_made b old s (after_answer c.in-Some.offer s)
+    (banks_made b old c.offer.new.self
+    (bank_changed old.kind b old.banks c.offer.new.self (may_take cut) (λ p. after_offer p cut (offer_of p cut trial)) (source_of cut).node
+    (λ p. offered_have (IsMadeFor (run_book old.kind b)) p cut (offer_of p cut trial) h) c.in_ok-offer.ensures.ok))
+    (answered_made b s c.in-Some.offer))
+
+pub returns-in-None-clause-made : goal.returns-in-None-clause-made
+returns-in-None-clause-made c = λ b h.
+    let old = c.args.self.now in
+    let s : State = record old { banks = c.offer.new.self } in
+    let cut = c.args.cut in
+    let trial = c.args.trial.now in
+    let e = c.stuck.ensures in
+    then_made b old s c.stuck.new.self
+    (banks_made b old c.offer.new.self
+    (bank_changed old.kind b old.banks c.offer.new.self (may_take cut) (λ p. after_offer p cut (offer_of p cut trial)) (source_of cut).node
+    (λ p. offered_have (IsMadeFor (run_book old.kind b)) p cut (offer_of p cut trial) h) c.in_ok-offer.ensures.ok))
+    (same_made b s c.stuck.new.self (ap (λ (x : State). x.banks) e) (ap (λ (x : State). x.kind) e) (ap (λ (x : State). x.ends) e))

@@ -1,4 +1,7 @@
-use Rattle.std.proofs.Common.{refl, sym, subst}
+use Rattle.std.proofs.Common.{Option, IfSome, refl, sym, subst}
+use Rattle.scen_defs.specs.Lists.{Each}
+use Rattle.cut_defs.specs.Stored.{Stored, IsMadeFor}
+use Rattle.pass_core.specs.Made.{run_book}
 use Rattle.pass_core.specs.Explained.{PointsAreFound}
 use Rattle.pass_core.proofs.Standing.{none_stand}
 use Rattle.pass_core.proofs.Tabling.{run_opened}
@@ -27,3 +30,10 @@ returns-clause-tabled c = λ p m t z room.
 
 pub returns-clause-points : goal.returns-clause-points
 returns-clause-points c = λ p h. none_stand p _ _ c.in_ok-self.ensures
+
+pub returns-clause-made : goal.returns-clause-made
+returns-clause-made c = λ b all h.
+    let each : Each (λ (place : Option Stored). IfSome place (IsMadeFor (run_book c.args.kind b))) c.deref.result.now =
+    subst (Each (λ (place : Option Stored). IfSome place (IsMadeFor (run_book c.args.kind b)))) (sym c.deref.ensures.value) all in
+    let k = (c.in_ok-put_all.ensures.made b each).1 h in
+    (k.0, record { root = tt; lower = k.1.lower; nowhere = k.1.nowhere })

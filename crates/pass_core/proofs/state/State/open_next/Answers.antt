@@ -2,6 +2,7 @@ use Rattle.pass_core.specs.Tabled.{KeepsPools, Opens}
 use Rattle.pass_core.specs.Tabled.Opens.{not_opened}
 use Rattle.pass_core.proofs.Explaining.{on_ok}
 use Rattle.pass_core.proofs.Tabling.{still_tabled}
+use Rattle.pass_core.specs.Made.{KeepsMade, CutsAreMade}
 use Rattle.pass_core.proofs.state.State.open_next.Goals as goal
 
 pub returns-in-Ok-clause-tabled : goal.returns-in-Ok-clause-tabled
@@ -17,3 +18,11 @@ returns-in-Ok-clause-points c = λ p. c.open.ensures.points p
 
 pub returns-in-Err-clause-points : goal.returns-in-Err-clause-points
 returns-in-Err-clause-points c = λ p. c.not_opened.ensures.points p
+
+pub returns-in-Ok-clause-made : goal.returns-in-Ok-clause-made
+returns-in-Ok-clause-made c = λ b i walk frame right h.
+    c.open.ensures.made b (c.in-Ok.ensures.made b c.next-kind.ensures i walk frame right) h
+
+pub returns-in-Err-clause-made : goal.returns-in-Err-clause-made
+returns-in-Err-clause-made c = λ b i walk frame right h.
+    on_ok c.not_opened.result (KeepsMade b c.args.self.now c.not_opened.new.self) (CutsAreMade b c.not_opened.new.self) (λ k. k.1 h) (c.not_opened.ensures.made b)

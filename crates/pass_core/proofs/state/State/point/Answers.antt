@@ -5,6 +5,8 @@ use Rattle.pass_core.specs.Turns.{EndsBy}
 use Rattle.pass_core.proofs.Standing.{join_passes, same_points, then_points, point_stands}
 use Rattle.pass_core.proofs.Tabling.{left_ends, lasts_keeps, offered_ends, not_true, not_false}
 use Rattle.pass_core.proofs.Explaining.{then_kept, table_kept, still_given}
+use Rattle.pass_core.specs.Made.{KeepsMade}
+use Rattle.pass_core.proofs.Making.{same_made, then_made, still_made}
 use Rattle.pass_core.proofs.state.State.point.Goals as goal
 
 pub returns-clause-explained : goal.returns-clause-explained
@@ -43,3 +45,21 @@ returns-clause-points c = λ p t x.
     then_points p c.args.self.now c.keep.new.self c.commit_last.new.self
     (point_stands p c.args.self.now c.keep.new.self c.args.node c.args.begun.now.task.trial c.args.point (c.in_ok-keep.ensures.kept (ap (λ (b : Bool). Ok b) q)) t x)
     (same_points p c.keep.new.self c.commit_last.new.self (ap (λ (s : State). s.lasts) c.commit_last.ensures.others ∙ c.in_ok-is_raised.ensures.lasts))
+
+pub returns-then-not-branch-clause-made : goal.returns-then-not-branch-clause-made
+returns-then-not-branch-clause-made c = λ b h.
+    let q : c.in_ok-keep.field-0 ≡ false = first_of (cc, search (rules, not_true, c.if-not-branch.true)) in
+    let e = c.in_ok-keep.ensures.stuck (ap (λ (b : Bool). Ok b) q) in
+    same_made b c.args.self.now c.keep.new.self (ap (λ (s : State). s.banks) e) (ap (λ (s : State). s.kind) e) (ap (λ (s : State). s.ends) e)
+
+pub returns-clause-made : goal.returns-clause-made
+returns-clause-made c = λ b h.
+    let q : c.in_ok-keep.field-0 ≡ true = first_of (cc, search (rules, not_false, c.if-not-branch.false)) in
+    let e = c.in_ok-keep.ensures.others (ap (λ (b : Bool). Ok b) q) in
+    let k : KeepsMade b c.args.self.now c.keep.new.self =
+    same_made b c.args.self.now c.keep.new.self (ap (λ (s : State). s.banks) e) (ap (λ (s : State). s.kind) e) (ap (λ (s : State). s.ends) e) in
+    let f = c.commit_last.ensures.others in
+    then_made b c.args.self.now c.keep.new.self c.commit_last.new.self k
+    (then_made b c.keep.new.self c.take_bound.new.self c.commit_last.new.self
+    (c.in_ok-is_raised.ensures.made b (still_made b c.args.self.now c.keep.new.self c.args.cut k h))
+    (same_made b c.take_bound.new.self c.commit_last.new.self (ap (λ (s : State). s.banks) f) (ap (λ (s : State). s.kind) f) (ap (λ (s : State). s.ends) f)))

@@ -1,5 +1,12 @@
 use Rattle.pass_core.specs.declared.state.State.{State}
 use Rattle.pass_core.proofs.Tabling.{table_then, put_keeps, stop_keeps}
+use Rattle.std.proofs.Common.{Option, IfSome, sym, ap, subst}
+use Rattle.cut_defs.specs.Stored.{Stored, source_of, IsMadeFor}
+use Rattle.cut_banks.specs.Pools.{may_put}
+use Rattle.cut_pool.specs.Pool.{with_cut}
+use Rattle.scen_defs.proofs.ValueLaws.{each-push}
+use Rattle.pass_core.specs.Made.{run_book}
+use Rattle.pass_core.proofs.Making.{bank_changed, banks_made, then_made, same_made}
 use Rattle.pass_core.proofs.state.State.put.Goals as goal
 
 pub returns-then-is_put-clause-kept : goal.returns-then-is_put-clause-kept
@@ -10,3 +17,27 @@ returns-clause-kept c =
     let s : State = record c.args.self.now { banks = c.ground.new.self } in
     table_then c.args.self.now s c.stuck.new.self (put_keeps c.args.self.now c.args.kind c.in_ok-own.own c.ground.new.self c.in_ok-is_put.ensures.ok)
     (stop_keeps s c.stuck.new.self _ c.stuck.ensures).kept
+
+pub returns-then-is_put-clause-made : goal.returns-then-is_put-clause-made
+returns-then-is_put-clause-made c = λ b h.
+    let old = c.args.self.now in
+    let cut = c.in_ok-own.own in
+    let made : IsMadeFor (run_book c.args.kind b) cut =
+    subst (IsMadeFor (run_book c.args.kind b)) (sym c.in_ok-own.ensures) (subst (λ (o : Option Stored). IfSome o (IsMadeFor (run_book c.args.kind b))) c.in-Some.is h) in
+    banks_made b old c.ground.new.self
+    (bank_changed c.args.kind b old.banks c.ground.new.self (may_put cut) (λ p. with_cut p cut) (source_of cut).node
+    (λ p k. each-push (IsMadeFor (run_book c.args.kind b)) p.cuts cut k made) c.in_ok-is_put.ensures.ok)
+
+pub returns-clause-made : goal.returns-clause-made
+returns-clause-made c = λ b h.
+    let old = c.args.self.now in
+    let s : State = record old { banks = c.ground.new.self } in
+    let cut = c.in_ok-own.own in
+    let made : IsMadeFor (run_book c.args.kind b) cut =
+    subst (IsMadeFor (run_book c.args.kind b)) (sym c.in_ok-own.ensures) (subst (λ (o : Option Stored). IfSome o (IsMadeFor (run_book c.args.kind b))) c.in-Some.is h) in
+    let e = c.stuck.ensures in
+    then_made b old s c.stuck.new.self
+    (banks_made b old c.ground.new.self
+    (bank_changed c.args.kind b old.banks c.ground.new.self (may_put cut) (λ p. with_cut p cut) (source_of cut).node
+    (λ p k. each-push (IsMadeFor (run_book c.args.kind b)) p.cuts cut k made) c.in_ok-is_put.ensures.ok))
+    (same_made b s c.stuck.new.self (ap (λ (x : State). x.banks) e) (ap (λ (x : State). x.kind) e) (ap (λ (x : State). x.ends) e))

@@ -1,9 +1,15 @@
+use Rattle.std.proofs.Common.{Option, IfSome}
+use Rattle.cut_defs.specs.Stored.{Stored, IsMadeFor}
+use Rattle.pass_core.specs.Made.{run_book}
 use Rattle.pass_core.proofs.Explaining.{then_kept}
 use Rattle.pass_core.proofs.Tabling.{table_then}
+use Rattle.pass_core.proofs.Making.{then_made, each_at}
 use Rattle.pass_core.proofs.state.State.put_all.Goals as goal
 
 pub loop-place-preserved : goal.loop-place-preserved
 loop-place-preserved c = record {
   explained = λ p tree. then_kept p tree c.args.self.now c.loop-place.self c.put.new.self (c.loop-place.invariant.explained p tree) (c.in_ok-put.ensures.explained p tree);
+  made = λ b all. then_made b c.args.self.now c.loop-place.self c.put.new.self (c.loop-place.invariant.made b all) (c.in_ok-put.ensures.made b
+      (each_at (λ (place : Option Stored). IfSome place (IsMadeFor (run_book c.args.kind b))) c.args.cuts.now c.loop-place.place-index c.place-item.result all c.loop-place-test.true c.place-item.is));
   kept = table_then c.args.self.now c.loop-place.self c.put.new.self c.loop-place.invariant.kept c.in_ok-put.ensures.kept;
 }

@@ -1,4 +1,8 @@
+use Rattle.std.proofs.Common.{IfSome}
+use Rattle.scen_defs.specs.Lists.{Each}
 use Rattle.scen_defs.specs.Program.{Program}
+use Rattle.cut_defs.specs.Stored.{IsMadeFor}
+use Rattle.pass_core.specs.Made.{BankBooks, run_book, KeepsMade}
 use Rattle.scen_tree.specs.Trees.{Tree}
 use Rattle.pass_core.specs.Explained.{KeepsExplained}
 use Rattle.pass_core.specs.Tabled.{KeepsTable}
@@ -7,5 +11,6 @@ use Rattle.pass_core.proofs.state.State.put_all.Given as goal
 abbrev pub invariant-loop-place : goal.invariant-loop-place
 invariant-loop-place l = record {
   explained : (p : Program) (tree : Tree) → KeepsExplained p tree l.initial.self l.self;
+  made : (b : BankBooks) → Each (λ place. IfSome place (IsMadeFor (run_book l.kind b))) l.cuts → KeepsMade b l.initial.self l.self;
   kept : KeepsTable l.initial.self l.self;
 }

@@ -20,6 +20,10 @@ use Rattle.pass_core.specs.Tabled.{EndsSolve, EndsBegun}
 use Rattle.pass_core.proofs.Explaining.{on_ok}
 use Rattle.pass_core.proofs.Tabling.{stuck_ends, begun_flight, read_machine, reads_number, at_node, begun_solving, begun_counted, solve_ends, anyhow, lives, within_pools}
 use Rattle.pass_core.proofs.CutNodes.{answer_about}
+use Rattle.scen_defs.specs.Valid.{Lives}
+use Rattle.cut_defs.specs.Stored.{IsMadeFor}
+use Rattle.pass_core.specs.Made.{run_book, KeepsMade, CutsAreMade}
+use Rattle.pass_core.proofs.Making.{answer_made, pools_made, read_have, same_made}
 use Rattle.pass_core.proofs.state.State.solve.Goals as goal
 
 pub returns-in_default-clause-tabled : goal.returns-in_default-clause-tabled
@@ -99,3 +103,32 @@ returns-clause-solves c = λ m i walk frame begun stand.
     (begun_solving p s m n i frame b c.in-Some.begun.readings.items rs) (reads_number p s m n i frame b) (at_node p s m n i frame b)
     (answer_about t n all node c.in_ok-solved.ensures.answer))
     (c.commit.ensures.points p trial (found_stands p s.kind n (version_of s.versions n) t all task.datum c.in_ok-solved.ensures.answer))
+
+pub returns-in_default-clause-made : goal.returns-in_default-clause-made
+returns-in_default-clause-made c = λ b i walk frame right h.
+    let e = c.left_stuck.ensures.others in
+    (same_made b c.args.self.now c.left_stuck.new.self (ap (λ (x : State). x.banks) e) (ap (λ (x : State). x.kind) e) (ap (λ (x : State). x.ends) e)).1 h
+
+pub returns-then-not-fits-clause-made : goal.returns-then-not-fits-clause-made
+returns-then-not-fits-clause-made c = λ b i walk frame right h.
+    let e = c.left_stuck-then-not-fits.ensures.others in
+    (same_made b c.args.self.now c.left_stuck-then-not-fits.new.self (ap (λ (x : State). x.banks) e) (ap (λ (x : State). x.kind) e) (ap (λ (x : State). x.ends) e)).1 h
+
+pub returns-clause-made : goal.returns-clause-made
+returns-clause-made c = λ b i walk frame right h.
+    let p = content c.args.program.now in
+    let s = c.args.self.now in
+    let n = c.args.node in
+    let t : Task = c.in-Some.begun.task in
+    let datum : IsDatumOf t.kind p s.frame c.args.tree.now t.datum =
+    subst (λ (o : Option Begun). IfSome o (λ (x : Begun). IsDatumOf x.task.kind p s.frame c.args.tree.now x.task.datum)) c.in-Some.is c.in_ok-begun.ensures.datum in
+    let node : t.datum.node ≡ n =
+    subst (λ (o : Option Begun). IfSome o (λ (x : Begun). x.task.datum.node ≡ c.args.node)) c.in-Some.is c.in_ok-begun.ensures.node in
+    let lives : Lives p n = subst (Lives p) node datum.lives in
+    let task : IsTaskOf p s n t =
+    subst (λ (o : Option Begun). IsSomeAnd o (λ (x : Begun). IsTaskOf p s n x.task)) c.in-Some.is (c.in_ok-begun.ensures.stated i walk frame lives) in
+    on_ok c.commit.result (KeepsMade b s c.commit.new.self) (CutsAreMade b c.commit.new.self) (λ k. k.1 h)
+    (c.commit.ensures.made b
+    (answer_made p s n t b i lives right task
+    (read_have (IsMadeFor (run_book s.kind b)) (pools_of s.kind s.banks) (children_in s.frame n) t.children.items task.cuts (pools_made s.kind b s.banks h.0))
+    c.in_ok-solved.solved (sym c.in_ok-solved.ensures.exact) c.in_ok-solved.ensures.answer))

@@ -1,10 +1,13 @@
-use Rattle.std.proofs.Common.{ℕ, replicate, ap, refl, ◌∙◌}
+use Rattle.std.proofs.Common.{ℕ, List, replicate, ap, subst, refl, ◌∙◌}
 use Rattle.scen_defs.specs.Program.{content}
-use Rattle.run_data.specs.Counts.{untouched}
 use Rattle.run_data.specs.Frames.{Frame}
 use Rattle.cut_banks.specs.Banks.{empty_banks}
 use Rattle.pass_core.proofs.Beginning.{all_nodes}
 use Rattle.pass_core.proofs.Parentage.{are_parents, made_one, started}
+use Rattle.scen_defs.specs.declared.report.Kind.TheVariants.{Feasible}
+use Rattle.run_data.specs.declared.versions.Version.{Version}
+use Rattle.run_data.specs.Counts.{untouched, version_of}
+use Rattle.pass_core.proofs.MadeAfterEdits.{all_made_at_start, never_touched}
 use Rattle.pass_core.proofs.state.State.start.Goals as goal
 
 pub returns-clause-tabled : goal.returns-clause-tabled
@@ -33,3 +36,9 @@ pub returns-in_default-clause-some : goal.returns-in_default-clause-some
 returns-in_default-clause-some c = λ i few.
     made_one c.in_ok-table.field-0 c.parents.result.now _ c.in_ok-table.ensures.some
     (c.parents.ensures ∙ ap (λ (f : Frame). f.parents) (c.in_ok-frame.ensures i.small)) c.in_default.is (are_parents (content c.args.program.now) i few)
+
+pub returns-clause-made : goal.returns-clause-made
+returns-clause-made c = λ b. all_made_at_start b Feasible _ _ c.nodes-nodes.result c.in_ok-empty.ensures c.none-2.ensures
+
+pub returns-clause-untouched : goal.returns-clause-untouched
+returns-clause-untouched c = λ n. ap (λ (vs : List Version). version_of vs n) c.in_ok-untouched.ensures ∙ never_touched c.nodes-nodes.result n

@@ -1,0 +1,73 @@
+use Rattle.std.proofs.Common.{◌≡◌, ◌+◌, ◌-◌, ℕ, List, Option, Some, None, IfSome, length, sym, ap, subst, ◌∙◌, arith}
+use Rattle.std.proofs.lemmas.List.{length-replicate}
+use Rattle.scen_defs.specs.Lists.{Each}
+use Rattle.scen_defs.specs.Program.{content}
+use Rattle.scen_defs.specs.Valid.{Lives}
+use Rattle.cut_defs.specs.Stored.{Stored, IsMadeFor}
+use Rattle.pass_core.specs.Made.{run_book, HasGrounds, IsGroundOf}
+use Rattle.pass_core.proofs.Making.{none_made, none_ground, ground_past, ground_put, each_set, places_of_nodes, set_long}
+use Rattle.pass_core.proofs.state.State.ground_cuts.Goals as goal
+
+pub loop-node-init : goal.loop-node-init
+loop-node-init c = record {
+  long = ap (λ (xs : List (Option Stored)). length xs) c.in_ok-cuts.ensures ∙ length-replicate c.nodes-nodes.result None;
+  made = λ b priced i walk frame right. (
+    none_ground (content c.args.program.now) (run_book c.args.kind b) c.nodes-nodes.result c.in_ok-cuts.cuts.items
+        (places_of_nodes (content c.args.program.now) c.args.self.now.frame c.nodes-nodes.result i frame c.nodes-nodes.ensures),
+    subst (Each (λ (place : Option Stored). IfSome place (IsMadeFor (run_book c.args.kind b)))) (sym c.in_ok-cuts.ensures) (none_made (run_book c.args.kind b) c.nodes-nodes.result),
+  );
+}
+
+pub loop-node-preserved-then-not-is_live : goal.loop-node-preserved-then-not-is_live
+loop-node-preserved-then-not-is_live c = record {
+  long = c.loop-node.invariant.long;
+  made = λ b priced i walk frame right.
+      let p = content c.args.program.now in
+      let h = c.loop-node.invariant.made b priced i walk frame right in
+      let next : c.loop-node.node ≡ c.loop-node.node - 1 + 1 = omega (arith, c.loop-node-test.true) in (
+        ground_past p (run_book c.args.kind b) (c.loop-node.node - 1) c.loop-node.cuts.items (sym c.is_live.ensures ∙ c.if-not-is_live.true)
+            (subst (λ (k : ℕ). HasGrounds p (run_book c.args.kind b) k c.loop-node.cuts.items) next h.0),
+        h.1,
+      );
+}
+
+pub loop-node-preserved-then-node-len : goal.loop-node-preserved-then-node-len
+loop-node-preserved-then-node-len c = record {
+  long = set_long c.loop-node.cuts.items (c.loop-node.node - 1) (Some c.in_ok-cut.cut) c.nodes-nodes.result c.loop-node.invariant.long;
+  made = λ b priced i walk frame right.
+      let p = content c.args.program.now in
+      let h = c.loop-node.invariant.made b priced i walk frame right in
+      let next : c.loop-node.node ≡ c.loop-node.node - 1 + 1 = omega (arith, c.loop-node-test.true) in
+      let done : HasGrounds p (run_book c.args.kind b) (c.loop-node.node - 1 + 1) c.loop-node.cuts.items =
+      subst (λ (k : ℕ). HasGrounds p (run_book c.args.kind b) k c.loop-node.cuts.items) next h.0 in
+      let lives : Lives p (c.loop-node.node - 1) = sym c.is_live.ensures ∙ c.if-not-is_live.false in
+      let g : IsGroundOf (run_book c.args.kind b) (c.loop-node.node - 1) c.in_ok-cut.cut =
+      c.in_ok-cut.ensures.ground b priced i walk frame right lives
+      (subst (HasGrounds p (run_book c.args.kind b) (c.loop-node.node - 1 + 1)) (sym c.deref.ensures.value) done) in (
+        ground_put p (run_book c.args.kind b) (c.loop-node.node - 1) c.loop-node.cuts.items c.in_ok-cut.cut
+            (omega (arith, c.loop-node.auto.node, c.loop-node.invariant.long, c.loop-node-test.true)) done g,
+        each_set (λ (place : Option Stored). IfSome place (IsMadeFor (run_book c.args.kind b))) c.loop-node.cuts.items (c.loop-node.node - 1) (Some c.in_ok-cut.cut) h.1 g.made,
+      );
+}
+
+pub loop-node-preserved-then-node-len-2 : goal.loop-node-preserved-then-node-len-2
+loop-node-preserved-then-node-len-2 c = record {
+  long = set_long c.loop-node.cuts.items (c.loop-node.node - 1) (Some c.in_ok-cut.cut) c.nodes-nodes.result c.loop-node.invariant.long;
+  made = λ b priced i walk frame right.
+      let p = content c.args.program.now in
+      let h = c.loop-node.invariant.made b priced i walk frame right in
+      let next : c.loop-node.node ≡ c.loop-node.node - 1 + 1 = omega (arith, c.loop-node-test.true) in
+      let done : HasGrounds p (run_book c.args.kind b) (c.loop-node.node - 1 + 1) c.loop-node.cuts.items =
+      subst (λ (k : ℕ). HasGrounds p (run_book c.args.kind b) k c.loop-node.cuts.items) next h.0 in
+      let lives : Lives p (c.loop-node.node - 1) = sym c.is_live.ensures ∙ c.if-not-is_live.false in
+      let g : IsGroundOf (run_book c.args.kind b) (c.loop-node.node - 1) c.in_ok-cut.cut =
+      c.in_ok-cut.ensures.ground b priced i walk frame right lives
+      (subst (HasGrounds p (run_book c.args.kind b) (c.loop-node.node - 1 + 1)) (sym c.deref.ensures.value) done) in (
+        ground_put p (run_book c.args.kind b) (c.loop-node.node - 1) c.loop-node.cuts.items c.in_ok-cut.cut
+            (omega (arith, c.loop-node.auto.node, c.loop-node.invariant.long, c.loop-node-test.true)) done g,
+        each_set (λ (place : Option Stored). IfSome place (IsMadeFor (run_book c.args.kind b))) c.loop-node.cuts.items (c.loop-node.node - 1) (Some c.in_ok-cut.cut) h.1 g.made,
+      );
+}
+
+pub returns-clause-made : goal.returns-clause-made
+returns-clause-made c = λ b priced i walk frame right. (c.loop-node.invariant.made b priced i walk frame right).1
