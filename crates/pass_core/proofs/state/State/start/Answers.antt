@@ -1,6 +1,6 @@
 use Rattle.scen_defs.specs.Program.{content}
 use Rattle.pass_core.proofs.Parentage.{started}
-use Rattle.std.proofs.Common.{List, ap, subst, ◌∙◌}
+use Rattle.std.proofs.Common.{List, ap, ◌∙◌}
 use Rattle.scen_defs.specs.declared.report.Kind.TheVariants.{Feasible}
 use Rattle.run_data.specs.declared.versions.Version.{Version}
 use Rattle.run_data.specs.Counts.{version_of}

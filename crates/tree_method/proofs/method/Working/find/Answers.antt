@@ -3,8 +3,9 @@ use Rattle.run_ends.specs.declared.claims.Closed.{Closed}
 use Rattle.pass_core.specs.declared.state.State.{State}
 use Rattle.pass_core.specs.Turns.{PointsStand}
 use Rattle.scen_defs.specs.Program.{content}
-use Rattle.pass_core.specs.Tabled.{GoesBySteps}
 use Rattle.tree_method.proofs.StandLemmas.{works_still, tells_why}
+use Rattle.pass_core.proofs.Making.{same_made}
+use Rattle.tree_method.proofs.Histories.{history_stays}
 use Rattle.tree_method.proofs.method.Working.find.Goals as goal
 
 pub returns-clause-why : goal.returns-clause-why
@@ -34,3 +35,10 @@ returns-clause-solves c = λ budget i few w. record {
   why = ap (λ (x : Closed). x.why) c.in_ok-closed.ensures.claim;
   behind = c.in_ok-closed.ensures.state;
 }
+
+pub returns-clause-made : goal.returns-clause-made
+returns-clause-made c = λ budget rest w h.
+    let e = c.in_ok-closed.ensures.state in
+    history_stays (content c.args.program.now) rest c.run.new.self.state c.close.new.self (ap (λ (s : State). s.versions) e)
+    (λ b i right. (same_made b c.run.new.self.state c.close.new.self (ap (λ (s : State). s.banks) e) (ap (λ (s : State). s.kind) e) (ap (λ (s : State). s.ends) e)).1)
+    (c.in_ok-run.ensures.made budget rest w h)
