@@ -10,7 +10,7 @@ pub returns-clause-names : goal.returns-clause-names
 returns-clause-names c = c.reported.ensures.names
 
 pub returns-clause-truth : goal.returns-clause-truth
-returns-clause-truth c = λ small tree. c.reported.ensures.truth (c.in_ok-method.ensures small) tree
+returns-clause-truth c = λ small tree. c.reported.ensures.truth (c.in_ok-method.ensures.stands small) tree
 
 pub returns-clause-equal : goal.returns-clause-equal
 returns-clause-equal c = c.reported.ensures.equal

@@ -10,7 +10,7 @@ pub loop-rest-init : goal.loop-rest-init
 loop-rest-init c = record {
   program = c.requires.program;
   counted = c.in_ok-counted.ensures ∙ ap (λ (nodes : List (Option NodeOf)). counts (nodes_content nodes)) c.deref.ensures.value;
-  stands = c.in_ok-method.ensures c.requires.program.small;
+  stands = c.in_ok-method.ensures.stands c.requires.program.small;
   course = begins_course (record { solves = c.args.solves; pivots = c.args.pivots }) (content c.args.program.now) c.args.script.now.items.items c.as_slice-rest.result.now
       c.new-tolds.result.items c.as_slice-rest.ensures.value c.new-tolds.ensures.items c.requires.allowed;
 }
