@@ -92,7 +92,8 @@ impl State {
             → (is_grown ≡ false → frame_of p ≡ self.old.frame) → length p.nodes < nothing
             → OnOk result (IsTabled p self.new) }
         // where the shifts of the dues are those of books for which all cuts were made, all cuts are made for these books
-        ensures made { (b : BankBooks) → Each (HasShiftOf b) dues.now → PoolsAreMade b self.old.banks → OnOk result (CutsAreMade b self.new) }
+        ensures made { (b : BankBooks) → Each (HasShiftOf b) dues.now → PoolsAreMade b self.old.banks
+            → OnOk result (CutsAreMade b self.new) }
     {
         self.grow(alloc, program, is_grown)?;
         self.sweep(alloc, dues)?;

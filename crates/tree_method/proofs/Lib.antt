@@ -1,3 +1,5 @@
 pub mod EditLemmas
 pub mod Standing
 pub mod StandLemmas
+pub mod Counting
+pub mod Histories

@@ -27,7 +27,7 @@ use Rattle.tree_method.specs.Edited.{is_grown, fit_versions, raised_versions}
 use Rattle.tree_method.specs.Laws.{standing, TouchesStand}
 
 -- ---- one place
-others-stay : (part : Part) (m n : ℕ) (vs : List Version) → (n ≡ m → ⊥) → version_of (with_next part m vs) n ≡ version_of vs n
+pub others-stay : (part : Part) (m n : ℕ) (vs : List Version) → (n ≡ m → ⊥) → version_of (with_next part m vs) n ≡ version_of vs n
 others-stay Rows m n vs h = get_or-set_other vs m n _ untouched h
 others-stay Costs m n vs h = get_or-set_other vs m n _ untouched h
 others-stay Gone m n vs h = refl
@@ -37,7 +37,7 @@ here Rows n vs h = sym (ap (λ (v : Version). v.rows) (get_or-set_same vs n _ un
 here Costs n vs h = sym (ap (λ (v : Version). v.costs) (get_or-set_same vs n _ untouched h))
 here Gone n vs h = refl
 
-length-stays : (part : Part) (n : ℕ) (vs : List Version) → length (with_next part n vs) ≡ length vs
+pub length-stays : (part : Part) (n : ℕ) (vs : List Version) → length (with_next part n vs) ≡ length vs
 length-stays Rows n vs = simp length-set
 length-stays Costs n vs = simp length-set
 length-stays Gone n vs = refl
@@ -49,11 +49,11 @@ same-standing Costs n vs ws e = ap (λ (v : Version). v.costs) e
 same-standing Gone n vs ws e = refl
 
 -- ---- places of different nodes
-abbrev IsApart : ℕ → List Touched → Type 0
+abbrev pub IsApart : ℕ → List Touched → Type 0
 IsApart count [] = Unit {0}
 IsApart count (t ∷ ts) = (t.node < count) × Each (λ (u : Touched). t.node ≡ u.node → ⊥) ts × IsApart count ts
 
-stay : (ts : List Touched) (n : ℕ) (vs : List Version) → Each (λ (u : Touched). n ≡ u.node → ⊥) ts
+pub stay : (ts : List Touched) (n : ℕ) (vs : List Version) → Each (λ (u : Touched). n ≡ u.node → ⊥) ts
     → version_of (next_versions ts vs) n ≡ version_of vs n
 stay [] n vs h = refl
 stay (t ∷ ts) n vs h = stay ts n (with_next t.part t.node vs) h.1 ∙ others-stay t.part t.node n vs h.0
@@ -68,7 +68,7 @@ stand (t ∷ ts) vs h = (
   stand ts (with_next t.part t.node vs) (subst (λ (k : ℕ). IsApart k ts) (sym (length-stays t.part t.node vs)) h.2),
 )
 
-more : (a b : ℕ) (ts : List Touched) → a ≤ b → IsApart a ts → IsApart b ts
+pub more : (a b : ℕ) (ts : List Touched) → a ≤ b → IsApart a ts → IsApart b ts
 more a b [] l h = tt
 more a b (t ∷ ts) l h = ((let k : t.node < a = h.0 in omega (arith, k, l)), h.1, more a b ts l h.2)
 
@@ -101,7 +101,7 @@ path-apart p f is s above (n ∷ path) (suc k) h = (
 )
 
 -- ---- what an edit touches
-apart : (p : Program) (e : Edit) → IsProgram p → Applies p e → IsApart (length p.nodes) (touches p e)
+pub apart : (p : Program) (e : Edit) → IsProgram p → Applies p e → IsApart (length p.nodes) (touches p e)
 apart p (Set name entry v) i a = (passes-within is_live (home_of p name entry) p.nodes (home-is p i name entry a).0, tt, tt)
 apart p (Prob name q) i a =
     let f : Follows p 0 None (path_of p name) = (named-fits p i name a.known).path in

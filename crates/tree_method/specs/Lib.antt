@@ -1,3 +1,4 @@
 pub mod Edited
 pub mod Stands
 pub mod Laws
+pub mod Scripted

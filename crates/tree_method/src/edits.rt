@@ -1,5 +1,5 @@
 //! How the method goes on behind an edit of its program.
-ghost use Rattle.std.specs.Prelude.{◌≡◌, [], IfOk, IfNone, OnOk, MatchOption};
+ghost use Rattle.std.specs.Prelude.{◌≡◌, [], ◌∷◌, List, IfOk, IfNone, OnOk, MatchOption};
 ghost use Rattle.scen_defs.specs.Program.{content};
 ghost use Rattle.scen_defs.specs.Valid.{IsProgram};
 ghost use Rattle.edit_defs.specs.After.{after};
@@ -14,7 +14,9 @@ ghost use Rattle.pass_core.specs.Explained.{IsUnstopped};
 ghost use Rattle.run_data.specs.Frames.{frame_of};
 ghost use Rattle.scen_defs.specs.Lists.{pick};
 ghost use Rattle.tree_method.specs.Edited.{is_grown, dues_of, fit_versions, KeepsTabled, IsEdited, HasNoTree};
+ghost use Rattle.edit_defs.specs.declared.edit.Edit.{Edit as EditOf};
 ghost use Rattle.tree_method.specs.Stands.{StandsOn, GoesOn, CarriesVersions};
+ghost use Rattle.tree_method.specs.Scripted.{IsInScript};
 
 use crate::method::{Method, Working, treeless};
 use cut_defs::Due;
@@ -136,6 +138,9 @@ impl Method {
             → OnOk result (StandsOn (content program.new) budget self.new) }
         ensures touches { (budget : BudgetOf) → StandsOn (content program.old) budget self.old
             → OnOk result (CarriesVersions (content program.old) edit.now self.old self.new) }
+        // where it is the next edit of a script, the method goes on in the history of that
+        ensures made { (budget : BudgetOf) (rest : List EditOf) → StandsOn (content program.old) budget self.old
+            → IsInScript (content program.old) (edit.now ∷ rest) self.old → OnOk result (IsInScript (content program.new) rest self.new) }
     {
         match self {
             Method::Working(working) => {

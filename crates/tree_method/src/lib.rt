@@ -7,5 +7,5 @@ mod laws;
 mod method;
 
 pub use found::Found;
-pub use laws::touches_stand;
+pub use laws::{histories_make_sound, touches_stand};
 pub use method::{Method, Working};

@@ -1,11 +1,13 @@
 //! The nested method at work on a program.
-ghost use Rattle.std.specs.Prelude.{◌≡◌, ◌<◌, false, IfOk, OnOk};
+ghost use Rattle.std.specs.Prelude.{◌≡◌, ◌<◌, false, List, IfOk, OnOk};
 ghost use Rattle.scen_defs.specs.Program.{content, Program as ProgramOf};
 ghost use Rattle.scen_defs.specs.Valid.{IsProgram, IsSmall};
 ghost use Rattle.run_data.specs.Frames.{frame_of};
 ghost use Rattle.pass_table.specs.Machine.{Machine};
 ghost use Rattle.pass_core.specs.declared.budget.Budget.{Budget as BudgetOf};
+ghost use Rattle.edit_defs.specs.declared.edit.Edit.{Edit};
 ghost use Rattle.tree_method.specs.Edited.{IsTreeless};
+ghost use Rattle.tree_method.specs.Scripted.{AreToCome, HasHistory, IsInScript};
 ghost use Rattle.pass_core.specs.Tabled.{IsTabledBy, GoesBySteps};
 ghost use Rattle.tree_method.specs.Stands.{HasFewNodes, WorksOn, StandsOn, Begins, WorksBySteps, TellsWhy};
 ghost use Rattle.tree_method.specs.Stands.{SolvesNodes, WorksBySolves, IsFoundBySolves, FindsBySolves};
@@ -59,6 +61,8 @@ impl Working {
             → IsTabledBy p self.old.state m → OnOk result (GoesBySteps p m self.new.state) }
         ensures solves { let p = content program.now in (budget : BudgetOf) → IsProgram p → HasFewNodes p
             → WorksOn p budget self.old → OnOk result (SolvesNodes p self.old.state self.new.state) }
+        ensures made { let p = content program.now in (budget : BudgetOf) (rest : List Edit)
+            → WorksOn p budget self.old → HasHistory p rest self.old.state → OnOk result (HasHistory p rest self.new.state) }
     {
         for _ in 0..u64::MAX {
             if self.state.is_ripe(work) || !self.state.advance(alloc, program, &self.tree)? {
@@ -78,6 +82,8 @@ impl Working {
             → IsTabledBy p self.old.state m → OnOk result (GoesBySteps p m self.new.state) }
         ensures solves { let p = content program.now in (budget : BudgetOf) → IsProgram p → HasFewNodes p
             → WorksOn p budget self.old → IfOk result (IsFoundBySolves p self.old.state self.new.state) }
+        ensures made { let p = content program.now in (budget : BudgetOf) (rest : List Edit)
+            → WorksOn p budget self.old → HasHistory p rest self.old.state → OnOk result (HasHistory p rest self.new.state) }
     {
         self.run(alloc, program, ENDLESS)?;
         let closed = self.state.found(alloc)?;
@@ -96,6 +102,8 @@ impl Working {
         ensures solves { let p = content program.now in (budget : BudgetOf) → IsProgram p → HasFewNodes p
             → self.old.state.counts.since_report < self.old.state.budget.solves
             → WorksOn p budget self.old → OnOk result (SolvesAnew p self.old.state self.new.state) }
+        ensures made { let p = content program.now in (budget : BudgetOf) (rest : List Edit)
+            → WorksOn p budget self.old → HasHistory p rest self.old.state → OnOk result (HasHistory p rest self.new.state) }
     {
         self.state.start_over(alloc, program)?;
         self.state.advance(alloc, program, &self.tree)?;
@@ -108,6 +116,8 @@ impl Method {
     pub fn begin(alloc: Global, program: &Program, budget: Budget) -> Result<Method, Memory>
         ensures stands { let p = content program.now in IsSmall p → IfOk result (StandsOn p budget) }
         ensures begins { let p = content program.now in IsProgram p → HasFewNodes p → IfOk result (Begins p budget) }
+        // with any edits that are to come
+        ensures made { let p = content program.now in (rest : List Edit) → AreToCome p rest → IfOk result (IsInScript p rest) }
     {
         if program.nodes.len() >= MANY {
             return Ok(Method::Idle(Open::Solves(budget.solves), budget));
@@ -130,6 +140,9 @@ impl Method {
         // where the method stands on the program, it solves programs of its nodes
         ensures solves { let p = content program.now in (budget : BudgetOf) → IsProgram p → HasFewNodes p
             → StandsOn p budget self.old → OnOk result (WorksBySolves p self.old self.new) }
+        // in a script the method goes on in its history
+        ensures made { let p = content program.now in (budget : BudgetOf) (rest : List Edit)
+            → StandsOn p budget self.old → IsInScript p rest self.old → OnOk result (IsInScript p rest self.new) }
     {
         match self {
             Method::Working(working) => working.run(alloc, program, work),
@@ -147,6 +160,9 @@ impl Method {
         // where the method stands on the program, what it finds comes of solves of programs of its nodes
         ensures solves { let p = content program.now in (budget : BudgetOf) → IsProgram p → HasFewNodes p
             → StandsOn p budget self.old → IfOk result (FindsBySolves p self.old self.new) }
+        // in a script the method goes on in its history
+        ensures made { let p = content program.now in (budget : BudgetOf) (rest : List Edit)
+            → StandsOn p budget self.old → IsInScript p rest self.old → OnOk result (IsInScript p rest self.new) }
     {
         match self {
             Method::Working(working) => working.find(alloc, program),
@@ -170,6 +186,9 @@ impl Method {
             → is_spent self.old ≡ false → StandsOn p budget self.old → OnOk result (StandsOn p budget self.new) }
         ensures solves { let p = content program.now in (budget : BudgetOf) → IsProgram p → HasFewNodes p
             → StandsOn p budget self.old → OnOk result (WorksAnew p self.old self.new) }
+        // in a script the history begins anew
+        ensures made { let p = content program.now in (budget : BudgetOf) (rest : List Edit)
+            → StandsOn p budget self.old → IsInScript p rest self.old → OnOk result (IsInScript p rest self.new) }
     {
         match self {
             Method::Working(working) => working.start_over(alloc, program),
@@ -181,6 +200,7 @@ impl Method {
     pub fn close(&mut self)
         ensures after { self.new ≡ after_telling self.old }
         ensures stays { (p : ProgramOf) (budget : BudgetOf) → StandsOn p budget self.old → StandsOn p budget self.new }
+        ensures made { (p : ProgramOf) (rest : List Edit) → IsInScript p rest self.old → IsInScript p rest self.new }
     {
         match self {
             Method::Working(working) => working.state.close(),

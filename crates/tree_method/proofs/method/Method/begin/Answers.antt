@@ -7,6 +7,9 @@ use Rattle.pass_core.specs.Counting.{no_commits}
 use Rattle.pass_core.specs.Tabled.{IsTabled}
 use Rattle.tree_method.proofs.EditLemmas.{no_tree}
 use Rattle.tree_method.proofs.StandLemmas.{treeless_leaves_open, begins_on, none_counted}
+use Rattle.run_data.specs.Counts.{untouched, version_of}
+use Rattle.pass_core.specs.Made.{CutsAreMade}
+use Rattle.tree_method.proofs.Histories.{history_begins}
 use Rattle.tree_method.proofs.method.Method.begin.Goals as goal
 
 pub returns-in-Err-clause-stands : goal.returns-in-Err-clause-stands
@@ -35,3 +38,9 @@ returns-in-Some-clause-stands c = λ small.
     begins_on p c.args.budget (record { state = c.in-Some.state; tree = c.in-Ok.tree }) beginning c.in-Ok.ensures
     (λ i few. subst (λ (o : Option State). IfSome o (IsTabled p)) c.in-Some.is (c.in_ok-state.ensures.tabled i))
     (λ i few. none_counted c.in-Some.state counts)
+
+pub returns-in-Some-clause-made : goal.returns-in-Some-clause-made
+returns-in-Some-clause-made c = λ rest h.
+    history_begins (content c.args.program.now) rest c.in-Some.state h
+    (λ n. subst (λ (o : Option State). IfSome o (λ s. version_of s.versions n ≡ untouched)) c.in-Some.is (c.in_ok-state.ensures.untouched n))
+    (λ b. subst (λ (o : Option State). IfSome o (CutsAreMade b)) c.in-Some.is (c.in_ok-state.ensures.made b))

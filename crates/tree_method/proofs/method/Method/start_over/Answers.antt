@@ -4,6 +4,7 @@ use Rattle.scen_defs.specs.Program.{Program, content}
 use Rattle.tree_method.specs.declared.method.Method.{Method}
 use Rattle.tree_method.specs.declared.method.Method.TheVariants.{Working as AtWork}
 use Rattle.tree_method.specs.Stands.{StandsOn, is_spent, WorksAnew}
+use Rattle.tree_method.specs.Scripted.{IsInScript}
 use Rattle.tree_method.proofs.StandLemmas.{on_ok_if}
 use Rattle.tree_method.proofs.method.Method.start_over.Goals as goal
 
@@ -17,3 +18,8 @@ returns-in-Working-clause-solves c = λ budget i few s.
     let p : Program = content c.args.program.now in
     subst (λ (m : Method). OnOk c.start_over.result (WorksAnew p m (AtWork c.start_over.new.self))) (sym c.in-Working.is)
     (on_ok_if c.start_over.result _ _ (λ left. c.start_over.ensures.solves budget i few left (subst (StandsOn p budget) c.in-Working.is s)))
+
+pub returns-in-Working-clause-made : goal.returns-in-Working-clause-made
+returns-in-Working-clause-made c = λ budget rest s h.
+    let p = content c.args.program.now in
+    c.start_over.ensures.made budget rest (subst (StandsOn p budget) c.in-Working.is s) (subst (IsInScript p rest) c.in-Working.is h)

@@ -3,6 +3,7 @@ use Rattle.scen_defs.specs.Program.{Program, content}
 use Rattle.tree_method.specs.declared.method.Method.{Method}
 use Rattle.tree_method.specs.declared.method.Method.TheVariants.{Working as AtWork}
 use Rattle.tree_method.specs.Stands.{StandsOn, WorksBySolves}
+use Rattle.tree_method.specs.Scripted.{IsInScript}
 use Rattle.tree_method.proofs.method.Method.work.Goals as goal
 
 pub returns-in-Working-clause-solves : goal.returns-in-Working-clause-solves
@@ -10,3 +11,8 @@ returns-in-Working-clause-solves c = λ budget i few s.
     let p : Program = content c.args.program.now in
     subst (λ (m : Method). OnOk c.run.result (WorksBySolves p m (AtWork c.run.new.self))) (sym c.in-Working.is)
     (c.run.ensures.solves budget i few (subst (StandsOn p budget) c.in-Working.is s))
+
+pub returns-in-Working-clause-made : goal.returns-in-Working-clause-made
+returns-in-Working-clause-made c = λ budget rest s h.
+    let p : Program = content c.args.program.now in
+    c.run.ensures.made budget rest (subst (StandsOn p budget) c.in-Working.is s) (subst (IsInScript p rest) c.in-Working.is h)
