@@ -9,3 +9,4 @@ pub mod CutNodes
 pub mod Solving
 pub mod Making
 pub mod MadeAfterEdits
+pub mod Assembling

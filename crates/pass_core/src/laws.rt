@@ -1,0 +1,7 @@
+//! What the multipliers of cuts show.
+ghost use Rattle.pass_core.specs.Assembled.{RootsAssembleWell};
+
+/// The assembly of a root's cut that is made of the data of a program without edits is good, and worth at least the cut's constant.
+pub fn roots_assemble_well()
+    ensures { RootsAssembleWell }
+{}
