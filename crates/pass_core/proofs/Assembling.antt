@@ -1,6 +1,6 @@
 -- A cut that is made for the book of one program is so whatever its versions are, and its assembly is good.
-use Rattle.std.proofs.Common.{◌≡◌, ℕ, zero, suc, true, ◌&&◌, eqb, List, [], ◌∷◌, Option, Some, None, refl, sym, ap, ap₂, subst, ◌∙◌}
-use Rattle.rationals.specs.Rational.{ℚ, one_ℚ, ◌+ℚ◌, ◌-ℚ◌, ◌*ℚ◌}
+use Rattle.std.proofs.Common.{◌≡◌, ℕ, zero, suc, true, ◌&&◌, eqb, List, [], ◌∷◌, Option, Some, None, IfSome, Ok, refl, sym, ap, ap₂, subst, ◌∙◌}
+use Rattle.rationals.specs.Rational.{ℚ, one_ℚ, ◌+ℚ◌, ◌-ℚ◌, ◌*ℚ◌, ◌≤ℚ◌}
 use Rattle.rationals.specs.Passes.{mul_walk, then_walk}
 use Rattle.rationals.specs.Sparse.{Entry, coefficient, value_if}
 use Rattle.rationals.specs.Sums.{sum_ℚ}
@@ -10,7 +10,7 @@ use Rattle.scen_defs.specs.declared.program.NodeRow.{NodeRow}
 use Rattle.scen_defs.specs.declared.report.Kind.{Kind}
 use Rattle.scen_defs.specs.declared.report.Kind.TheVariants as run_kind
 use Rattle.scen_defs.specs.Program.{Node, Program, is_live, node_at, view_of, IsLive}
-use Rattle.scen_defs.specs.Flat.{IsRoot}
+use Rattle.scen_defs.specs.Flat.{IsRoot, IsGood, value}
 use Rattle.scen_defs.specs.Valid.{Lives, IsProgram}
 use Rattle.scen_defs.proofs.SumLaws.{each-map, sum-ext}
 use Rattle.scen_defs.proofs.Valid.{once-passes, programs_are_trees}
@@ -18,7 +18,7 @@ use Rattle.cut_defs.specs.declared.kinds.CutKind.{CutKind}
 use Rattle.cut_defs.specs.declared.kinds.CutKind.TheVariants.{Bound, Ray}
 use Rattle.cut_defs.specs.declared.datum.ColumnBounds.{ColumnBounds}
 use Rattle.cut_defs.specs.declared.datum.Share.{Share}
-use Rattle.cut_defs.specs.Cuts.{is_bound}
+use Rattle.cut_defs.specs.Cuts.{is_bound, priced}
 use Rattle.cut_defs.specs.Data.{Datum, datum_of}
 use Rattle.cut_defs.specs.Stored.{Source, Stored, StoredUses, source_of, constant_of, form_of, form_sum, constant_sum, slope_of, cost_of, weight_on, StoredRays, WeightsFit, IsMadeFrom, IsMadeFor, AreMadeFor}
 use Rattle.cut_defs.specs.Stored.Stored.{Stored_of}
@@ -27,10 +27,14 @@ use Rattle.cut_defs.specs.Current.{IsCurrent, AreCurrent}
 use Rattle.cut_defs.proofs.Present.{current_is_present}
 use Rattle.edit_defs.specs.Data.{view_in, history, book}
 use Rattle.edit_defs.proofs.EditLaws.{scripts_make_books}
+use Rattle.dual_assemble.specs.Laws.{flat_of}
 use Rattle.dual_assemble.specs.Walks.{add_at, flat_from, flats_from}
 use Rattle.dual_assemble.proofs.FlatEnds.{assembly_is_good}
 use Rattle.pass_core.proofs.Parentage.{root_lives}
-use Rattle.pass_core.specs.Assembled.{RootsAssembleWell}
+use Rattle.run_ends.specs.declared.ends.Bounded.{Bounded}
+use Rattle.pass_core.specs.declared.state.State.{State}
+use Rattle.pass_core.specs.Made.{run_book, script_books, IsMadeAbout}
+use Rattle.pass_core.specs.Assembled.{AssemblesWell, RootsAssembleWell, made_form, MadeEndsAssembleWell}
 
 -- ---- the cut with version 0 everywhere
 abbrev unversioned : Source → Source
@@ -164,10 +168,38 @@ root_in run_kind.Cost p i = (programs_are_trees p i).1
 root_live : (p : Program) (n : ℕ) → n ≡ 0 → Lives p 0 → Lives p n
 root_live p n e l = subst (Lives p) (sym e) l
 
-pub roots_assemble_well : RootsAssembleWell
-roots_assemble_well kind p (Stored_of s uses constant form) fs i made root walk =
+good_and_worth : (kind : Kind) (p : Program) (cut : Stored) (fs : List (List Entry)) → IsProgram p → IsMadeFor (book kind p []) cut
+    → (source_of cut).node ≡ 0 → flat_from [] one_ℚ cut ≡ Ok fs
+    → IsGood (priced (view_in kind p) (source_of cut).kind) (flat_of fs)
+    × (constant_of cut ≤ℚ value (priced (view_in kind p) (source_of cut).kind) (flat_of fs))
+good_and_worth kind p (Stored_of s uses constant form) fs i made root walk =
     let cut : Stored = Stored_of s uses constant form in
     assembly_is_good (history kind p []) (book kind p []) (anew cut) fs (scripts_make_books kind p [] i tt) (for_anew kind p cut made)
     (same_flat [] one_ℚ cut ∙ walk) 0
     (current_is_present (history kind p []) 0 (anew cut) (anew_current kind p cut (root_live p s.node root (root_lives p i)) made))
     (subst (IsRoot (view_in kind p)) (sym root) (root_in kind p i))
+
+pub roots_assemble_well : RootsAssembleWell
+roots_assemble_well kind p cut i h = record {
+  good = λ fs walk. (good_and_worth kind p cut fs i h.made h.node walk).0;
+  worth = λ fs walk. (good_and_worth kind p cut fs i h.made h.node walk).1;
+}
+
+-- ---- the ends of a state
+in_form : (kind : Kind) (p : Program) (cut : Stored) → IsProgram p → IsMadeAbout (run_book kind (script_books p [])) 0 cut → AssemblesWell (made_form kind) p cut
+in_form run_kind.Feasible p cut i h = roots_assemble_well run_kind.Cost p cut i h
+in_form run_kind.Recession p cut i h = roots_assemble_well run_kind.Recession p cut i h
+in_form run_kind.Cost p cut i h = roots_assemble_well run_kind.Cost p cut i h
+
+if_there : {A : Type 0} (P Q : A → Type 0) → ((a : A) → P a → Q a) → (o : Option A) → IfSome o P → IfSome o Q
+if_there P Q f None h = tt
+if_there P Q f (Some a) h = f a h
+
+pub made_ends_assemble_well : MadeEndsAssembleWell
+made_ends_assemble_well p s i h = record {
+  root = if_there (IsMadeAbout (run_book s.kind (script_books p [])) 0) (AssemblesWell (made_form s.kind) p) (λ cut made. in_form s.kind p cut i made) s.ends.root h.1.root;
+  lower = if_there (λ (l : Bounded). IsMadeAbout (book run_kind.Cost p []) 0 l.cut) (λ (l : Bounded). AssemblesWell run_kind.Cost p l.cut)
+      (λ l made. roots_assemble_well run_kind.Cost p l.cut i made) s.ends.lower h.1.lower;
+  nowhere = if_there (λ (cut : Stored). (k : Kind) × IsMadeAbout (run_book k (script_books p [])) 0 cut) (λ (cut : Stored). (k : Kind) × AssemblesWell (made_form k) p cut)
+      (λ cut made. (made.0, in_form made.0 p cut i made.1)) s.ends.nowhere h.1.nowhere;
+}
