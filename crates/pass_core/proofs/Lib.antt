@@ -10,3 +10,4 @@ pub mod CutNodes
 pub mod Solving
 pub mod Making
 pub mod MadeAfterEdits
+pub mod Assembling

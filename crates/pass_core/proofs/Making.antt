@@ -70,7 +70,7 @@ use Rattle.pass_core.specs.declared.state.State.{State}
 use Rattle.pass_core.specs.Counting.{after_answer}
 use Rattle.pass_core.specs.Explained.{cut_given}
 use Rattle.pass_core.specs.Turns.{datum_in, IsTaskOf}
-use Rattle.pass_core.specs.Made.{BankBooks, run_book, AreBooksOf, PoolsAreMade, EndsAreMade, KeepsMade, IsGroundOf, HasGrounds, cuts_there}
+use Rattle.pass_core.specs.Made.{BankBooks, run_book, AreBooksOf, IsMadeAbout, PoolsAreMade, EndsAreMade, KeepsMade, IsGroundOf, HasGrounds, cuts_there}
 use Rattle.pass_core.proofs.Parentage.{below_live}
 
 -- ---- pools whose cuts have a property
@@ -233,7 +233,7 @@ told_priced t x v c e = go (is_priced t.kind) refl e
 
 module _ (p : Program) (s : State) (n : ℕ) (t : Task) (b : BankBooks) (i : IsProgram p) (l : Lives p n) (right : AreBooksOf p s.versions b) (task : IsTaskOf p s n t)
     (cuts : Each (λ (c : ChildCuts). Each (IsMadeFor (run_book s.kind b)) c.cuts.items) t.children.items) where
-  cut_is_made : (kind : CutKind) (m : Weighed) (cut : Stored) → (kind ≡ Bound → is_priced s.kind ≡ true) → IsCutOf t kind m cut → IsMadeFor (run_book s.kind b) cut
+  cut_is_made : (kind : CutKind) (m : Weighed) (cut : Stored) → (kind ≡ Bound → is_priced s.kind ≡ true) → IsCutOf t kind m cut → IsMadeAbout (run_book s.kind b) n cut
   cut_is_made kind m cut priced h =
       let book : Book = run_book s.kind b in
       let node : (source_of cut).node ≡ n = ap (λ (x : Source). x.node) h.source ∙ ap (λ (d : Datum). d.node) task.datum in
@@ -242,13 +242,16 @@ module _ (p : Program) (s : State) (n : ℕ) (t : Task) (b : BankBooks) (i : IsP
       let stand : StandBelow book (source_of cut).node t.datum.shares =
       subst (λ (k : ℕ). StandBelow book k t.datum.shares) (sym node)
       (subst (λ (d : Datum). StandBelow book n d.shares) (sym task.datum) (children_below s.kind p s.versions n b i right l)) in
-      cut_made_for book t.datum cut
-      (subst (λ (d : Datum). IsDatumFor book d (source_of cut)) (sym task.datum)
-      (datum_is_for s.kind p s.versions n b (source_of cut) right l node rows costs (λ e. priced (sym (ap (λ (x : Source). x.kind) h.source) ∙ e))))
-      h.made
-      (uses_made book (source_of cut).node t.datum (uses_of cut) stand h.children (subst (UsesHave (IsMadeFor book)) (sym h.uses) (uses_have (IsMadeFor book) t m cuts)))
+      record {
+        node = node;
+        made = cut_made_for book t.datum cut
+            (subst (λ (d : Datum). IsDatumFor book d (source_of cut)) (sym task.datum)
+            (datum_is_for s.kind p s.versions n b (source_of cut) right l node rows costs (λ e. priced (sym (ap (λ (x : Source). x.kind) h.source) ∙ e))))
+            h.made
+            (uses_made book (source_of cut).node t.datum (uses_of cut) stand h.children (subst (UsesHave (IsMadeFor book)) (sym h.uses) (uses_have (IsMadeFor book) t m cuts)));
+      }
 
-  pub answer_made : (all : Solved) → node_solved t ≡ all → IsAnswer t all → IfSome (cut_given all) (IsMadeFor (run_book s.kind b))
+  pub answer_made : (all : Solved) → node_solved t ≡ all → IsAnswer t all → IfSome (cut_given all) (IsMadeAbout (run_book s.kind b) n)
   answer_made (solved.Point x v (Some c)) e a =
       cut_is_made Bound a.m c
       (λ q. sym (ap is_priced task.kind) ∙ told_priced t x v c e)
@@ -302,20 +305,20 @@ module _ (b : BankBooks) where
   answered_made s (offer.Passed o) = (refl, λ h. h)
 
   -- a cut that is made for the book of one run is so for that of a run of the same kind
-  pub still_made : (old new : State) (cut : Option Stored) → KeepsMade b old new → IfSome cut (IsMadeFor (run_book old.kind b)) → IfSome cut (IsMadeFor (run_book new.kind b))
-  still_made old new cut k h = subst (λ (kind : Kind). IfSome cut (IsMadeFor (run_book kind b))) (sym k.0) h
+  pub still_made : (old new : State) (n : ℕ) (cut : Option Stored) → KeepsMade b old new → IfSome cut (IsMadeAbout (run_book old.kind b) n) → IfSome cut (IsMadeAbout (run_book new.kind b) n)
+  still_made old new n cut k h = subst (λ (kind : Kind). IfSome cut (IsMadeAbout (run_book kind b) n)) (sym k.0) h
 
   -- ---- ends
-  raised_made : (best : Option Bounded) (found : Bounded) → IfSome best (λ x. IsMadeFor b.plain x.cut) → IsMadeFor b.plain found.cut
-      → IfSome (greater_end best found) (λ x. IsMadeFor b.plain x.cut)
+  raised_made : (best : Option Bounded) (found : Bounded) → IfSome best (λ x. IsMadeAbout b.plain 0 x.cut) → IsMadeAbout b.plain 0 found.cut
+      → IfSome (greater_end best found) (λ x. IsMadeAbout b.plain 0 x.cut)
   raised_made best found h k = go (raises best found.value)
     where
-      go : (raise : Bool) → IfSome (pick raise (Some found) best) (λ x. IsMadeFor b.plain x.cut)
+      go : (raise : Bool) → IfSome (pick raise (Some found) best) (λ x. IsMadeAbout b.plain 0 x.cut)
       go true = k
       go false = h
 
   -- the root's last cut
-  pub root_made : (kind : Kind) (e : Ends) (value : ℚ) (cut : Stored) → IsMadeFor (run_book kind b) cut → EndsAreMade b kind e → EndsAreMade b kind (after_root kind e value cut)
+  pub root_made : (kind : Kind) (e : Ends) (value : ℚ) (cut : Stored) → IsMadeAbout (run_book kind b) 0 cut → EndsAreMade b kind e → EndsAreMade b kind (after_root kind e value cut)
   root_made run_kind.Feasible e value cut k h = record { root = k; lower = h.lower; nowhere = h.nowhere }
   root_made run_kind.Recession e value cut k h = record { root = k; lower = h.lower; nowhere = h.nowhere }
   root_made run_kind.Cost e value cut k h = record {

@@ -5,3 +5,4 @@ pub mod Explained
 pub mod Tabled
 pub mod Turns
 pub mod Made
+pub mod Assembled

@@ -12,7 +12,8 @@ use Rattle.cut_defs.specs.declared.kinds.Bank.TheVariants.{Plain, Cone}
 use Rattle.cut_defs.specs.declared.kinds.CutKind.TheVariants.{Bound}
 use Rattle.cut_defs.specs.declared.versions.Due.{Due}
 use Rattle.cut_defs.specs.Stored.{Stored, source_of, IsMadeFor}
-use Rattle.edit_defs.specs.Data.{view_in}
+use Rattle.edit_defs.specs.declared.edit.Edit.{Edit}
+use Rattle.edit_defs.specs.Data.{view_in, book}
 use Rattle.cut_pool.specs.Laws.{AllMadeFor}
 use Rattle.cut_pool.specs.Pool.{IsShiftOf}
 use Rattle.cut_banks.specs.declared.banks.Banks.{Banks}
@@ -33,6 +34,10 @@ run_book Feasible b = b.plain
 run_book Recession b = b.cone
 run_book Cost b = b.plain
 
+-- the books of a program and edits of it, in the forms of a Cost and of a Recession run
+abbrev pub script_books : Program → List Edit → BankBooks
+script_books p es = record { plain = book Cost p es; cone = book Recession p es }
+
 -- a book is right of each live node of a program, in the form of a run of this kind, with its version
 abbrev pub IsRightOf : Kind → Program → List Version → Book → Type 0
 IsRightOf kind p versions book =
@@ -44,17 +49,22 @@ pub record AreBooksOf (p : Program) (versions : List Version) (b : BankBooks) : 
   pub cone : IsRightOf Recession p versions b.cone
 
 -- ---- the cuts
+-- a cut about node n that is made for a book
+pub record IsMadeAbout (book : Book) (n : ℕ) (cut : Stored) : Type 0 where
+  pub node : (source_of cut).node ≡ n
+  pub made : IsMadeFor book cut
+
 -- all cuts of the pools are made for the book of their bank
 pub record PoolsAreMade (b : BankBooks) (banks : Banks) : Type 0 where
   pub plain : Each (AllMadeFor b.plain) banks.plain
   pub cone : Each (AllMadeFor b.cone) banks.cone
 
--- so are those that the ends rest on: of the root's last solve for the book of the run, of the lower end for that of Cost runs, and what
--- shows that there is no point for that of the run that found it
+-- so are those that the ends rest on, about the root: of its last solve for the book of the run, of the lower end for that of Cost runs,
+-- and what shows that there is no point for that of the run that found it
 pub record EndsAreMade (b : BankBooks) (kind : Kind) (e : Ends) : Type 0 where
-  pub root : IfSome e.root (IsMadeFor (run_book kind b))
-  pub lower : IfSome e.lower (λ l. IsMadeFor b.plain l.cut)
-  pub nowhere : IfSome e.nowhere (λ cut. (k : Kind) × IsMadeFor (run_book k b) cut)
+  pub root : IfSome e.root (IsMadeAbout (run_book kind b) 0)
+  pub lower : IfSome e.lower (λ l. IsMadeAbout b.plain 0 l.cut)
+  pub nowhere : IfSome e.nowhere (λ cut. (k : Kind) × IsMadeAbout (run_book k b) 0 cut)
 
 -- all cuts of a state are made for the books
 abbrev pub CutsAreMade : BankBooks → State → Type 0

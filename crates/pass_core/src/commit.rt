@@ -11,7 +11,7 @@ ghost use Rattle.pass_table.specs.Fits.{Fits};
 ghost use Rattle.run_ends.specs.Lasts.{kept, joined_points};
 ghost use Rattle.run_ends.specs.Ends.{with_lower, cheaper, after_root, after_policy};
 ghost use Rattle.pass_core.specs.Counting.{first_stop, is_added, after_answer};
-ghost use Rattle.pass_core.specs.Made.{BankBooks, run_book, KeepsMade};
+ghost use Rattle.pass_core.specs.Made.{BankBooks, run_book, IsMadeAbout, KeepsMade};
 ghost use Rattle.pass_core.specs.Explained.{IsTask, GivesCut, cut_given, point_found, FindsPoint, KeepsExplained};
 ghost use Rattle.pass_core.specs.Tabled.{pool_number, IsSolving, EndsSolve, Drops, RaisesPool, KeepsPools, committed_with, IsAbout};
 ghost use Rattle.pass_core.specs.Turns.{AreUpTo, KeepsPoints, EndsBy};
@@ -57,7 +57,7 @@ impl State {
             → OnOk result (EndsSolve (EndsBy begun.now.task.trial solved) self.old self.new m f) }
         ensures points { (p : ProgramOf) → AreUpTo p (node_at p.nodes node).stage begun.now.task.trial
             → IfSome (point_found solved) (AreUpTo p (node_at p.nodes node).stage) → OnOk result (KeepsPoints p self.old self.new) }
-        ensures made { (b : BankBooks) → IfSome (cut_given solved) (IsMadeFor (run_book self.old.kind b))
+        ensures made { (b : BankBooks) → IfSome (cut_given solved) (IsMadeAbout (run_book self.old.kind b) node)
             → OnOk result (KeepsMade b self.old self.new) }
     {
         match solved {
@@ -120,7 +120,8 @@ impl State {
             → OnOk result (EndsSolve (EndsBy begun.now.task.trial (Solved.Point point value cut)) self.old self.new m f) }
         ensures points { (p : ProgramOf) → AreUpTo p (node_at p.nodes node).stage begun.now.task.trial
             → AreUpTo p (node_at p.nodes node).stage point → OnOk result (KeepsPoints p self.old self.new) }
-        ensures made { (b : BankBooks) → IfSome cut (IsMadeFor (run_book self.old.kind b)) → OnOk result (KeepsMade b self.old self.new) }
+        ensures made { (b : BankBooks) → IfSome cut (IsMadeAbout (run_book self.old.kind b) node)
+            → OnOk result (KeepsMade b self.old self.new) }
     {
         if !self.keep(node, &begun.task.trial, point)? {
             return Ok(());
@@ -142,7 +143,8 @@ impl State {
             → IfSome cut (GivesCut p self.old.frame tree self.old.budget.pivots trial.now)
             → OnOk result (KeepsExplained p tree self.old self.new) }
         ensures raises { IfSome cut (λ c. (source_of c).node ≡ node) → IfOk result (λ told. RaisesPool told node self.old self.new) }
-        ensures made { (b : BankBooks) → IfSome cut (IsMadeFor (run_book self.old.kind b)) → OnOk result (KeepsMade b self.old self.new) }
+        ensures made { (b : BankBooks) → IfSome cut (IsMadeAbout (run_book self.old.kind b) node)
+            → OnOk result (KeepsMade b self.old self.new) }
         ensures lasts { OnOk result (self.new.lasts ≡ self.old.lasts) }
         ensures low { IfOk result (λ told. told ≡ true → 0 < node) }
     {
@@ -165,7 +167,7 @@ impl State {
             → ((k : ℕ) → m.number k ≡ pool_number self.old k) → f.node ≡ node → (source_of cut).node ≡ node
             → OnOk result (EndsSolve (EndsBy begun.now.task.trial (Solved.NoPoint cut)) self.old self.new m f) }
         ensures points { (p : ProgramOf) → OnOk result (KeepsPoints p self.old self.new) }
-        ensures made { (b : BankBooks) → IsMadeFor (run_book self.old.kind b) cut → OnOk result (KeepsMade b self.old self.new) }
+        ensures made { (b : BankBooks) → IsMadeAbout (run_book self.old.kind b) node cut → OnOk result (KeepsMade b self.old self.new) }
     {
         self.lasts.forget(node);
         let is_raised = self.take_ray(node, &begun.task.trial, cut)?;
@@ -179,7 +181,7 @@ impl State {
             → GivesCut p self.old.frame tree self.old.budget.pivots trial.now cut
             → OnOk result (KeepsExplained p tree self.old self.new) }
         ensures raises { (source_of cut).node ≡ node → IfOk result (λ told. RaisesPool told node self.old self.new) }
-        ensures made { (b : BankBooks) → IsMadeFor (run_book self.old.kind b) cut → OnOk result (KeepsMade b self.old self.new) }
+        ensures made { (b : BankBooks) → IsMadeAbout (run_book self.old.kind b) node cut → OnOk result (KeepsMade b self.old self.new) }
         ensures lasts { OnOk result (self.new.lasts ≡ self.old.lasts) }
         ensures low { IfOk result (λ told. told ≡ true → 0 < node) }
     {

@@ -6,8 +6,10 @@ mod close;
 mod commit;
 mod edit;
 mod ground;
+mod laws;
 mod state;
 
 pub use budget::Budget;
+pub use laws::{made_ends_assemble_well, roots_assemble_well};
 pub use run_ends::{Closed, Settled};
 pub use state::State;

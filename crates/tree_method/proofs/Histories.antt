@@ -38,13 +38,13 @@ use Rattle.run_data.specs.declared.versions.Version.{Version}
 use Rattle.run_data.specs.Counts.{raised, version_of}
 use Rattle.pass_core.specs.declared.budget.Budget.{Budget}
 use Rattle.pass_core.specs.declared.state.State.{State}
-use Rattle.pass_core.specs.Made.{BankBooks, bank_book, AreBooksOf, CutsAreMade, HasShiftOf}
+use Rattle.pass_core.specs.Made.{BankBooks, bank_book, AreBooksOf, CutsAreMade, HasShiftOf, script_books}
 use Rattle.pass_core.specs.Beginning.{StartsOver}
 use Rattle.pass_core.proofs.MadeAfterEdits.{all_made_at_start, all_made_behind, never_touched}
 use Rattle.tree_method.specs.declared.method.Working.{Working}
 use Rattle.tree_method.specs.Edited.{is_grown, touches_of, dues_of, IsEdited}
 use Rattle.tree_method.specs.Stands.{WorksOn}
-use Rattle.tree_method.specs.Scripted.{AreToCome, script_books, CountTouches, HasHistory, HistoriesMakeSound}
+use Rattle.tree_method.specs.Scripted.{AreToCome, CountTouches, HasHistory, HistoriesMakeSound}
 use Rattle.tree_method.proofs.Counting.{after_next, edit_at, is_within, version_most, counts_behind}
 
 -- ---- what is to come

@@ -9,12 +9,12 @@ use Rattle.edit_defs.specs.declared.edit.Edit.{Edit}
 use Rattle.edit_defs.specs.After.{after_edits}
 use Rattle.edit_defs.specs.Applies.{AllApply}
 use Rattle.edit_defs.specs.Touches.{touches_rows, touches_costs}
-use Rattle.edit_defs.specs.Data.{version, history, book}
+use Rattle.edit_defs.specs.Data.{version, history}
 use Rattle.edit_defs.specs.Shifts.{HasWidths}
 use Rattle.run_data.specs.declared.versions.Version.{Version}
 use Rattle.run_data.specs.Counts.{version_of}
 use Rattle.pass_core.specs.declared.state.State.{State}
-use Rattle.pass_core.specs.Made.{BankBooks, CutsAreMade}
+use Rattle.pass_core.specs.Made.{script_books, CutsAreMade}
 use Rattle.tree_method.specs.declared.method.Method.{Method}
 use Rattle.tree_method.specs.declared.method.Method.TheVariants.{Working as AtWork, Idle}
 
@@ -25,10 +25,6 @@ pub record AreToCome (p : Program) (es : List Edit) : Type 0 where
   pub apply : AllApply p es
   pub widths : HasWidths p
   pub few : length es < 2 ^ 32
-
--- the books of a program and such edits, in the forms of a Cost and of a Recession run
-abbrev pub script_books : Program → List Edit → BankBooks
-script_books p es = record { plain = book Cost p es; cone = book Recession p es }
 
 -- the versions of nodes are how many of the first k edits touched their parts
 abbrev pub CountTouches : ℕ → Program → List Edit → List Version → Type 0

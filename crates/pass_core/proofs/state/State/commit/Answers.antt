@@ -11,8 +11,7 @@ use Rattle.pass_core.specs.Turns.{AreUpTo, KeepsPoints, EndsBy}
 use Rattle.pass_core.proofs.Standing.{same_points, then_points}
 use Rattle.pass_core.proofs.Tabling.{ends_then, told_ends, neither_ends, left_ends}
 use Rattle.pass_core.proofs.Explaining.{then_kept, left_kept, point_gives, point_finds, at_place, on_ok}
-use Rattle.cut_defs.specs.Stored.{IsMadeFor}
-use Rattle.pass_core.specs.Made.{run_book, KeepsMade}
+use Rattle.pass_core.specs.Made.{run_book, IsMadeAbout, KeepsMade}
 use Rattle.pass_core.proofs.Making.{then_made}
 use Rattle.pass_core.proofs.state.State.commit.Goals as goal
 
@@ -120,5 +119,5 @@ returns-in_ok-point-in-Point-clause-made c = λ b h.
     let old = c.args.self.now in
     on_ok c.complete.result (KeepsMade b c.point.new.self c.complete.new.self) (KeepsMade b old c.complete.new.self)
     (then_made b old c.point.new.self c.complete.new.self
-    (c.in_ok-point-in-Point.ensures.made b (subst (λ (all : Solved). IfSome (cut_given all) (IsMadeFor (run_book old.kind b))) c.in-Point.is h)))
+    (c.in_ok-point-in-Point.ensures.made b (subst (λ (all : Solved). IfSome (cut_given all) (IsMadeAbout (run_book old.kind b) c.args.node)) c.in-Point.is h)))
     (c.complete.ensures.made b)

@@ -61,5 +61,5 @@ returns-clause-made c = λ b h.
     let f = c.commit_last.ensures.others in
     then_made b c.args.self.now c.keep.new.self c.commit_last.new.self k
     (then_made b c.keep.new.self c.take_bound.new.self c.commit_last.new.self
-    (c.in_ok-is_raised.ensures.made b (still_made b c.args.self.now c.keep.new.self c.args.cut k h))
+    (c.in_ok-is_raised.ensures.made b (still_made b c.args.self.now c.keep.new.self c.args.node c.args.cut k h))
     (same_made b c.take_bound.new.self c.commit_last.new.self (ap (λ (s : State). s.banks) f) (ap (λ (s : State). s.kind) f) (ap (λ (s : State). s.ends) f)))
