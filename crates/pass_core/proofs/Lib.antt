@@ -2,6 +2,7 @@ pub mod Explaining
 pub mod Standing
 pub mod TaskFits
 pub mod Beginning
+pub mod Reasoning
 pub mod Closing
 pub mod Pooling
 pub mod Parentage

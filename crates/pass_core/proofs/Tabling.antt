@@ -50,7 +50,6 @@ use Rattle.pass_core.proofs.Parentage.{children_are}
 pub run_then : (a b c : State) → KeepsRun a b → KeepsRun b c → KeepsRun a c
 run_then a b c x y = record {
   frame = y.frame ∙ x.frame;
-  counts = y.counts ∙ x.counts;
   kind = y.kind ∙ x.kind;
   is_begun = y.is_begun ∙ x.is_begun;
   plain = y.plain ∙ x.plain;
@@ -82,61 +81,61 @@ not_raised n a b x = record { kept = x.kept; risen = λ e. absurd (let no : fals
 
 -- ---- nothing of these changes
 pub same_run : (s : State) → KeepsRun s s
-same_run s = record { frame = refl; counts = refl; kind = refl; is_begun = refl; plain = refl; cone = refl }
+same_run s = record { frame = refl; kind = refl; is_begun = refl; plain = refl; cone = refl }
 
 pub same_pools : (s : State) → KeepsPools s s
 same_pools s = record { kept = record { run = same_run s; table = refl }; number = λ k. refl }
 
-pub pools_by : (old new : State) → new.frame ≡ old.frame → new.counts ≡ old.counts → new.kind ≡ old.kind → new.is_begun ≡ old.is_begun → new.table ≡ old.table → new.banks ≡ old.banks → KeepsPools old new
-pools_by old new f c k b t s = record {
+pub pools_by : (old new : State) → new.frame ≡ old.frame → new.kind ≡ old.kind → new.is_begun ≡ old.is_begun → new.table ≡ old.table → new.banks ≡ old.banks → KeepsPools old new
+pools_by old new f k b t s = record {
   kept = record {
-    run = record { frame = f; counts = c; kind = k; is_begun = b; plain = ap (λ (x : Banks). length x.plain) s; cone = ap (λ (x : Banks). length x.cone) s };
+    run = record { frame = f; kind = k; is_begun = b; plain = ap (λ (x : Banks). length x.plain) s; cone = ap (λ (x : Banks). length x.cone) s };
     table = t;
   };
   number = λ n. ap (λ (x : Banks). get_or (numbers_of (pools_of new.kind x)) n 0) s ∙ ap (λ (x : Kind). get_or (numbers_of (pools_of x old.banks)) n 0) k;
 }
 
 -- the table alone changes, with others that don't matter here
-pub run_by : (old new : State) → new.frame ≡ old.frame → new.counts ≡ old.counts → new.kind ≡ old.kind → new.is_begun ≡ old.is_begun → new.banks ≡ old.banks
+pub run_by : (old new : State) → new.frame ≡ old.frame → new.kind ≡ old.kind → new.is_begun ≡ old.is_begun → new.banks ≡ old.banks
     → KeepsRun old new × ((n : ℕ) → pool_number new n ≡ pool_number old n)
-run_by old new f c k b s =
-    let h = pools_by old (record new { table = old.table }) f c k b refl s in (
-      record { frame = f; counts = c; kind = k; is_begun = b; plain = h.kept.run.plain; cone = h.kept.run.cone },
+run_by old new f k b s =
+    let h = pools_by old (record new { table = old.table }) f k b refl s in (
+      record { frame = f; kind = k; is_begun = b; plain = h.kept.run.plain; cone = h.kept.run.cone },
       h.number,
     )
 
 -- a reason to stop
 pub stop_keeps : (s new : State) (why : Option Open) → new ≡ record s { stop = why } → KeepsPools s new
-stop_keeps s new why e = subst (KeepsPools s) (sym e) (pools_by s (record s { stop = why }) refl refl refl refl refl refl)
+stop_keeps s new why e = subst (KeepsPools s) (sym e) (pools_by s (record s { stop = why }) refl refl refl refl refl)
 
 pub run_stop_keeps : (s new : State) (why lasting : Option Open) → new ≡ record s { stop = why; lasting = lasting } → KeepsPools s new
-run_stop_keeps s new why lasting e = subst (KeepsPools s) (sym e) (pools_by s (record s { stop = why; lasting = lasting }) refl refl refl refl refl refl)
+run_stop_keeps s new why lasting e = subst (KeepsPools s) (sym e) (pools_by s (record s { stop = why; lasting = lasting }) refl refl refl refl refl)
 
 -- other ends
 pub ends_keeps : (s new : State) (ends : Ends) → new ≡ record s { ends = ends } → KeepsPools s new
-ends_keeps s new ends e = subst (KeepsPools s) (sym e) (pools_by s (record s { ends = ends }) refl refl refl refl refl refl)
+ends_keeps s new ends e = subst (KeepsPools s) (sym e) (pools_by s (record s { ends = ends }) refl refl refl refl refl)
 
 -- other last solves
 pub lasts_keeps : (s new : State) (lasts : Lasts) → new ≡ record s { lasts = lasts } → KeepsPools s new
-lasts_keeps s new lasts e = subst (KeepsPools s) (sym e) (pools_by s (record s { lasts = lasts }) refl refl refl refl refl refl)
+lasts_keeps s new lasts e = subst (KeepsPools s) (sym e) (pools_by s (record s { lasts = lasts }) refl refl refl refl refl)
 
 -- another table
 pub table_keeps : (s new : State) (table : Table) → new ≡ record s { table = table } → KeepsRun s new × ((n : ℕ) → pool_number new n ≡ pool_number s n)
 table_keeps s new table e =
-    subst (λ (x : State). KeepsRun s x × ((n : ℕ) → pool_number x n ≡ pool_number s n)) (sym e) (run_by s (record s { table = table }) refl refl refl refl refl)
+    subst (λ (x : State). KeepsRun s x × ((n : ℕ) → pool_number x n ≡ pool_number s n)) (sym e) (run_by s (record s { table = table }) refl refl refl refl)
 
 pub stopped_keeps : (s new : State) (why : Option Open) (table : Table) → new ≡ record s { stop = why; table = table }
     → KeepsRun s new × ((n : ℕ) → pool_number new n ≡ pool_number s n)
 stopped_keeps s new why table e =
     subst (λ (x : State). KeepsRun s x × ((n : ℕ) → pool_number x n ≡ pool_number s n)) (sym e)
-    (run_by s (record s { stop = why; table = table }) refl refl refl refl refl)
+    (run_by s (record s { stop = why; table = table }) refl refl refl refl)
 
 -- ---- a cut comes to a pool
 pub answer_keeps : (o : Offer) (s : State) → KeepsPools s (after_answer o s)
 answer_keeps offer.Added s = same_pools s
 answer_keeps (offer.NotNeeded value) s = same_pools s
-answer_keeps (offer.Stale node part seen known) s = pools_by s (after_answer (offer.Stale node part seen known) s) refl refl refl refl refl refl
-answer_keeps (offer.Passed o) s = pools_by s (after_answer (offer.Passed o) s) refl refl refl refl refl refl
+answer_keeps (offer.Stale node part seen known) s = pools_by s (after_answer (offer.Stale node part seen known) s) refl refl refl refl refl
+answer_keeps (offer.Passed o) s = pools_by s (after_answer (offer.Passed o) s) refl refl refl refl refl
 
 pools_there : (kind : Kind) (ps : List Held) (b : Banks) → pools_of kind (with_pools kind ps b) ≡ ps
 pools_there run_kind.Feasible ps b = refl
@@ -146,9 +145,9 @@ pools_there run_kind.Cost ps b = refl
 -- one bank changes, and not how many pools it has
 pub banks_long : (kind : Kind) (ps : List Held) (old : State) → length ps ≡ length (pools_of kind old.banks)
     → KeepsTable old (record old { banks = with_pools kind ps old.banks })
-banks_long run_kind.Feasible ps old e = record { run = record { frame = refl; counts = refl; kind = refl; is_begun = refl; plain = e; cone = refl }; table = refl }
-banks_long run_kind.Recession ps old e = record { run = record { frame = refl; counts = refl; kind = refl; is_begun = refl; plain = refl; cone = e }; table = refl }
-banks_long run_kind.Cost ps old e = record { run = record { frame = refl; counts = refl; kind = refl; is_begun = refl; plain = e; cone = refl }; table = refl }
+banks_long run_kind.Feasible ps old e = record { run = record { frame = refl; kind = refl; is_begun = refl; plain = e; cone = refl }; table = refl }
+banks_long run_kind.Recession ps old e = record { run = record { frame = refl; kind = refl; is_begun = refl; plain = refl; cone = e }; table = refl }
+banks_long run_kind.Cost ps old e = record { run = record { frame = refl; kind = refl; is_begun = refl; plain = e; cone = refl }; table = refl }
 
 module _ (old : State) (cut : Stored) (trial : List Entry) (n : ℕ) where
   abbrev pools : List Held

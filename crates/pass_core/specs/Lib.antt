@@ -3,6 +3,7 @@ pub mod Counting
 pub mod Versions
 pub mod Explained
 pub mod Tabled
+pub mod Reasons
 pub mod Turns
 pub mod Made
 pub mod Assembled

@@ -81,10 +81,9 @@ pub record GoesBySteps (p : Program) (m : Machine) (s : State) : Type 0 where
   pub tabled : IsTabledBy p s machine
 
 -- ---- between a Begin and the end of the solve
--- the frame, the run, the counts and how many pools there are stay
+-- the frame, the run and how many pools there are stay
 pub record KeepsRun (old new : State) : Type 0 where
   pub frame : new.frame ≡ old.frame
-  pub counts : new.counts ≡ old.counts
   pub kind : new.kind ≡ old.kind
   pub is_begun : new.is_begun ≡ old.is_begun
   pub plain : length new.banks.plain ≡ length old.banks.plain

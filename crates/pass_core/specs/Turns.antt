@@ -27,6 +27,7 @@ use Rattle.run_ends.specs.declared.last.Lasts.{Lasts}
 use Rattle.run_ends.specs.Lasts.{last_at, trial_of}
 use Rattle.pass_core.specs.declared.state.State.{State}
 use Rattle.pass_core.specs.Counting.{with_commit}
+use Rattle.pass_core.specs.Reasons.{IsOfSolve, IsOfOpening, GainsReasons}
 use Rattle.pass_core.specs.Tabled.{HasRoom, committed_with, EndsBegun, Opens}
 
 -- ---- points
@@ -88,14 +89,14 @@ abbrev pub EndsAnyhow : Machine → Flight → Bool → Machine → Type 0
 EndsAnyhow m f added k = ⊤
 
 -- the worker's turn was the solve of the program of node n, and ended by what is told of it; the points go on standing, and one more solve
--- is counted
+-- is counted, of which each reason is told that the state gains
 pub record SolvesNode (p : Program) (old : State) (m : Machine) (n : ℕ) (new : State) : Type 0 where
   pub task : Task
   pub is_task : IsTaskOf p old n task
   pub fits : IsProblem (problem_of task)
   pub ends : EndsBegun (EndsBy task.trial (node_solved task)) p m n new
   pub points : PointsStand p new.lasts.nodes.items
-  pub counts : new.counts ≡ with_commit old.counts
+  pub reasons : GainsReasons (IsOfSolve (with_commit old.counts).all (node_solved task)) (record old { counts = with_commit old.counts }) new
 
 -- ---- steps
 -- the last solves of a run, for which there are places once something was done
@@ -106,7 +107,8 @@ pub record AreReady (old : State) (lasts : Lasts) : Type 0 where
 -- a step of a state whose table fits this machine, and whether it is told that something was done: no node may be begun, or there is no
 -- room for it; the run is closed, and the next one opens or doesn't; or the program of a node is solved, which alone is counted
 pub data MakesStep (p : Program) (old : State) (m : Machine) (new : State) : Bool → Type 0 where
-  begins_none : (HasRoom m → (n : ℕ) → MayBegin m n → ⊥) → PointsStand p new.lasts.nodes.items → new.counts ≡ old.counts
-      → MakesStep p old m new false
-  opens_run : IsClosed m → Opens p m new → PointsStand p new.lasts.nodes.items → new.counts ≡ old.counts → MakesStep p old m new true
+  begins_none : (HasRoom m → (n : ℕ) → MayBegin m n → ⊥) → PointsStand p new.lasts.nodes.items
+      → GainsReasons IsOfOpening old new → MakesStep p old m new false
+  opens_run : IsClosed m → Opens p m new → PointsStand p new.lasts.nodes.items → GainsReasons IsOfOpening old new
+      → MakesStep p old m new true
   solves : (lasts : Lasts) (n : ℕ) → AreReady old lasts → SolvesNode p (record old { lasts = lasts }) m n new → MakesStep p old m new true

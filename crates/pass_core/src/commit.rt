@@ -5,7 +5,9 @@ ghost use Rattle.scen_defs.specs.Lists.{pick};
 ghost use Rattle.scen_defs.specs.Program.{content, node_at, Program as ProgramOf};
 ghost use Rattle.scen_tree.specs.Trees.{Tree as TreeOf};
 ghost use Rattle.cut_defs.specs.Stored.{source_of, IsMadeFor};
+ghost use Rattle.node_lp.specs.declared.solved.Solved.{Solved as SolvedOf};
 ghost use Rattle.node_lp.specs.Told.{node_solved};
+ghost use Rattle.pass_core.specs.Reasons.{IsOfSolve, GainsReasons};
 ghost use Rattle.pass_table.specs.Machine.{Machine, Flight};
 ghost use Rattle.pass_table.specs.Fits.{Fits};
 ghost use Rattle.run_ends.specs.Lasts.{kept, joined_points};
@@ -59,6 +61,7 @@ impl State {
             → IfSome (point_found solved) (AreUpTo p (node_at p.nodes node).stage) → OnOk result (KeepsPoints p self.old self.new) }
         ensures made { (b : BankBooks) → IfSome (cut_given solved) (IsMadeAbout (run_book self.old.kind b) node)
             → OnOk result (KeepsMade b self.old self.new) }
+        ensures reasons { OnOk result (GainsReasons (IsOfSolve self.old.counts.all solved) self.old self.new) }
     {
         match solved {
             Solved::Point { point, value, cut } => {
@@ -122,6 +125,7 @@ impl State {
             → AreUpTo p (node_at p.nodes node).stage point → OnOk result (KeepsPoints p self.old self.new) }
         ensures made { (b : BankBooks) → IfSome cut (IsMadeAbout (run_book self.old.kind b) node)
             → OnOk result (KeepsMade b self.old self.new) }
+        ensures reasons { (all : SolvedOf) → OnOk result (GainsReasons (IsOfSolve self.old.counts.all all) self.old self.new) }
     {
         if !self.keep(node, &begun.task.trial, point)? {
             return Ok(());
@@ -147,6 +151,7 @@ impl State {
             → OnOk result (KeepsMade b self.old self.new) }
         ensures lasts { OnOk result (self.new.lasts ≡ self.old.lasts) }
         ensures low { IfOk result (λ told. told ≡ true → 0 < node) }
+        ensures reasons { (all : SolvedOf) → OnOk result (GainsReasons (IsOfSolve self.old.counts.all all) self.old self.new) }
     {
         match cut {
             Some(cut) if node > 0 => self.offer(cut, trial),
@@ -168,6 +173,7 @@ impl State {
             → OnOk result (EndsSolve (EndsBy begun.now.task.trial (Solved.NoPoint cut)) self.old self.new m f) }
         ensures points { (p : ProgramOf) → OnOk result (KeepsPoints p self.old self.new) }
         ensures made { (b : BankBooks) → IsMadeAbout (run_book self.old.kind b) node cut → OnOk result (KeepsMade b self.old self.new) }
+        ensures reasons { (all : SolvedOf) → OnOk result (GainsReasons (IsOfSolve self.old.counts.all all) self.old self.new) }
     {
         self.lasts.forget(node);
         let is_raised = self.take_ray(node, &begun.task.trial, cut)?;
@@ -184,6 +190,7 @@ impl State {
         ensures made { (b : BankBooks) → IsMadeAbout (run_book self.old.kind b) node cut → OnOk result (KeepsMade b self.old self.new) }
         ensures lasts { OnOk result (self.new.lasts ≡ self.old.lasts) }
         ensures low { IfOk result (λ told. told ≡ true → 0 < node) }
+        ensures reasons { (all : SolvedOf) → OnOk result (GainsReasons (IsOfSolve self.old.counts.all all) self.old self.new) }
     {
         if node > 0 {
             return self.offer(cut, trial);
@@ -205,6 +212,7 @@ impl State {
             → OnOk result (KeepsExplained p tree self.old self.new) }
         ensures err { OnErr result (self.new ≡ self.old) }
         ensures drops { result ≡ Ok false → Drops self.old.table self.new.table }
+        ensures reasons { (all : SolvedOf) → OnOk result (GainsReasons (IsOfSolve self.old.counts.all all) self.old self.new) }
     {
         match self.lasts.keep(node, trial, point) {
             Ok(()) => Ok(true),
@@ -251,6 +259,7 @@ impl State {
         ensures raises { IfOk result (λ told. RaisesPool told (source_of cut).node self.old self.new) }
         ensures made { (b : BankBooks) → IsMadeFor (run_book self.old.kind b) cut → OnOk result (KeepsMade b self.old self.new) }
         ensures lasts { OnOk result (self.new.lasts ≡ self.old.lasts) }
+        ensures reasons { (all : SolvedOf) → OnOk result (GainsReasons (IsOfSolve self.old.counts.all all) self.old self.new) }
     {
         match self.banks.offer(self.kind, cut, trial)? {
             Some(offer) => Ok(self.judged(offer)),
@@ -299,6 +308,7 @@ impl State {
         ensures pools { OnOk result (KeepsPools self.old self.new) }
         ensures made { (b : BankBooks) → OnOk result (KeepsMade b self.old self.new) }
         ensures lasts { OnOk result (self.new.lasts ≡ self.old.lasts) }
+        ensures reasons { (all : SolvedOf) → OnOk result (GainsReasons (IsOfSolve self.old.counts.all all) self.old self.new) }
     {
         if !self.table.is_complete() {
             return Ok(());

@@ -12,6 +12,7 @@ ghost use Rattle.pass_table.specs.Machine.{Machine};
 ghost use Rattle.pass_core.specs.Explained.{AreExplained, FailsToOpen, IsCutOfSolve, KeepsExplained};
 ghost use Rattle.pass_core.specs.Made.{BankBooks, run_book, AreBooksOf, CutsAreMade, KeepsMade, IsGroundOf, HasGrounds, cuts_there};
 ghost use Rattle.pass_core.specs.Tabled.{IsTabledBy, KeepsTable, KeepsPools, Opens};
+ghost use Rattle.pass_core.specs.Reasons.{IsOfOpening, GainsReasons};
 ghost use Rattle.pass_core.specs.Turns.{KeepsPoints};
 
 use crate::state::State;
@@ -94,10 +95,10 @@ impl State {
         ensures tabled { (p : ProgramOf) (m : Machine) → IsTabledBy p self.old m → self.old.is_begun ≡ true → m.run + 1 < 2 ^ 64
             → OnOk result (Opens p m self.new) }
         ensures points { (p : ProgramOf) → OnOk result (KeepsPoints p self.old self.new) }
-        ensures counts { OnOk result (self.new.counts ≡ self.old.counts) }
         ensures made { let p = content program.now in (b : BankBooks) → IsProgram p → tree_walk p ≡ Ok tree.now
             → self.old.frame ≡ frame_of p → AreBooksOf p self.old.versions b → CutsAreMade b self.old
             → OnOk result (CutsAreMade b self.new) }
+        ensures reasons { OnOk result (GainsReasons IsOfOpening self.old self.new) }
     {
         let kind = next(self.kind);
         match self.first_cuts(alloc, program, tree, kind) {
@@ -113,6 +114,7 @@ impl State {
         ensures pools { OnOk result (KeepsPools self.old self.new) }
         ensures made { (b : BankBooks) → OnOk result (KeepsMade b self.old self.new) }
         ensures points { (p : ProgramOf) → OnOk result (KeepsPoints p self.old self.new) }
+        ensures reasons { OnOk result (GainsReasons IsOfOpening self.old self.new) }
     {
         match fault {
             CutFault::Passed(passed) => {
@@ -221,9 +223,9 @@ impl State {
         ensures tabled { (p : ProgramOf) (m : Machine) → IsTabledBy p self.old m → self.old.is_begun ≡ true → m.run + 1 < 2 ^ 64
             → OnOk result (Opens p m self.new) }
         ensures points { (p : ProgramOf) → OnOk result (KeepsPoints p self.old self.new) }
-        ensures counts { OnOk result (self.new.counts ≡ self.old.counts) }
         ensures made { (b : BankBooks) → Each (λ place. IfSome place (IsMadeFor (run_book kind b))) cuts.items → CutsAreMade b self.old
             → OnOk result (CutsAreMade b self.new) }
+        ensures reasons { OnOk result (GainsReasons IsOfOpening self.old self.new) }
     {
         self.put_all(kind, &cuts)?;
         self.kind = kind;
@@ -240,6 +242,7 @@ impl State {
         ensures kept { OnOk result (KeepsTable self.old self.new) }
         ensures made { (b : BankBooks) → Each (λ place. IfSome place (IsMadeFor (run_book kind b))) cuts.now
             → OnOk result (KeepsMade b self.old self.new) }
+        ensures reasons { OnOk result (GainsReasons IsOfOpening self.old self.new) }
     {
         for place in cuts {
             self.put(kind, place)?;
@@ -252,6 +255,7 @@ impl State {
         ensures explained { (p : ProgramOf) (tree : TreeOf) → OnOk result (KeepsExplained p tree self.old self.new) }
         ensures kept { OnOk result (KeepsTable self.old self.new) }
         ensures made { (b : BankBooks) → IfSome place.now (IsMadeFor (run_book kind b)) → OnOk result (KeepsMade b self.old self.new) }
+        ensures reasons { OnOk result (GainsReasons IsOfOpening self.old self.new) }
     {
         let Some(cut) = place else {
             return Ok(());

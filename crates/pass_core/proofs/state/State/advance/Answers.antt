@@ -3,6 +3,8 @@ use Rattle.scen_defs.specs.Program.{content}
 use Rattle.pass_core.specs.declared.state.State.{State}
 use Rattle.pass_core.specs.Turns.{EndsAnyhow}
 use Rattle.pass_core.specs.Turns.MakesStep.{begins_none, opens_run}
+use Rattle.pass_core.specs.Reasons.{IsOfOpening}
+use Rattle.pass_core.proofs.Reasoning.{ready_gains, then_reasons}
 use Rattle.pass_core.proofs.Solving.{solves_before, step_solved}
 use Rattle.pass_core.specs.Tabled.{IsTabledBy, HasRoom, IsBegunBy}
 use Rattle.pass_core.proofs.Tabling.{ready_tabled, refit, room_of, room_in, begun_by, rested, opening, turned}
@@ -53,7 +55,7 @@ returns-then-not-has_room-clause-solves c = λ m i walk frame t stand.
     let s = c.get_ready.new.self in
     let u : IsTabledBy p s m = ready_tabled p m c.args.self.now s t c.in_ok-get_ready.ensures.others c.in_ok-get_ready.ensures.begun in
     begins_none (λ room n may. let no : false ≡ true = c.if-not-has_room.ensures.1 (room_in m s.table u.fits room) in absurd (cc))
-    (c.in_ok-get_ready.ensures.points p stand) (ap (λ (x : State). x.counts) c.in_ok-get_ready.ensures.others)
+    (c.in_ok-get_ready.ensures.points p stand) (ready_gains c.args.self.now s c.in_ok-get_ready.ensures.others)
 
 pub returns-then-ne-clause-solves : goal.returns-then-ne-clause-solves
 returns-then-ne-clause-solves c = λ m i walk frame t stand.
@@ -63,7 +65,7 @@ returns-then-ne-clause-solves c = λ m i walk frame t stand.
     let room : HasRoom m = room_of m s.table u.fits (c.if-not-has_room.ensures.0 refl) in
     opens_run ((c.if-is_closed.ensures.meaning m u.fits).0 refl) (c.in_ok-open_next.ensures.tabled p m u c.in_ok-get_ready.ensures.begun room.1)
     (c.in_ok-open_next.ensures.points p (c.in_ok-get_ready.ensures.points p stand))
-    (c.in_ok-open_next.ensures.counts ∙ ap (λ (x : State). x.counts) c.in_ok-get_ready.ensures.others)
+    (then_reasons IsOfOpening c.args.self.now s c.open_next.new.self (ready_gains c.args.self.now s c.in_ok-get_ready.ensures.others) c.in_ok-open_next.ensures.reasons)
 
 pub returns-in_ok-solve-in-Some-clause-solves : goal.returns-in_ok-solve-in-Some-clause-solves
 returns-in_ok-solve-in-Some-clause-solves c = λ m i walk frame t stand.
@@ -84,7 +86,8 @@ returns-in-None-clause-solves c = λ m i walk frame t stand.
     let s = c.get_ready.new.self in
     let u : IsTabledBy p s m = ready_tabled p m c.args.self.now s t c.in_ok-get_ready.ensures.others c.in_ok-get_ready.ensures.begun in
     let none = c.in-None.ensures m u.valid u.fits (u.idle 0) in
-    begins_none (λ room. none.0) (c.in_ok-get_ready.ensures.points p stand) (ap (λ (x : State). x.counts) c.in_ok-get_ready.ensures.others)
+    begins_none (λ room. none.0) (c.in_ok-get_ready.ensures.points p stand)
+    (record { counts = (ready_gains c.args.self.now s c.in_ok-get_ready.ensures.others).counts; stop = (ready_gains c.args.self.now s c.in_ok-get_ready.ensures.others).stop; lasting = (ready_gains c.args.self.now s c.in_ok-get_ready.ensures.others).lasting })
 
 pub returns-then-not-has_room-clause-made : goal.returns-then-not-has_room-clause-made
 returns-then-not-has_room-clause-made c = λ b i walk frame right h.

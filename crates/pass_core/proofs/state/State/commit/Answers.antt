@@ -13,6 +13,8 @@ use Rattle.pass_core.proofs.Tabling.{ends_then, told_ends, neither_ends, left_en
 use Rattle.pass_core.proofs.Explaining.{then_kept, left_kept, point_gives, point_finds, at_place, on_ok}
 use Rattle.pass_core.specs.Made.{run_book, IsMadeAbout, KeepsMade}
 use Rattle.pass_core.proofs.Making.{then_made}
+use Rattle.pass_core.specs.Reasons.{IsOfSolve, GainsReasons}
+use Rattle.pass_core.proofs.Reasoning.{solve_reasons}
 use Rattle.pass_core.proofs.state.State.commit.Goals as goal
 
 pub returns-in_ok-point-in-Point-clause-explained : goal.returns-in_ok-point-in-Point-clause-explained
@@ -121,3 +123,14 @@ returns-in_ok-point-in-Point-clause-made c = λ b h.
     (then_made b old c.point.new.self c.complete.new.self
     (c.in_ok-point-in-Point.ensures.made b (subst (λ (all : Solved). IfSome (cut_given all) (IsMadeAbout (run_book old.kind b) c.args.node)) c.in-Point.is h)))
     (c.complete.ensures.made b)
+
+pub returns-in_ok-point-in-Point-clause-reasons : goal.returns-in_ok-point-in-Point-clause-reasons
+returns-in_ok-point-in-Point-clause-reasons c =
+    let old = c.args.self.now in
+    let all = c.args.solved in
+    on_ok c.complete.result (GainsReasons (IsOfSolve c.point.new.self.counts.all all) c.point.new.self c.complete.new.self)
+    (GainsReasons (IsOfSolve old.counts.all all) old c.complete.new.self)
+    (solve_reasons all old c.point.new.self c.complete.new.self (c.in_ok-point-in-Point.ensures.reasons all)) (c.complete.ensures.reasons all)
+
+pub returns-in-NoPoint-clause-reasons : goal.returns-in-NoPoint-clause-reasons
+returns-in-NoPoint-clause-reasons c = c.no_point.ensures.reasons c.args.solved

@@ -6,6 +6,9 @@ use Rattle.pass_core.proofs.Standing.{same_points, then_points, forgotten_stand}
 use Rattle.pass_core.proofs.Tabling.{lasts_keeps, offered_ends}
 use Rattle.pass_core.proofs.Explaining.{then_kept, table_kept, forgotten_kept}
 use Rattle.pass_core.proofs.Making.{same_made, then_made}
+use Rattle.pass_core.specs.Reasons.{IsOfSolve}
+use Rattle.proved_report.specs.declared.open.Open.{Open}
+use Rattle.pass_core.proofs.Reasoning.{same_reasons, then_reasons}
 use Rattle.pass_core.proofs.state.State.no_point.Goals as goal
 
 pub returns-clause-explained : goal.returns-clause-explained
@@ -38,3 +41,13 @@ returns-clause-made c = λ b h.
     then_made b c.args.self.now s c.commit_last.new.self (same_made b c.args.self.now s refl refl refl)
     (then_made b s c.take_ray.new.self c.commit_last.new.self (c.in_ok-is_raised.ensures.made b h)
     (same_made b c.take_ray.new.self c.commit_last.new.self (ap (λ (x : State). x.banks) f) (ap (λ (x : State). x.kind) f) (ap (λ (x : State). x.ends) f)))
+
+pub returns-clause-reasons : goal.returns-clause-reasons
+returns-clause-reasons c = λ all.
+    let old = c.args.self.now in
+    let s : State = record old { lasts = c.forget.new.self } in
+    let e = c.commit_last.ensures.others in
+    let is : Open → Type 0 = IsOfSolve old.counts.all all in
+    let given = then_reasons is old s c.take_ray.new.self (same_reasons is old s refl refl refl) (c.in_ok-is_raised.ensures.reasons all) in
+    then_reasons is old c.take_ray.new.self c.commit_last.new.self given
+    (same_reasons is c.take_ray.new.self c.commit_last.new.self (ap (λ (x : State). x.counts) e) (ap (λ (x : State). x.stop) e) (ap (λ (x : State). x.lasting) e))

@@ -1,4 +1,4 @@
-use Rattle.std.proofs.Common.{sym, ap, subst, ◌∙◌}
+use Rattle.std.proofs.Common.{refl, sym, ap, subst, ◌∙◌}
 use Rattle.cut_defs.specs.Stored.{source_of}
 use Rattle.cut_banks.specs.Banks.{pools_of}
 use Rattle.pass_core.specs.declared.state.State.{State}
@@ -11,6 +11,10 @@ use Rattle.cut_pool.specs.Pool.{offer_of, after_offer}
 use Rattle.cut_defs.specs.Stored.{IsMadeFor}
 use Rattle.pass_core.specs.Made.{run_book, KeepsMade}
 use Rattle.pass_core.proofs.Making.{offered_have, bank_changed, banks_made, answered_made, then_made, same_made}
+use Rattle.pass_core.specs.Reasons.{IsOfSolve, GainsReasons}
+use Rattle.proved_report.specs.declared.open.Open.{Open}
+use Rattle.proved_report.specs.declared.open.Open.TheVariants.{Solves}
+use Rattle.pass_core.proofs.Reasoning.{same_reasons, stopped_reasons, then_reasons, answered_reasons}
 use Rattle.pass_core.proofs.state.State.offer.Goals as goal
 
 pub returns-in-Some-clause-explained : goal.returns-in-Some-clause-explained
@@ -57,3 +61,20 @@ returns-in-None-clause-made c = λ b h.
     (bank_changed old.kind b old.banks c.offer.new.self (may_take cut) (λ p. after_offer p cut (offer_of p cut trial)) (source_of cut).node
     (λ p. offered_have (IsMadeFor (run_book old.kind b)) p cut (offer_of p cut trial) h) c.in_ok-offer.ensures.ok))
     (same_made b s c.stuck.new.self (ap (λ (x : State). x.banks) e) (ap (λ (x : State). x.kind) e) (ap (λ (x : State). x.ends) e))
+
+pub returns-in-Some-clause-reasons : goal.returns-in-Some-clause-reasons
+returns-in-Some-clause-reasons c = λ all.
+    let old = c.args.self.now in
+    let s : State = record old { banks = c.offer.new.self } in
+    subst (GainsReasons (IsOfSolve old.counts.all all) old) (sym c.judged.ensures.state)
+    (then_reasons (IsOfSolve old.counts.all all) old s (after_answer c.in-Some.offer s) (same_reasons (IsOfSolve old.counts.all all) old s refl refl refl)
+    (answered_reasons all c.in-Some.offer s))
+
+pub returns-in-None-clause-reasons : goal.returns-in-None-clause-reasons
+returns-in-None-clause-reasons c = λ all.
+    let old = c.args.self.now in
+    let s : State = record old { banks = c.offer.new.self } in
+    let e = c.stuck.ensures in
+    let is : Open → Type 0 = IsOfSolve old.counts.all all in
+    then_reasons is old s c.stuck.new.self (same_reasons is old s refl refl refl)
+    (stopped_reasons is s c.stuck.new.self (Solves old.budget.solves) (ap (λ (x : State). x.counts) e) (ap (λ (x : State). x.stop) e) (ap (λ (x : State). x.lasting) e) tt)

@@ -7,6 +7,9 @@ use Rattle.pass_core.proofs.Tabling.{left_ends, lasts_keeps, offered_ends, not_t
 use Rattle.pass_core.proofs.Explaining.{then_kept, table_kept, still_given}
 use Rattle.pass_core.specs.Made.{KeepsMade}
 use Rattle.pass_core.proofs.Making.{same_made, then_made, still_made}
+use Rattle.pass_core.specs.Reasons.{IsOfSolve}
+use Rattle.proved_report.specs.declared.open.Open.{Open}
+use Rattle.pass_core.proofs.Reasoning.{same_reasons, then_reasons, solve_reasons}
 use Rattle.pass_core.proofs.state.State.point.Goals as goal
 
 pub returns-clause-explained : goal.returns-clause-explained
@@ -63,3 +66,12 @@ returns-clause-made c = λ b h.
     (then_made b c.keep.new.self c.take_bound.new.self c.commit_last.new.self
     (c.in_ok-is_raised.ensures.made b (still_made b c.args.self.now c.keep.new.self c.args.node c.args.cut k h))
     (same_made b c.take_bound.new.self c.commit_last.new.self (ap (λ (s : State). s.banks) f) (ap (λ (s : State). s.kind) f) (ap (λ (s : State). s.ends) f)))
+
+pub returns-clause-reasons : goal.returns-clause-reasons
+returns-clause-reasons c = λ all.
+    let old = c.args.self.now in
+    let e = c.commit_last.ensures.others in
+    let is : Open → Type 0 = IsOfSolve old.counts.all all in
+    then_reasons is old c.take_bound.new.self c.commit_last.new.self
+    (solve_reasons all old c.keep.new.self c.take_bound.new.self (c.in_ok-keep.ensures.reasons all) (c.in_ok-is_raised.ensures.reasons all))
+    (same_reasons is c.take_bound.new.self c.commit_last.new.self (ap (λ (x : State). x.counts) e) (ap (λ (x : State). x.stop) e) (ap (λ (x : State). x.lasting) e))

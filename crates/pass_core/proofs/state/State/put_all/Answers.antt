@@ -3,6 +3,8 @@ use Rattle.cut_defs.specs.Stored.{Stored, IsMadeFor}
 use Rattle.pass_core.specs.Made.{run_book}
 use Rattle.pass_core.proofs.Explaining.{then_kept}
 use Rattle.pass_core.proofs.Tabling.{table_then}
+use Rattle.pass_core.specs.Reasons.{IsOfOpening}
+use Rattle.pass_core.proofs.Reasoning.{then_reasons}
 use Rattle.pass_core.proofs.Making.{then_made, each_at}
 use Rattle.pass_core.proofs.state.State.put_all.Goals as goal
 
@@ -12,4 +14,5 @@ loop-place-preserved c = record {
   made = λ b all. then_made b c.args.self.now c.loop-place.self c.put.new.self (c.loop-place.invariant.made b all) (c.in_ok-put.ensures.made b
       (each_at (λ (place : Option Stored). IfSome place (IsMadeFor (run_book c.args.kind b))) c.args.cuts.now c.loop-place.place-index c.place-item.result all c.loop-place-test.true c.place-item.is));
   kept = table_then c.args.self.now c.loop-place.self c.put.new.self c.loop-place.invariant.kept c.in_ok-put.ensures.kept;
+  reasons = then_reasons IsOfOpening c.args.self.now c.loop-place.self c.put.new.self c.loop-place.invariant.reasons c.in_ok-put.ensures.reasons;
 }

@@ -5,6 +5,7 @@ use Rattle.cut_defs.specs.Stored.{IsMadeFor}
 use Rattle.pass_core.specs.Made.{BankBooks, run_book, KeepsMade}
 use Rattle.scen_tree.specs.Trees.{Tree}
 use Rattle.pass_core.specs.Explained.{KeepsExplained}
+use Rattle.pass_core.specs.Reasons.{IsOfOpening, GainsReasons}
 use Rattle.pass_core.specs.Tabled.{KeepsTable}
 use Rattle.pass_core.proofs.state.State.put_all.Given as goal
 
@@ -13,4 +14,5 @@ invariant-loop-place l = record {
   explained : (p : Program) (tree : Tree) → KeepsExplained p tree l.initial.self l.self;
   made : (b : BankBooks) → Each (λ place. IfSome place (IsMadeFor (run_book l.kind b))) l.cuts → KeepsMade b l.initial.self l.self;
   kept : KeepsTable l.initial.self l.self;
+  reasons : GainsReasons IsOfOpening l.initial.self l.self;
 }

@@ -103,6 +103,7 @@ returns-clause-solves c = λ m i walk frame begun stand.
     (begun_solving p s m n i frame b c.in-Some.begun.readings.items rs) (reads_number p s m n i frame b) (at_node p s m n i frame b)
     (answer_about t n all node c.in_ok-solved.ensures.answer))
     (c.commit.ensures.points p trial (found_stands p s.kind n (version_of s.versions n) t all task.datum c.in_ok-solved.ensures.answer))
+    c.commit.ensures.reasons
 
 pub returns-in_default-clause-made : goal.returns-in_default-clause-made
 returns-in_default-clause-made c = λ b i walk frame right h.
