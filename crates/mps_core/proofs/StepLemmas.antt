@@ -7,42 +7,33 @@ use Rattle.core_defs.specs.Bounds.{bound_kind, has_value}
 use Rattle.core_defs.specs.Filed.{Filed}
 use Rattle.core_defs.specs.Step.{row_line, column_line, rhs_line, range_line, value_line, plain_line, bound_line}
 
+-- what is so of any seven fields
+by_seven : (P : List (List ℕ) → Type 0) (fields : List (List ℕ)) → length fields ≡ 7 → ((a b c d e f g : List ℕ) → P (a ∷ b ∷ c ∷ d ∷ e ∷ f ∷ g ∷ [])) → P fields
+by_seven P [] seven each = absurd (omega arith)
+by_seven P (_ ∷ []) seven each = absurd (omega arith)
+by_seven P (_ ∷ _ ∷ []) seven each = absurd (omega arith)
+by_seven P (_ ∷ _ ∷ _ ∷ []) seven each = absurd (omega arith)
+by_seven P (_ ∷ _ ∷ _ ∷ _ ∷ []) seven each = absurd (omega arith)
+by_seven P (_ ∷ _ ∷ _ ∷ _ ∷ _ ∷ []) seven each = absurd (omega arith)
+by_seven P (_ ∷ _ ∷ _ ∷ _ ∷ _ ∷ _ ∷ []) seven each = absurd (omega arith)
+by_seven P (a ∷ b ∷ c ∷ d ∷ e ∷ f ∷ g ∷ []) seven each = each a b c d e f g
+by_seven P (_ ∷ _ ∷ _ ∷ _ ∷ _ ∷ _ ∷ _ ∷ _ ∷ _) seven each = absurd (omega arith)
+
 pub long_row : (f : Filed) (fields : List (List ℕ)) → length fields ≡ 7 → row_line f fields ≡ Err cause.FieldCount
 unfolding row_line
-long_row f [] seven = absurd (omega arith)
-long_row f (_ ∷ []) seven = absurd (omega arith)
-long_row f (_ ∷ _ ∷ []) seven = absurd (omega arith)
-long_row f (_ ∷ _ ∷ _ ∷ _) seven = refl
+long_row f fields seven = by_seven (λ fields. row_line f fields ≡ Err cause.FieldCount) fields seven (λ a b c d e f g. refl)
 
 pub long_column : (f : Filed) (fields : List (List ℕ)) → length fields ≡ 7 → column_line f fields ≡ Err cause.FieldCount
 unfolding column_line
-long_column f [] seven = absurd (omega arith)
-long_column f (_ ∷ []) seven = absurd (omega arith)
-long_column f (_ ∷ _ ∷ []) seven = absurd (omega arith)
-long_column f (_ ∷ _ ∷ _ ∷ []) seven = absurd (omega arith)
-long_column f (_ ∷ _ ∷ _ ∷ _ ∷ []) seven = absurd (omega arith)
-long_column f (_ ∷ _ ∷ _ ∷ _ ∷ _ ∷ []) seven = absurd (omega arith)
-long_column f (_ ∷ _ ∷ _ ∷ _ ∷ _ ∷ _ ∷ _) seven = refl
+long_column f fields seven = by_seven (λ fields. column_line f fields ≡ Err cause.FieldCount) fields seven (λ a b c d e f g. refl)
 
 pub long_rhs : (f : Filed) (fields : List (List ℕ)) → length fields ≡ 7 → rhs_line f fields ≡ Err cause.FieldCount
 unfolding rhs_line
-long_rhs f [] seven = absurd (omega arith)
-long_rhs f (_ ∷ []) seven = absurd (omega arith)
-long_rhs f (_ ∷ _ ∷ []) seven = absurd (omega arith)
-long_rhs f (_ ∷ _ ∷ _ ∷ []) seven = absurd (omega arith)
-long_rhs f (_ ∷ _ ∷ _ ∷ _ ∷ []) seven = absurd (omega arith)
-long_rhs f (_ ∷ _ ∷ _ ∷ _ ∷ _ ∷ []) seven = absurd (omega arith)
-long_rhs f (_ ∷ _ ∷ _ ∷ _ ∷ _ ∷ _ ∷ _) seven = refl
+long_rhs f fields seven = by_seven (λ fields. rhs_line f fields ≡ Err cause.FieldCount) fields seven (λ a b c d e f g. refl)
 
 pub long_range : (f : Filed) (fields : List (List ℕ)) → length fields ≡ 7 → range_line f fields ≡ Err cause.FieldCount
 unfolding range_line
-long_range f [] seven = absurd (omega arith)
-long_range f (_ ∷ []) seven = absurd (omega arith)
-long_range f (_ ∷ _ ∷ []) seven = absurd (omega arith)
-long_range f (_ ∷ _ ∷ _ ∷ []) seven = absurd (omega arith)
-long_range f (_ ∷ _ ∷ _ ∷ _ ∷ []) seven = absurd (omega arith)
-long_range f (_ ∷ _ ∷ _ ∷ _ ∷ _ ∷ []) seven = absurd (omega arith)
-long_range f (_ ∷ _ ∷ _ ∷ _ ∷ _ ∷ _ ∷ _) seven = refl
+long_range f fields seven = by_seven (λ fields. range_line f fields ≡ Err cause.FieldCount) fields seven (λ a b c d e f g. refl)
 
 -- Nor do more than three behind a kind of bounds.
 pub long_value : (f : Filed) (kind : BoundKind) (fields : List (List ℕ)) → 3 < length fields → value_line f kind fields ≡ Err cause.FieldCount

@@ -1,5 +1,5 @@
 //! Values by the numbers of rows.
-ghost use Rattle.std.specs.Prelude.{◌≡◌, ◌++◌, suc, true, [], None, IfOk, OnOk};
+ghost use Rattle.std.specs.Prelude.{◌≡◌, ◌++◌, suc, true, [], None, IfOk, OnOk, reverse};
 ghost use Rattle.rationals.specs.Forms.{find, put};
 ghost use Rattle.rationals.specs.Sparse.{Ascending};
 ghost use Rattle.core_defs.specs.Terms.{terms_of, with_term, nonzero_terms};
@@ -33,11 +33,11 @@ impl Model for Terms {
     ghost invariant = { λ terms. Ascending 0 (terms_in terms.falling.items terms.values.entries) };
 }
 
-/// The value of a row among terms.
+/// The value of a row among terms that are looked at from the last on.
 fn value_among(terms: &[Term], row: u64) -> Option<Frac>
-    ensures { result ≡ find terms.now row }
+    ensures { result ≡ find (reverse terms.now) row }
 {
-    for term in terms {
+    for term in terms.iter().rev() {
         if term.column == row {
             return Some(term.value);
         }

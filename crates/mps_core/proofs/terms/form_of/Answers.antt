@@ -4,7 +4,7 @@ use Rattle.rationals.specs.Sparse.{Entry}
 use Rattle.rationals.specs.Forms.{IsForm}
 use Rattle.core_defs.specs.Terms.{terms_of, nonzero_terms}
 use Rattle.mps_core.specs.Falling.{terms_in}
-use Rattle.mps_core.proofs.FallingLemmas.{rising_is_form}
+use Rattle.core_defs.proofs.TermLemmas.{nonzero_form}
 use Rattle.mps_core.proofs.terms.form_of.Goals as goal
 
 no_items : {A : Type 0} (xs : List A) → (0 < length xs → false ≡ true) → xs ≡ []
@@ -16,4 +16,4 @@ from_terms-requires c =
     let none : c.loop-column.values.entries ≡ [] = no_items c.loop-column.values.entries c.in_default-pop_first.ensures.variant.1 in
     let whole : c.loop-column.terms.items ≡ nonzero_terms (terms_in c.args.falling.items c.args.values.entries) =
     sym (append-nil c.loop-column.terms.items) ∙ ap (λ rest. c.loop-column.terms.items ++ nonzero_terms (terms_of rest)) (sym none) ∙ c.loop-column.invariant in
-    subst (λ (terms : List Entry). IsForm terms) (sym whole) (rising_is_form (terms_in c.args.falling.items c.args.values.entries) c.requires)
+    subst (λ (terms : List Entry). IsForm terms) (sym whole) (nonzero_form (terms_in c.args.falling.items c.args.values.entries) c.requires)
