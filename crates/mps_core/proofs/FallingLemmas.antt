@@ -13,7 +13,7 @@ use Rattle.frac128.proofs.FormLemmas.{rises_from}
 use Rattle.core_defs.specs.Terms.{terms_of, with_term}
 use Rattle.core_defs.proofs.PairLemmas.{or_later}
 use Rattle.mps_core.specs.Falling.{terms_in}
-use Rattle.mps_core.proofs.TermLemmas.{none_here, insert_is}
+use Rattle.mps_core.proofs.TermLemmas.{lookup_is, none_here, insert_is}
 
 -- ---- what rises
 
@@ -44,23 +44,15 @@ with_step : (n row : ℕ) (value : ℚ) (x : Entry) (xs : List Entry) (less : Bo
 with_step n row value x xs true less low rises later = (low, (grind (arith, nat_tests, less), rises.1))
 with_step n row value x xs false less low rises later = (rises.0, later refl)
 
-beyond : (row column : ℕ) → (column == row) ≡ false → nat_lt row column ≡ false → suc column ≤ row
-beyond row column other less = grind (arith, nat_tests, other, less)
-
 -- what rises still does with one more
 pub with_rises : (n row : ℕ) (value : ℚ) (xs : List Entry) → n ≤ row → find xs row ≡ None → Ascending n xs → Ascending n (with_term row value xs)
 with_rises n row value [] low none rises = (low, tt)
 with_rises n row value (x ∷ xs) low none rises =
     let both : ((x.column == row) ≡ false) × (find xs row ≡ None) = none_here (x.column == row) x.value (find xs row) none in
     with_step n row value x xs (nat_lt row x.column) refl low rises
-    (λ less. with_rises (suc x.column) row value xs (beyond row x.column both.0 less) both.1 rises.1)
+    (λ less. with_rises (suc x.column) row value xs (grind (arith, nat_tests, both.0, less)) both.1 rises.1)
 
 -- ---- both together
-
--- what is found among the falling ones is the value, or else what is found in the map
-pub found_in : (falling : List Entry) (pairs : List (ℕ × ℚ)) (row : ℕ) (found : Option ℚ) → found ≡ find (reverse falling) row
-    → or_later found (find (terms_of pairs) row) ≡ find (terms_in falling pairs) row
-found_in falling pairs row found is = ap (λ f. or_later f (find (terms_of pairs) row)) is ∙ sym (find_append (reverse falling) (terms_of pairs) row)
 
 -- one more that is below all
 pub pushed : (falling : List Entry) (pairs : List (ℕ × ℚ)) (row : ℕ) (value : ℚ) → Ascending (suc row) (terms_in falling pairs)
@@ -85,3 +77,9 @@ kept term rest pairs rises =
 pub inserted : (pairs : List (ℕ × ℚ)) (row : ℕ) (value : ℚ) → find (terms_of pairs) row ≡ None → Ascending 0 (terms_of pairs)
     → Ascending 0 (terms_of (insert_entry nat_cmp pairs row value))
 inserted pairs row value none rises = subst (Ascending 0) (sym (insert_is pairs row value none)) (with_rises 0 row value (terms_of pairs) (omega arith) none rises)
+
+pub ruleset value_lemmas = (find_below, lookup_is, find_append)
+
+pub ruleset add_lemmas = (pushed, inserted, insert_is)
+
+pub ruleset keep_lemmas = (kept, behind)

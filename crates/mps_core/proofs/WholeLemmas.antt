@@ -4,6 +4,7 @@ use Rattle.rationals.specs.Rational.{ℚ}
 use Rattle.core_defs.specs.declared.parts.ColumnPart.{ColumnPart}
 use Rattle.core_defs.specs.Filed.{Filed, nothing_filed}
 use Rattle.core_defs.specs.Finished.{row_defs, column_defs}
+use Rattle.core_defs.proofs.CoreLemmas.{row_names_are}
 
 pub rows_by : (f g : Filed) → f.kinds ≡ g.kinds → f.rhs ≡ g.rhs → f.ranges ≡ g.ranges → (place : ℕ) (names : List (List ℕ)) → row_defs f place names ≡ row_defs g place names
 rows_by f g kinds rhs ranges place [] = refl
@@ -23,6 +24,10 @@ same_row_defs f d parts values rest =
 pub same_column_defs : (f d : Filed) → d ≡ record f { parts = d.parts; costs = d.costs; terms = d.terms } → (parts : List ColumnPart) → column_defs (record nothing_filed { names = d.names; bounds = d.bounds }) 0 parts ≡ column_defs f 0 parts
 same_column_defs f d rest parts = columns_by (record nothing_filed { names = d.names; bounds = d.bounds }) f (ap (λ (g : Filed). g.names) rest) (ap (λ (g : Filed). g.bounds) rest) 0 parts
 
+pub row_count : (f : Filed) (place : ℕ) (names : List (List ℕ)) → length (row_defs f place names) ≡ length names
+row_count f place [] = refl
+row_count f place (name ∷ names) = ap suc (row_count f (place + 1) names)
+
 pub column_count : (f : Filed) (place : ℕ) (parts : List ColumnPart) → length (column_defs f place parts) ≡ length parts
 column_count f place [] = refl
 column_count f place (part ∷ parts) = ap suc (column_count f (place + 1) parts)
@@ -30,3 +35,5 @@ column_count f place (part ∷ parts) = ap suc (column_count f (place + 1) parts
 pub split_first : (names : List (List ℕ)) → 0 < length names → names ≡ get_or names 0 [] ∷ drop 1 names
 split_first [] some = absurd (omega arith)
 split_first (name ∷ names) some = refl
+
+pub ruleset core_lemmas = (same_row_defs, same_column_defs, row_names_are, row_count, column_count, split_first)

@@ -49,6 +49,7 @@ fn section_at(code: Option<u8>) -> Option<Section>
 }
 
 /// The section that a header's first word names.
+#[tactic(auto, using(crate::proofs::KeywordLemmas::section_means))]
 pub(crate) fn section_of(word: &[u8]) -> Option<Section>
     ensures { result ≡ section_of word.now }
 {
@@ -102,6 +103,7 @@ fn bound_kind_at(code: Option<u8>) -> Option<BoundKind>
 }
 
 /// The kind of a line of BOUNDS.
+#[tactic(auto, using(crate::proofs::KeywordLemmas::bound_means))]
 pub(crate) fn bound_kind(word: &[u8]) -> Option<BoundKind>
     ensures { result ≡ bound_kind word.now }
 {
