@@ -18,8 +18,8 @@ use Rattle.mps_core.proofs.TermLemmas.{lookup_is, none_here, insert_is}
 -- ---- what rises
 
 -- a last part of what rises rises
-pub behind : (xs ys : List Entry) → Ascending 0 (xs ++ ys) → Ascending 0 ys
-behind xs ys rises = subst (Ascending 0) (drop-append_seam xs ys) (rises_from 0 (length xs) (xs ++ ys) rises)
+pub rest_rises : (xs ys : List Entry) → Ascending 0 (xs ++ ys) → Ascending 0 ys
+rest_rises xs ys rises = subst (Ascending 0) (drop-append_seam xs ys) (rises_from 0 (length xs) (xs ++ ys) rises)
 
 -- ---- what is found
 
@@ -68,7 +68,7 @@ moved term rest pairs = ap (λ r. r ++ terms_of pairs) (reverse-append (term ∷
 pub kept : (term : Entry) (rest : List Entry) (pairs : List (ℕ × ℚ)) → Ascending 0 (terms_in (term ∷ rest) pairs)
     → terms_in rest (insert_entry nat_cmp pairs term.column term.value) ≡ terms_in (term ∷ rest) pairs
 kept term rest pairs rises =
-    let above : Ascending (suc term.column) (terms_of pairs) = (behind (reverse rest) (term ∷ terms_of pairs) (subst (Ascending 0) (moved term rest pairs) rises)).1 in
+    let above : Ascending (suc term.column) (terms_of pairs) = (rest_rises (reverse rest) (term ∷ terms_of pairs) (subst (Ascending 0) (moved term rest pairs) rises)).1 in
     ap (λ terms. reverse rest ++ terms) (insert_is pairs term.column term.value (find_below (suc term.column) term.column (terms_of pairs) above (omega arith))
     ∙ with_below term.column term.value (terms_of pairs) above)
     ∙ sym (moved term rest pairs)
@@ -82,4 +82,4 @@ pub ruleset value_lemmas = (find_below, lookup_is, find_append)
 
 pub ruleset add_lemmas = (pushed, inserted, insert_is)
 
-pub ruleset keep_lemmas = (kept, behind)
+pub ruleset keep_lemmas = (kept, rest_rises)

@@ -9,22 +9,22 @@ use Rattle.core_defs.specs.Section.{section_of}
 use Rattle.mps_core.specs.Keywords.{section_at, bound_kind_at}
 
 -- what the word stands for: the code of the first row with it, by what a code stands for
-abbrev pub meant_by : {A : Type 0} → (Option ℕ → A) → List Row → List ℕ → A
-meant_by of_code [] word = of_code None
-meant_by of_code (row ∷ rows) word = if same_name word row.word then of_code (Some row.code) else meant_by of_code rows word
+abbrev pub meaning_by : {A : Type 0} → (Option ℕ → A) → List Row → List ℕ → A
+meaning_by of_code [] word = of_code None
+meaning_by of_code (row ∷ rows) word = if same_name word row.word then of_code (Some row.code) else meaning_by of_code rows word
 
-either : {A B : Type 0} (f : A → B) (b : Bool) (x y : A) → f (if b then x else y) ≡ (if b then f x else f y)
-either f true x y = refl
-either f false x y = refl
+of_either : {A B : Type 0} (f : A → B) (b : Bool) (x y : A) → f (if b then x else y) ≡ (if b then f x else f y)
+of_either f true x y = refl
+of_either f false x y = refl
 
-pub code_means : {A : Type 0} (of_code : Option ℕ → A) (rows : List Row) (word : List ℕ) → of_code (code_of rows word) ≡ meant_by of_code rows word
+pub code_means : {A : Type 0} (of_code : Option ℕ → A) (rows : List Row) (word : List ℕ) → of_code (code_of rows word) ≡ meaning_by of_code rows word
 code_means of_code [] word = refl
 code_means of_code (row ∷ rows) word =
-    either of_code (same_name word row.word) (Some row.code) (code_of rows word)
+    of_either of_code (same_name word row.word) (Some row.code) (code_of rows word)
     ∙ ap (λ later. if same_name word row.word then of_code (Some row.code) else later) (code_means of_code rows word)
 
 pub section_means : (rows : List Row) (word : List ℕ) → rows ≡ rows_of (fields_of (codes "NAME ROWS COLUMNS RHS RANGES BOUNDS ENDATA")) (1 ∷ 2 ∷ 3 ∷ 4 ∷ 5 ∷ 6 ∷ 7 ∷ []) → section_at (code_of rows word) ≡ section_of word
-section_means rows word is = code_means section_at rows word ∙ ap (λ (all : List Row). meant_by section_at all word) is
+section_means rows word is = code_means section_at rows word ∙ ap (λ (all : List Row). meaning_by section_at all word) is
 
 pub bound_means : (rows : List Row) (word : List ℕ) → rows ≡ rows_of (fields_of (codes "LO UP FX FR MI PL")) (1 ∷ 2 ∷ 3 ∷ 4 ∷ 5 ∷ 6 ∷ []) → bound_kind_at (code_of rows word) ≡ bound_kind word
-bound_means rows word is = code_means bound_kind_at rows word ∙ ap (λ (all : List Row). meant_by bound_kind_at all word) is
+bound_means rows word is = code_means bound_kind_at rows word ∙ ap (λ (all : List Row). meaning_by bound_kind_at all word) is

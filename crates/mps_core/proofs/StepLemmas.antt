@@ -12,35 +12,35 @@ abbrev IsSoFrom : ℕ → (List (List ℕ) → Type 0) → Type 0
 IsSoFrom zero P = (fields : List (List ℕ)) → P fields
 IsSoFrom (suc count) P = (field : List ℕ) → IsSoFrom count (λ fields. P (field ∷ fields))
 
-long : (count : ℕ) (P : List (List ℕ) → Type 0) (fields : List (List ℕ)) → count ≤ length fields → IsSoFrom count P → P fields
-long zero P fields many each = each fields
-long (suc count) P [] many each = absurd (omega arith)
-long (suc count) P (field ∷ fields) many each = long count (λ rest. P (field ∷ rest)) fields (omega arith) (each field)
+many_fields : (count : ℕ) (P : List (List ℕ) → Type 0) (fields : List (List ℕ)) → count ≤ length fields → IsSoFrom count P → P fields
+many_fields zero P fields many each = each fields
+many_fields (suc count) P [] many each = absurd (omega arith)
+many_fields (suc count) P (field ∷ fields) many each = many_fields count (λ rest. P (field ∷ rest)) fields (omega arith) (each field)
 
 pub long_row : (f : Filed) (fields : List (List ℕ)) → length fields ≡ 7 → row_line f fields ≡ Err cause.FieldCount
 unfolding row_line
-long_row f fields seven = long 3 (λ all. row_line f all ≡ Err cause.FieldCount) fields (omega arith) (λ a b c rest. refl)
+long_row f fields seven = many_fields 3 (λ all. row_line f all ≡ Err cause.FieldCount) fields (omega arith) (λ a b c rest. refl)
 
 pub long_column : (f : Filed) (fields : List (List ℕ)) → length fields ≡ 7 → column_line f fields ≡ Err cause.FieldCount
 unfolding column_line
-long_column f fields seven = long 6 (λ all. column_line f all ≡ Err cause.FieldCount) fields (omega arith) (λ a b c d e g rest. refl)
+long_column f fields seven = many_fields 6 (λ all. column_line f all ≡ Err cause.FieldCount) fields (omega arith) (λ a b c d e g rest. refl)
 
 pub long_rhs : (f : Filed) (fields : List (List ℕ)) → length fields ≡ 7 → rhs_line f fields ≡ Err cause.FieldCount
 unfolding rhs_line
-long_rhs f fields seven = long 6 (λ all. rhs_line f all ≡ Err cause.FieldCount) fields (omega arith) (λ a b c d e g rest. refl)
+long_rhs f fields seven = many_fields 6 (λ all. rhs_line f all ≡ Err cause.FieldCount) fields (omega arith) (λ a b c d e g rest. refl)
 
 pub long_range : (f : Filed) (fields : List (List ℕ)) → length fields ≡ 7 → range_line f fields ≡ Err cause.FieldCount
 unfolding range_line
-long_range f fields seven = long 6 (λ all. range_line f all ≡ Err cause.FieldCount) fields (omega arith) (λ a b c d e g rest. refl)
+long_range f fields seven = many_fields 6 (λ all. range_line f all ≡ Err cause.FieldCount) fields (omega arith) (λ a b c d e g rest. refl)
 
 -- Nor do more than three behind a kind of bounds.
 pub long_value : (f : Filed) (kind : BoundKind) (fields : List (List ℕ)) → 3 < length fields → value_line f kind fields ≡ Err cause.FieldCount
 unfolding value_line
-long_value f kind fields many = long 4 (λ all. value_line f kind all ≡ Err cause.FieldCount) fields (omega arith) (λ a b c d rest. refl)
+long_value f kind fields many = many_fields 4 (λ all. value_line f kind all ≡ Err cause.FieldCount) fields (omega arith) (λ a b c d rest. refl)
 
 pub long_plain : (f : Filed) (kind : BoundKind) (fields : List (List ℕ)) → 3 < length fields → plain_line f kind fields ≡ Err cause.FieldCount
 unfolding plain_line
-long_plain f kind fields many = long 4 (λ all. plain_line f kind all ≡ Err cause.FieldCount) fields (omega arith) (λ a b c d rest. refl)
+long_plain f kind fields many = many_fields 4 (λ all. plain_line f kind all ≡ Err cause.FieldCount) fields (omega arith) (λ a b c d rest. refl)
 
 -- and seven fields fit no line of BOUNDS
 pub long_bound : (f : Filed) (fields : List (List ℕ)) (kind : BoundKind) (word : List ℕ) → (rest : List (List ℕ)) × (fields ≡ word ∷ rest) → bound_kind word ≡ Some kind → length fields ≡ 7 → bound_line f fields ≡ Err cause.FieldCount
