@@ -1,21 +1,12 @@
 -- More than six fields fit no line.
-use Rattle.std.proofs.Common.{◌≡◌, ◌<◌, ◌≤◌, ℕ, zero, suc, Bool, true, false, List, [], ◌∷◌, length, Some, Err, refl, sym, ap, ◌∙◌, arith}
+use Rattle.std.proofs.Common.{◌≡◌, ◌<◌, ℕ, suc, Bool, true, false, List, ◌∷◌, length, Some, Err, refl, sym, ap, ◌∙◌, arith}
 use Rattle.std.specs.Prelude.{if◌then◌else◌}
 use Rattle.core_defs.specs.declared.kinds.BoundKind.{BoundKind}
 use Rattle.core_defs.specs.declared.cause.Cause.TheVariants as cause
 use Rattle.core_defs.specs.Bounds.{bound_kind, has_value}
 use Rattle.core_defs.specs.Filed.{Filed}
 use Rattle.core_defs.specs.Step.{row_line, column_line, rhs_line, range_line, value_line, plain_line, bound_line}
-
--- it is so of each list of at least so many fields
-abbrev IsSoFrom : ℕ → (List (List ℕ) → Type 0) → Type 0
-IsSoFrom zero P = (fields : List (List ℕ)) → P fields
-IsSoFrom (suc count) P = (field : List ℕ) → IsSoFrom count (λ fields. P (field ∷ fields))
-
-many_fields : (count : ℕ) (P : List (List ℕ) → Type 0) (fields : List (List ℕ)) → count ≤ length fields → IsSoFrom count P → P fields
-many_fields zero P fields many each = each fields
-many_fields (suc count) P [] many each = absurd (omega arith)
-many_fields (suc count) P (field ∷ fields) many each = many_fields count (λ rest. P (field ∷ rest)) fields (omega arith) (each field)
+use Rattle.reader_defs.proofs.ManyFields.{many_fields}
 
 pub long_row : (f : Filed) (fields : List (List ℕ)) → length fields ≡ 7 → row_line f fields ≡ Err cause.FieldCount
 unfolding row_line

@@ -2,10 +2,10 @@
 use crate::draft::Draft;
 use crate::number::{is_zero, number_of};
 use crate::places::{is_last, row_at};
-use crate::stop::Stop;
 use crate::values::first_bounds;
 use core_defs::{Cause, ColumnPart, RowPlace};
 use frac128::Frac;
+use reader_defs::Stop;
 use smps_words::Line;
 use std::alloc::AllocError;
 
