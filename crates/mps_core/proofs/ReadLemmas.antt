@@ -38,6 +38,7 @@ whole text f is =
       few_columns = core.few_columns;
       all_parts = sym (column_count f 0 (closed f).parts)
           ∙ sym (length-map (column_defs f 0 (closed f).parts) (λ (column : ColumnDef). column.name)) ∙ ap length core.named;
+      named = core.named;
     }
 
 abbrev not_filed : ReadFail → Result (Unit {0}) ReadFail

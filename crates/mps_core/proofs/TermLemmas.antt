@@ -1,15 +1,14 @@
 -- What a tree map finds and keeps, in the words of terms.
-use Rattle.std.proofs.Common.{◌≡◌, ◌≤◌, ◌==◌, ap, ℕ, pos, Bool, true, false, cond, List, [], ◌∷◌, Option, Some, None, refl, arith, nat_lt, if◌then◌else◌, suc}
+use Rattle.std.proofs.Common.{◌≡◌, ◌==◌, ap, ℕ, Bool, true, false, cond, List, [], ◌∷◌, Option, Some, None, refl, arith, nat_lt, if◌then◌else◌}
 use Rattle.std.proofs.lemmas.Bool.Decides.{nat_tests}
 use Rattle.std.specs.Map.{lookup}
-use Rattle.std.specs.Ordering.{nat_cmp, match_ordering, int_eq}
+use Rattle.std.specs.Ordering.{nat_cmp, match_ordering}
 use Rattle.std.specs.declared.cmp.Ordering.TheVariants.{Less, Equal, Greater}
 use Rattle.std.specs.BTreeMap.{insert_entry, is_at}
 use Rattle.rationals.specs.Rational.{ℚ}
-use Rattle.rationals.specs.Sparse.{Entry, Ascending, Ascending-weaker}
-use Rattle.rationals.specs.Forms.{find, pick, put_unless, is_zero, AllNonzero}
-use Rattle.rationals.proofs.Lowest.{num_zero}
-use Rattle.core_defs.specs.Terms.{terms_of, with_term, nonzero_terms}
+use Rattle.rationals.specs.Sparse.{Entry}
+use Rattle.rationals.specs.Forms.{find, pick}
+use Rattle.core_defs.specs.Terms.{terms_of, with_term}
 
 at_key : (row key : ℕ) → is_at (nat_cmp row) key ≡ (key == row)
 at_key row key = grind (arith, nat_tests)
@@ -39,16 +38,3 @@ insert_is (e ∷ es) row value none =
     let both : ((e.0 == row) ≡ false) × (find (terms_of es) row ≡ None) = none_here (e.0 == row) e.1 (find (terms_of es) row) none in
     let other : (row == e.0) ≡ false = grind (arith, nat_tests, both.0) in
     rw other (in_order (nat_lt row e.0) _ _ _ _ (ap (λ terms. record { column = e.0; value = e.1 } ∷ terms) (insert_is es row value both.1)))
-
-pub put_rises : (zero_ : Bool) (start row : ℕ) (value : ℚ) (terms : List Entry) → start ≤ row → Ascending (suc row) terms → Ascending start (put_unless zero_ row value terms)
-put_rises true start row value terms low rises = Ascending-weaker (suc row) start terms (omega arith) rises
-put_rises false start row value terms low rises = (low, rises)
-
-put_nonzero : (zero_ : Bool) (row : ℕ) (value : ℚ) (terms : List Entry) → is_zero value ≡ zero_ → AllNonzero terms → AllNonzero (put_unless zero_ row value terms)
-put_nonzero true row value terms is rest = rest
-put_nonzero false row value terms is rest =
-    (λ none. let yes : is_zero value ≡ true = ap (λ num. int_eq num (pos 0)) (num_zero value none) in absurd (cc), rest)
-
-pub terms_nonzero : (terms : List Entry) → AllNonzero (nonzero_terms terms)
-terms_nonzero [] = tt
-terms_nonzero (term ∷ terms) = put_nonzero (is_zero term.value) term.column term.value (nonzero_terms terms) refl (terms_nonzero terms)

@@ -4,10 +4,10 @@ use crate::keywords::{bound_kind, has_value};
 use crate::limits::{are_crossed, bounded, is_sudden};
 use crate::number::number_of;
 use crate::sets::choose;
-use crate::stop::Stop;
 use crate::values::{bounds_at, set_bounds};
 use core_defs::{BoundKind, Cause};
 use frac128::Frac;
+use reader_defs::Stop;
 use smps_words::Line;
 use std::alloc::AllocError;
 

@@ -2,10 +2,10 @@
 use crate::draft::Draft;
 use crate::number::{is_zero, number_of};
 use crate::places::{is_last, row_at};
-use crate::stop::Stop;
 use crate::values::first_bounds;
 use core_defs::{Cause, ColumnPart, RowPlace};
 use frac128::Frac;
+use reader_defs::Stop;
 use smps_words::Line;
 use std::alloc::AllocError;
 
@@ -26,6 +26,9 @@ impl Draft {
     #[tactic(auto, using(crate::proofs::PlaceLemmas::closed_lemmas), unfolding(core_defs::specs::Filed::closed))]
     pub(crate) fn close_column(&mut self) -> Result<(), AllocError>
         ensures closed { OnOk result (filed self.new ≡ closed (filed self.old)) }
+        // Nothing else changes.
+        ensures rest { OnOk result (filed self.new ≡ record (filed self.old)
+            { parts = self.new.parts.items; costs = self.new.costs; terms = self.new.terms }) }
         ensures names { OnOk result (self.new.names ≡ self.old.names) }
         ensures entries { OnOk result (self.new.entries ≡ self.old.entries) }
     {

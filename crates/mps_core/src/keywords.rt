@@ -33,30 +33,28 @@ macro_rules! bound_words {
 }
 
 /// The section with this code.
-fn section_at(code: u8) -> Option<Section>
+fn section_at(code: Option<u8>) -> Option<Section>
     ensures { result ≡ section_at code }
 {
     match code {
-        1 => Some(Section::Name),
-        2 => Some(Section::Rows),
-        3 => Some(Section::Columns),
-        4 => Some(Section::Rhs),
-        5 => Some(Section::Ranges),
-        6 => Some(Section::Bounds),
-        7 => Some(Section::End),
+        Some(1) => Some(Section::Name),
+        Some(2) => Some(Section::Rows),
+        Some(3) => Some(Section::Columns),
+        Some(4) => Some(Section::Rhs),
+        Some(5) => Some(Section::Ranges),
+        Some(6) => Some(Section::Bounds),
+        Some(7) => Some(Section::End),
         _ => None,
     }
 }
 
 /// The section that a header's first word names.
+#[tactic(auto, using(crate::proofs::KeywordLemmas::section_means))]
 pub(crate) fn section_of(word: &[u8]) -> Option<Section>
     ensures { result ≡ section_of word.now }
 {
     let words = section_words!();
-    match words.find(word) {
-        Some(code) => section_at(code),
-        None => None,
-    }
+    section_at(words.find(word))
 }
 
 /// The place in the order of sections.
@@ -90,29 +88,27 @@ pub(crate) fn use_of(word: &[u8]) -> Option<RowUse>
 }
 
 /// The kind of bounds with this code.
-fn bound_kind_at(code: u8) -> Option<BoundKind>
+fn bound_kind_at(code: Option<u8>) -> Option<BoundKind>
     ensures { result ≡ bound_kind_at code }
 {
     match code {
-        1 => Some(BoundKind::Lower),
-        2 => Some(BoundKind::Upper),
-        3 => Some(BoundKind::Fixed),
-        4 => Some(BoundKind::Free),
-        5 => Some(BoundKind::NoLower),
-        6 => Some(BoundKind::NoUpper),
+        Some(1) => Some(BoundKind::Lower),
+        Some(2) => Some(BoundKind::Upper),
+        Some(3) => Some(BoundKind::Fixed),
+        Some(4) => Some(BoundKind::Free),
+        Some(5) => Some(BoundKind::NoLower),
+        Some(6) => Some(BoundKind::NoUpper),
         _ => None,
     }
 }
 
 /// The kind of a line of BOUNDS.
+#[tactic(auto, using(crate::proofs::KeywordLemmas::bound_means))]
 pub(crate) fn bound_kind(word: &[u8]) -> Option<BoundKind>
     ensures { result ≡ bound_kind word.now }
 {
     let words = bound_words!();
-    match words.find(word) {
-        Some(code) => bound_kind_at(code),
-        None => None,
-    }
+    bound_kind_at(words.find(word))
 }
 
 /// Whether a line of this kind has a value.

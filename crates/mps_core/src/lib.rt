@@ -14,7 +14,6 @@ mod reading;
 mod rhs;
 mod rows;
 mod sets;
-mod stop;
 mod terms;
 mod values;
 mod whole;

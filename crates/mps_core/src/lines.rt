@@ -1,8 +1,8 @@
 //! Headers, and the lines of all sections.
 use crate::draft::Draft;
 use crate::keywords::{rank, section_of};
-use crate::stop::Stop;
 use core_defs::{Cause, Section};
+use reader_defs::Stop;
 use smps_words::Line;
 
 impl Draft {

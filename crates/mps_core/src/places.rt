@@ -7,6 +7,7 @@ use core_defs::RowPlace;
 use smps_words::Names;
 
 /// Whether the name is the last of the names.
+#[tactic(auto, using(crate::proofs::PlaceLemmas::last_is))]
 pub(crate) fn is_last(names: &Names, name: &[u8]) -> bool
     ensures { result ≡ is_named (last_of names.now) name.now }
 {

@@ -3,9 +3,9 @@ use crate::draft::Draft;
 use crate::number::number_of;
 use crate::places::row_at;
 use crate::sets::choose;
-use crate::stop::Stop;
 use crate::values::{state, stated};
 use core_defs::{Cause, RowPlace};
+use reader_defs::Stop;
 use smps_words::Line;
 use std::alloc::AllocError;
 

@@ -5,14 +5,12 @@ ghost use Rattle.core_defs.specs.Fault.{IsReadOrRefused};
 ghost use Rattle.core_defs.specs.Filed.{nothing_filed};
 ghost use Rattle.core_defs.specs.Means.{TextMeans};
 ghost use Rattle.core_defs.specs.Step.{filed_text};
-ghost use Rattle.core_defs.specs.declared.cause.Cause.TheVariants as cause;
-ghost use Rattle.core_defs.specs.declared.cause.ReadFail.TheVariants as fail;
 ghost use Rattle.mps_core.specs.View.{filed, FilesLines};
 
 use crate::draft::Draft;
-use crate::stop::Stop;
 use crate::whole::core_of;
-use core_defs::{Cause, Core, ReadFail, Refusal, Section};
+use core_defs::{Core, ReadFail, Section};
+use reader_defs::{missing, refused};
 use smps_words::Lines;
 use std::alloc::Global;
 
@@ -48,16 +46,6 @@ fn core_in(alloc: Global, draft: &mut Draft, text: &[u8]) -> Result<Core, ReadFa
     }
 }
 
-/// The line behind the last, where a section is missing.
-fn missing(lines: &Lines) -> ReadFail
-    ensures { result ≡ fail.Refused (record { line = lines.now.end_line; cause = cause.SectionMissing }) }
-{
-    ReadFail::Refused(Refusal {
-        line: lines.end_line(),
-        cause: Cause::SectionMissing,
-    })
-}
-
 /// Files the lines of a text up to ENDATA in a draft that is empty.
 fn file_lines(draft: &mut Draft, text: &[u8]) -> Result<(), ReadFail>
     requires empty { filed draft.old ≡ nothing_filed }
@@ -68,13 +56,7 @@ fn file_lines(draft: &mut Draft, text: &[u8]) -> Result<(), ReadFail>
     while let Some(line) = lines.next() {
         match draft.step(&line) {
             Ok(()) => {}
-            Err(Stop::Memory) => return Err(ReadFail::Memory),
-            Err(Stop::Fault(cause)) => {
-                return Err(ReadFail::Refused(Refusal {
-                    line: line.number,
-                    cause,
-                }));
-            }
+            Err(stop) => return Err(refused(line.number, stop)),
         }
         if draft.section == Section::End {
             if draft.has_columns {

@@ -3,10 +3,10 @@ use crate::draft::Draft;
 use crate::number::{is_zero, number_of};
 use crate::places::row_at;
 use crate::sets::choose;
-use crate::stop::Stop;
 use crate::values::{state, stated};
 use core_defs::{Cause, RowPlace};
 use frac128::Frac;
+use reader_defs::Stop;
 use smps_words::Line;
 use std::alloc::AllocError;
 

@@ -2,8 +2,8 @@
 use crate::draft::Draft;
 use crate::keywords::use_of;
 use crate::places::row_at;
-use crate::stop::Stop;
 use core_defs::{Cause, RowUse};
+use reader_defs::Stop;
 use smps_words::{Line, RowKind};
 use std::alloc::AllocError;
 

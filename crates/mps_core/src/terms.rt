@@ -1,5 +1,5 @@
 //! Values by the numbers of rows.
-ghost use Rattle.std.specs.Prelude.{◌≡◌, ◌++◌, suc, true, [], None, IfOk, OnOk};
+ghost use Rattle.std.specs.Prelude.{◌≡◌, ◌++◌, suc, true, [], None, IfOk, OnOk, reverse};
 ghost use Rattle.rationals.specs.Forms.{find, put};
 ghost use Rattle.rationals.specs.Sparse.{Ascending};
 ghost use Rattle.core_defs.specs.Terms.{terms_of, with_term, nonzero_terms};
@@ -33,11 +33,11 @@ impl Model for Terms {
     ghost invariant = { λ terms. Ascending 0 (terms_in terms.falling.items terms.values.entries) };
 }
 
-/// The value of a row among terms.
+/// The value of a row among terms that are looked at from the last on.
 fn value_among(terms: &[Term], row: u64) -> Option<Frac>
-    ensures { result ≡ find terms.now row }
+    ensures { result ≡ find (reverse terms.now) row }
 {
-    for term in terms {
+    for term in terms.iter().rev() {
         if term.column == row {
             return Some(term.value);
         }
@@ -45,6 +45,7 @@ fn value_among(terms: &[Term], row: u64) -> Option<Frac>
     None
 }
 
+#[tactic(auto, using(crate::proofs::FallingLemmas::keep_lemmas))]
 /// Puts terms in falling order, all below those of a map, into the map.
 fn keep_all(values: &mut BTreeMap<u64, Frac>, falling: Vec<Term>) -> Result<(), AllocError>
     requires { Ascending 0 (terms_in falling.items values.old.entries) }
@@ -68,13 +69,12 @@ fn put(terms: &mut Vec<Term>, term: Term) -> Result<(), AllocError>
 }
 
 /// The terms that aren't 0, in rising order.
-fn form_of(
+fn rising(
     alloc: Global,
     falling: Vec<Term>,
     values: BTreeMap<u64, Frac>,
-) -> Result<Form, AllocError>
-    requires { Ascending 0 (terms_in falling.items values.entries) }
-    ensures { IfOk result (λ form. form ≡ nonzero_terms (terms_in falling.items values.entries)) }
+) -> Result<Vec<Term>, AllocError>
+    ensures { IfOk result (λ terms. terms.items ≡ nonzero_terms (terms_in falling.items values.entries)) }
 {
     let (mut falling, mut values) = (falling, values);
     let mut terms = Vec::new(alloc);
@@ -84,7 +84,7 @@ fn form_of(
     while let Some((column, value)) = values.pop_first() {
         put(&mut terms, Term { column, value })?;
     }
-    Ok(Form::from_terms(alloc, terms))
+    Ok(terms)
 }
 
 impl Terms {
@@ -98,6 +98,7 @@ impl Terms {
     }
 
     /// The value of a row.
+    #[tactic(auto, using(crate::proofs::FallingLemmas::value_lemmas))]
     pub(crate) fn value(&self, row: u64) -> Option<Frac>
         ensures { result ≡ find self.now row }
     {
@@ -121,6 +122,7 @@ impl Terms {
     }
 
     /// Gives a row its value.
+    #[tactic(auto, using(crate::proofs::FallingLemmas::add_lemmas))]
     pub(crate) fn add(&mut self, alloc: Global, row: u64, value: Frac) -> Result<(), AllocError>
         requires { find self.old row ≡ None }
         ensures { OnOk result (self.new ≡ with_term row value self.old) }
@@ -144,12 +146,13 @@ impl Terms {
     }
 
     /// The values that aren't 0 as a form; afterwards there are none.
+    #[tactic(auto, using(core_defs::proofs::TermLemmas::nonzero_form))]
     pub(crate) fn take_form(&mut self, alloc: Global) -> Result<Form, AllocError>
         ensures form { IfOk result (λ form. form ≡ nonzero_terms self.old) }
         ensures none { OnOk result (self.new ≡ []) }
     {
         let falling = mem::replace(&mut self.falling, Vec::new(alloc));
         let values = mem::replace(&mut self.values, BTreeMap::new(alloc));
-        form_of(alloc, falling, values)
+        Ok(Form::from_terms(alloc, rising(alloc, falling, values)?))
     }
 }

@@ -100,6 +100,7 @@ fn name_of_set(alloc: Global, set: Option<Option<Name>>) -> Result<Name, AllocEr
 }
 
 /// The core of the lines that are filed; afterwards the draft holds them no more.
+#[tactic(auto, using(crate::proofs::WholeLemmas::core_lemmas))]
 pub(crate) fn core_of(alloc: Global, draft: &mut Draft) -> Result<Core, AllocError>
     requires { IsWhole (filed draft.old) }
     ensures { IfOk result (IsCoreOf (filed draft.old)) }

@@ -6,13 +6,14 @@ ghost use Rattle.stoch_defs.specs.Finish.{sum_from, is_near, divided_from, share
 ghost use Rattle.stoch_defs.specs.Finish.{blocks_from, stated_branch, branch_with, branches_with};
 ghost use Rattle.stoch_defs.specs.Random.{case_content, block_content, branch_content};
 ghost use Rattle.scenario_paths.specs.Paths.{node_stated};
-ghost use Rattle.smps_stoch.specs.View.{sets_in, cases_in, items_in, blocks_in, branches_in, Gives};
+ghost use Rattle.reader_defs.specs.Stops.{Gives};
+ghost use Rattle.smps_stoch.specs.View.{sets_in, cases_in, items_in, blocks_in, branches_in};
 
 use crate::draft::Draft;
 use crate::numbers::at_most;
-use crate::stop::Stop;
 use core_defs::Cause;
 use frac128::Frac;
+use reader_defs::Stop;
 use scenario_paths::{Paths, Scenario};
 use smps_words::{Entry, Name, Names};
 use std::alloc::{AllocError, Global};

@@ -2,7 +2,7 @@
 use Rattle.std.proofs.Common.{◌≡◌, ◌++◌, length}
 use Rattle.core_defs.specs.Terms.{nonzero_terms, terms_of}
 use Rattle.mps_core.specs.Falling.{terms_in}
-use Rattle.mps_core.proofs.terms.form_of.Given as goal
+use Rattle.mps_core.proofs.terms.rising.Given as goal
 
 abbrev pub invariant-loop-term : goal.invariant-loop-term
 invariant-loop-term l = l.terms.items ++ nonzero_terms (terms_in l.falling.items l.values.entries)
