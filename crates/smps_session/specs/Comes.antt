@@ -4,8 +4,10 @@ use Rattle.scen_defs.specs.Program.{Program, content}
 use Rattle.scen_defs.specs.declared.program.Program.{Program as ProgramOf}
 use Rattle.scen_defs.specs.declared.report.Finding.{Finding}
 use Rattle.scen_defs.specs.declared.report.Finding.TheVariants.{Optimal, Infeasible, Unbounded, OpenSolves, OpenPivots, OpenPassed}
-use Rattle.scen_defs.specs.declared.report.Place.TheVariants.{Cost}
+use Rattle.scen_defs.specs.declared.report.Place.TheVariants.{Solve, Cost}
 use Rattle.scen_defs.specs.declared.report.Report.{Report}
+use Rattle.rationals.specs.Passes.{Operation}
+use Rattle.node_lp.specs.declared.solved.Solved.TheVariants.{PivotsEnded, Passed}
 use Rattle.proved_report.specs.Reports.{IsClaimed}
 use Rattle.edit_defs.specs.declared.edit.Edit.{Edit}
 use Rattle.pass_core.specs.declared.budget.Budget.{Budget}
@@ -14,7 +16,7 @@ use Rattle.tree_method.specs.declared.method.Method.{Method}
 use Rattle.tree_method.specs.declared.method.Method.TheVariants.{Working as AtWork, Idle}
 use Rattle.tree_method.specs.declared.method.Working.{Working}
 use Rattle.tree_method.specs.Edited.{HasNoTree}
-use Rattle.tree_method.specs.Stands.{HasFewNodes, SolvesNodes, WorksBySolves, GoesOn, Begins, closing, is_spent, after_telling}
+use Rattle.tree_method.specs.Stands.{HasFewNodes, SolvesNodes, HasSolve, WorksBySolves, GoesOn, Begins, closing, is_spent, after_telling}
 
 -- left open by the number of solves
 abbrev pub tells_solves : Finding → Bool
@@ -40,10 +42,13 @@ ShowsFound budget program (AtWork old) (AtWork new) report = ShowsClosing budget
 ShowsFound budget program (AtWork old) (Idle why own) report = ⊥
 ShowsFound budget program (Idle why own) new report = new ≡ Idle why own
 
--- the report shows what is claimed behind solves; where it tells that so many solves were made, so many were counted since the report before
+-- The report shows what is claimed behind solves. Where it tells that so many solves were made, so many were counted since the report before;
+-- where it tells that the pivots of a solve ended, or of an operation of a solve, one of them has that number, and ended so.
 pub record ComesOfSolves (budget : Budget) (program : ProgramOf) (old new : State) (report : Report) : Type 0 where
   pub shows : ShowsClosing budget program old new report
   pub spent : (n : ℕ) → report.finding ≡ OpenSolves n → new.counts.since_report ≡ n
+  pub pivots : (k : ℕ) → report.finding ≡ OpenPivots k → HasSolve (content program) k PivotsEnded old new
+  pub passed : (k : ℕ) (o : Operation) → report.finding ≡ OpenPassed (Solve k) o → HasSolve (content program) k (Passed false o) old new
 
 -- a method at work comes to the report by its solves, and counts the next ones from 0; one that can't work stays as it is
 abbrev pub ComesOf : Budget → ProgramOf → Method → Report → Method → Type 0

@@ -3,3 +3,4 @@ pub mod Standing
 pub mod StandLemmas
 pub mod Counting
 pub mod Histories
+pub mod Numbers

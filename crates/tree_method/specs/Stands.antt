@@ -1,12 +1,14 @@
 -- On which program the method stands, why it leaves a report of it open, and how it goes on behind an edit.
-use Rattle.std.specs.Prelude.{◌≡◌, ◌⊎◌, ℕ, ◌<◌, ◌≤◌, leb, Bool, true, length, Option, None, Ok}
+use Rattle.std.specs.Prelude.{◌≡◌, ◌⊎◌, ℕ, ◌<◌, ◌≤◌, leb, Bool, true, length, Option, None, Some, Ok}
 use Rattle.rationals.specs.Passes.{Operation}
 use Rattle.scen_defs.specs.Program.{Program}
 use Rattle.scen_defs.specs.Valid.{IsProgram}
 use Rattle.scen_defs.specs.declared.report.Place.{Place}
 use Rattle.scen_defs.specs.declared.report.Place.TheVariants.{Cost}
 use Rattle.scen_tree.specs.Trees.{Tree, tree_walk}
+use Rattle.node_lp.specs.declared.solved.Solved.{Solved}
 use Rattle.node_lp.specs.declared.solved.Solved.TheVariants.{PivotsEnded}
+use Rattle.node_lp.specs.Told.{node_solved}
 use Rattle.proved_report.specs.declared.open.Open.{Open}
 use Rattle.proved_report.specs.declared.open.Open.TheVariants.{Solves, Pivots, Passed}
 use Rattle.run_data.specs.Frames.{frame_of}
@@ -18,7 +20,9 @@ use Rattle.pass_core.specs.declared.state.State.{State}
 use Rattle.pass_core.specs.Beginning.{IsBeginning, StartsOver}
 use Rattle.pass_core.specs.Counting.{no_commits, with_commit, after_report}
 use Rattle.pass_core.specs.Tabled.{IsTabled, IsTabledBy, GoesBySteps}
-use Rattle.pass_core.specs.Turns.{PointsStand, MakesStep}
+use Rattle.pass_core.specs.Reasons.{IsLasting}
+use Rattle.pass_core.specs.Turns.{PointsStand, SolvesNode, AreReady, MakesStep}
+use Rattle.run_ends.specs.declared.last.Lasts.{Lasts}
 use Rattle.run_ends.specs.declared.claims.Closed.{Closed}
 use Rattle.run_ends.specs.declared.settled.Settled.{Settled}
 use Rattle.run_ends.specs.Settled.{settled, why_open}
@@ -68,6 +72,11 @@ pub record TellsWhy (p : Program) (budget : Budget) (found : Found) : Type 0 whe
 pub record IsInBudget (s : State) : Type 0 where
   pub item : s.counts.since_item ≤ s.counts.since_report
   pub report : s.counts.since_report ≤ s.budget.solves
+
+-- where solves are counted from 0, no reason stops the method but one that lasts for the present run, or that it is stuck
+pub record IsRested (s : State) : Type 0 where
+  pub stop : (why : Open) → s.stop ≡ Some why → IsLasting why ⊎ (why ≡ Solves s.budget.solves)
+  pub lasting : (why : Open) → s.lasting ≡ Some why → IsLasting why
 
 -- at work on a program with this budget: the tree and the frame are the program's, there are versions of all its nodes, each reason
 -- that is kept is explained, and, where the program has no more nodes than a table has numbers for, no more solves are counted than are
@@ -119,6 +128,20 @@ WorksBySolves p (AtWork old) (AtWork new) = SolvesNodes p old.state new.state
 WorksBySolves p (AtWork old) (Idle why own) = ⊥
 WorksBySolves p (Idle why own) new = Unit {0}
 
+-- one of these solves is counted as number k of all, and comes to this
+pub record HasSolve (p : Program) (k : ℕ) (all : Solved) (old new : State) : Type 0 where
+  pub mid : State
+  pub machine : Machine
+  pub node : ℕ
+  pub next : State
+  pub before : SolvesNodes p old mid
+  pub lasts : Lasts
+  pub ready : AreReady mid lasts
+  pub solve : SolvesNode p (record mid { lasts = lasts }) machine node next
+  pub number : (with_commit mid.counts).all ≡ k
+  pub comes : node_solved solve.task ≡ all
+  pub behind : SolvesNodes p next new
+
 -- what is claimed of the program where nothing is left to find
 abbrev pub closing : State → Closed
 closing s = closed_by (settled_in s) s.ends (why_open s.stop s.budget.solves)
@@ -145,6 +168,11 @@ abbrev pub WorksAnew : Program → Method → Method → Type 0
 WorksAnew p (AtWork old) (AtWork new) = old.state.counts.since_report < old.state.budget.solves → SolvesAnew p old.state new.state
 WorksAnew p (AtWork old) (Idle why own) = ⊥
 WorksAnew p (Idle why own) new = new ≡ Idle why own
+
+-- a method at work is rested
+abbrev pub Rests : Method → Type 0
+Rests (AtWork w) = IsRested w.state
+Rests (Idle why own) = Unit {0}
 
 -- whether as many solves were made since the last report as are allowed; one that can't go on makes none
 abbrev pub is_spent : Method → Bool

@@ -1,0 +1,204 @@
+-- Each reason that stops the method is told of a solve, with its number.
+use Rattle.std.proofs.Common.{◌≡◌, ◌⊎◌, inl, inr, ℕ, Bool, false, Option, Some, None, IfSome, refl, sym, ap, subst, ◌∙◌}
+use Rattle.rationals.specs.Passes.{Operation}
+use Rattle.scen_defs.specs.Program.{Program}
+use Rattle.scen_defs.specs.declared.report.Place.{Place}
+use Rattle.scen_defs.specs.declared.report.Place.TheVariants.{Solve, Cut, Cost, Ground, Dual, Check}
+use Rattle.node_lp.specs.declared.solved.Solved.{Solved}
+use Rattle.node_lp.specs.declared.solved.Solved.TheVariants as solved
+use Rattle.node_lp.specs.Told.{node_solved}
+use Rattle.proved_report.specs.declared.open.Open.{Open}
+use Rattle.proved_report.specs.declared.open.Open.TheVariants.{Solves, Pivots, Passed}
+use Rattle.run_ends.specs.declared.last.Lasts.{Lasts}
+use Rattle.pass_table.specs.Machine.{Machine}
+use Rattle.pass_core.specs.declared.budget.Budget.{Budget}
+use Rattle.pass_core.specs.declared.state.State.{State}
+use Rattle.pass_core.specs.Beginning.{IsBeginning, StartsOver}
+use Rattle.pass_core.specs.Counting.{with_commit, after_report}
+use Rattle.pass_core.specs.Explained.{IsUnstopped}
+use Rattle.pass_core.specs.Reasons.{HasReason, IsAtSolve, IsOfSolve, IsOfOpening, IsLasting, GainsReasons}
+use Rattle.pass_core.specs.Turns.{SolvesNode, AreReady, MakesStep, begins_none, opens_run, solves}
+use Rattle.tree_method.specs.Stands.{IsRested, SolvesNodes, none, more, anew, HasSolve}
+use Rattle.tree_method.proofs.StandLemmas.{solves_behind}
+
+-- a reason is told of one of the solves between two states, if of a solve
+abbrev ArisesAt : Program → State → State → Operation → Place → Type 0
+ArisesAt p old new o (Solve k) = HasSolve p k (solved.Passed false o) old new
+ArisesAt p old new o (Cut k) = (all : Solved) × HasSolve p k all old new
+ArisesAt p old new o (Cost k) = (all : Solved) × HasSolve p k all old new
+ArisesAt p old new o Ground = Unit {0}
+ArisesAt p old new o Dual = ⊥
+ArisesAt p old new o Check = ⊥
+
+abbrev Arises : Program → State → State → Open → Type 0
+Arises p old new (Solves n) = Unit {0}
+Arises p old new (Pivots k) = HasSolve p k solved.PivotsEnded old new
+Arises p old new (Passed place o) = ArisesAt p old new o place
+
+gained : (Is : Open → Type 0) (a b : State) (why : Open) → GainsReasons Is a b → HasReason b why → HasReason a why ⊎ Is why
+gained Is a b why g (inl e) = g.stop why e
+gained Is a b why g (inr e) = go (g.lasting why e)
+  where
+    go : (a.lasting ≡ Some why) ⊎ (Is why × IsLasting why) → HasReason a why ⊎ Is why
+    go (inl l) = inl (inr l)
+    go (inr i) = inr i.0
+
+no_reason : (o : Option Open) (why : Open) → o ≡ None → o ≡ Some why → ⊥
+no_reason o why n e = let no : None ≡ Some why = sym n ∙ e in absurd (cc)
+
+module _ (p : Program) (old : State) where
+  -- more solves come behind
+  solve_longer : (k : ℕ) (all : Solved) (mid new : State) → SolvesNodes p mid new → HasSolve p k all old mid → HasSolve p k all old new
+  solve_longer k all mid new x h = record {
+    mid = h.mid;
+    machine = h.machine;
+    node = h.node;
+    next = h.next;
+    before = h.before;
+    lasts = h.lasts;
+    ready = h.ready;
+    solve = h.solve;
+    number = h.number;
+    comes = h.comes;
+    behind = solves_behind p h.next mid new h.behind x;
+  }
+
+  place_longer : (o : Operation) (place : Place) (mid new : State) → SolvesNodes p mid new → ArisesAt p old mid o place → ArisesAt p old new o place
+  place_longer o (Solve k) mid new x h = solve_longer k (solved.Passed false o) mid new x h
+  place_longer o (Cut k) mid new x h = (h.0, solve_longer k h.0 mid new x h.1)
+  place_longer o (Cost k) mid new x h = (h.0, solve_longer k h.0 mid new x h.1)
+  place_longer o Ground mid new x h = tt
+  place_longer o Dual mid new x h = h
+  place_longer o Check mid new x h = h
+
+  longer : (why : Open) (mid new : State) → SolvesNodes p mid new → Arises p old mid why → Arises p old new why
+  longer (Solves n) mid new x h = tt
+  longer (Pivots k) mid new x h = solve_longer k solved.PivotsEnded mid new x h
+  longer (Passed place o) mid new x h = place_longer o place mid new x h
+
+  -- a run that doesn't open
+  at_opening : (why : Open) (new : State) → IsOfOpening why → Arises p old new why
+  at_opening (Solves n) new h = tt
+  at_opening (Pivots k) new h = absurd h
+  at_opening (Passed place o) new h = subst (ArisesAt p old new o) (sym h) tt
+
+  -- the last solve
+  module _ (mid : State) (m : Machine) (lasts : Lasts) (n : ℕ) (new : State) (before : SolvesNodes p old mid) (ready : AreReady mid lasts)
+      (node : SolvesNode p (record mid { lasts = lasts }) m n new) where
+    here : (k : ℕ) (all : Solved) → k ≡ (with_commit mid.counts).all → node_solved node.task ≡ all → HasSolve p k all old new
+    here k all e c = record {
+      mid = mid;
+      machine = m;
+      node = n;
+      next = new;
+      before = before;
+      lasts = lasts;
+      ready = ready;
+      solve = node;
+      number = sym e;
+      comes = c;
+      behind = none;
+    }
+
+    place_here : (o : Operation) (place : Place) → IsAtSolve (with_commit mid.counts).all (node_solved node.task) o place → ArisesAt p old new o place
+    place_here o (Solve k) h = here k (solved.Passed false o) h.0 h.1
+    place_here o (Cut k) h = (node_solved node.task, here k (node_solved node.task) h refl)
+    place_here o (Cost k) h = (node_solved node.task, here k (node_solved node.task) h refl)
+    place_here o Ground h = absurd h
+    place_here o Dual h = h
+    place_here o Check h = h
+
+    at_solve : (why : Open) → IsOfSolve (with_commit mid.counts).all (node_solved node.task) why → Arises p old new why
+    at_solve (Solves k) h = tt
+    at_solve (Pivots k) h = here k solved.PivotsEnded h.0 h.1
+    at_solve (Passed place o) h = place_here o place h
+
+  step_arises : (why : Open) (mid new : State) (m : Machine) (told : Bool) → SolvesNodes p old mid → SolvesNodes p mid new → MakesStep p mid m new told
+      → (HasReason mid why → HasReason old why ⊎ Arises p old mid why) → HasReason new why → HasReason old why ⊎ Arises p old new why
+  step_arises why mid new m told before tail step rest h = go told step
+    where
+      kept : HasReason old why ⊎ Arises p old mid why → HasReason old why ⊎ Arises p old new why
+      kept (inl x) = inl x
+      kept (inr a) = inr (longer why mid new tail a)
+
+      opened : HasReason mid why ⊎ IsOfOpening why → HasReason old why ⊎ Arises p old new why
+      opened (inl x) = kept (rest x)
+      opened (inr i) = inr (at_opening why new i)
+
+      go : (b : Bool) → MakesStep p mid m new b → HasReason old why ⊎ Arises p old new why
+      go b (begins_none rests points reasons) = opened (gained IsOfOpening mid new why reasons h)
+      go b (opens_run closed opens points reasons) = opened (gained IsOfOpening mid new why reasons h)
+      go b (solves lasts n ready node) =
+          elim (gained (IsOfSolve (with_commit mid.counts).all (node_solved node.task)) (record mid { lasts = lasts; counts = with_commit mid.counts }) new why node.reasons h) [
+            | inl x ↦ kept (rest x)
+            | inr i ↦ inr (at_solve mid m lasts n new before ready node why i)
+          ]
+
+  arises : (new : State) (why : Open) → SolvesNodes p old new → HasReason new why → HasReason old why ⊎ Arises p old new why
+  arises new why none h = inl h
+  arises new why (more mid k m told y left t step) h =
+      step_arises why mid k m told y (more mid k m told none left t step) step (arises mid why y) h
+  arises new why (anew mid k y over) (inl e) = absurd (no_reason k.stop why over.beginning.stop e)
+  arises new why (anew mid k y over) (inr e) = absurd (no_reason k.lasting why over.beginning.lasting e)
+
+  step_lasts : (mid new : State) (m : Machine) (told : Bool) → MakesStep p mid m new told → ((why : Open) → mid.lasting ≡ Some why → IsLasting why)
+      → (why : Open) → new.lasting ≡ Some why → IsLasting why
+  step_lasts mid new m told step h why e = go told step
+    where
+      by : (Is : Open → Type 0) → (mid.lasting ≡ Some why) ⊎ (Is why × IsLasting why) → IsLasting why
+      by Is (inl l) = h why l
+      by Is (inr i) = i.1
+
+      go : (b : Bool) → MakesStep p mid m new b → IsLasting why
+      go b (begins_none rests points reasons) = by IsOfOpening (reasons.lasting why e)
+      go b (opens_run closed opens points reasons) = by IsOfOpening (reasons.lasting why e)
+      go b (solves lasts n ready node) = by (IsOfSolve (with_commit mid.counts).all (node_solved node.task)) (node.reasons.lasting why e)
+
+  -- what lasts for a run is told of a cut or of a cost
+  still_lasts : (new : State) → SolvesNodes p old new → ((why : Open) → old.lasting ≡ Some why → IsLasting why) → (why : Open) → new.lasting ≡ Some why
+      → IsLasting why
+  still_lasts new none h why e = h why e
+  still_lasts new (more mid k m told y left t step) h why e = step_lasts mid k m told step (still_lasts mid y h) why e
+  still_lasts new (anew mid k y over) h why e = absurd (no_reason k.lasting why over.beginning.lasting e)
+
+-- ---- where solves are counted from 0
+pub begins_rested : (p : Program) (budget : Budget) (s : State) → IsBeginning p budget s → IsRested s
+begins_rested p budget s b = record {
+  stop = λ why e. absurd (no_reason s.stop why b.stop e);
+  lasting = λ why e. absurd (no_reason s.lasting why b.lasting e);
+}
+
+pub edited_rested : (s : State) → IsUnstopped s → IsRested s
+edited_rested s u = record {
+  stop = λ why e. inr (subst (λ (o : Option Open). IfSome o (λ w. w ≡ Solves s.budget.solves)) e u.stop);
+  lasting = λ why e. absurd (no_reason s.lasting why u.lasting e);
+}
+
+pub told_rested : (p : Program) (old s : State) → SolvesNodes p old s → IsRested old → IsRested (record s { stop = s.lasting; counts = after_report s.counts })
+told_rested p old s x r = record {
+  stop = λ why e. inl (still_lasts p old s x r.lasting why e);
+  lasting = λ why e. still_lasts p old s x r.lasting why e;
+}
+
+-- the pivots of one of these solves ended, or an operation of it passes
+pub pivots_arise : (p : Program) (old new : State) (k : ℕ) → SolvesNodes p old new → IsRested old → new.stop ≡ Some (Pivots k)
+    → HasSolve p k solved.PivotsEnded old new
+pivots_arise p old new k x r e = go (arises p old new (Pivots k) x (inl e))
+  where
+    go : HasReason old (Pivots k) ⊎ HasSolve p k solved.PivotsEnded old new → HasSolve p k solved.PivotsEnded old new
+    go (inl (inl s)) = elim (r.stop (Pivots k) s) [ inl n ↦ absurd n | inr q ↦ absurd (cc) ]
+    go (inl (inr l)) = absurd (r.lasting (Pivots k) l)
+    go (inr h) = h
+
+pub pass_arises : (p : Program) (old new : State) (k : ℕ) (o : Operation) → SolvesNodes p old new → IsRested old → new.stop ≡ Some (Passed (Solve k) o)
+    → HasSolve p k (solved.Passed false o) old new
+pass_arises p old new k o x r e = go (arises p old new (Passed (Solve k) o) x (inl e))
+  where
+    lasts_not : IsLasting (Passed (Solve k) o) → ⊥
+    lasts_not (inl c) = let q = c.1 in absurd (cc)
+    lasts_not (inr c) = let q = c.1 in absurd (cc)
+
+    go : HasReason old (Passed (Solve k) o) ⊎ HasSolve p k (solved.Passed false o) old new → HasSolve p k (solved.Passed false o) old new
+    go (inl (inl s)) = elim (r.stop (Passed (Solve k) o) s) [ inl n ↦ absurd (lasts_not n) | inr q ↦ absurd (cc) ]
+    go (inl (inr l)) = absurd (lasts_not (r.lasting (Passed (Solve k) o) l))
+    go (inr h) = h
