@@ -8,11 +8,16 @@ use Rattle.scen_defs.specs.declared.program.Program.{Program}
 use Rattle.scen_defs.specs.declared.report.Finding.{Finding}
 use Rattle.scen_defs.specs.declared.report.Finding.TheVariants.{Optimal, Infeasible, Unbounded, OpenSolves, OpenPivots, OpenPassed}
 use Rattle.scen_defs.specs.declared.report.Place.{Place}
-use Rattle.scen_defs.specs.declared.report.Place.TheVariants.{Cost}
+use Rattle.scen_defs.specs.declared.report.Place.TheVariants.{Solve, Cost}
 use Rattle.scen_defs.specs.declared.report.Report.{Report}
 use Rattle.proved_report.specs.declared.claim.Claim.{Claim}
 use Rattle.proved_report.specs.declared.open.Open.{Open}
+use Rattle.proved_report.specs.declared.open.Open.TheVariants.{Pivots}
+use Rattle.proved_report.specs.Open.{given}
 use Rattle.proved_report.specs.Reports.{claimed_report, IsClaimed}
+use Rattle.proved_report.proofs.PassingLemmas.{by_claim}
+use Rattle.node_lp.specs.declared.solved.Solved.TheVariants.{PivotsEnded, Passed}
+use Rattle.rationals.specs.Passes.{Operation}
 use Rattle.pass_core.specs.declared.budget.Budget.{Budget}
 use Rattle.pass_core.specs.declared.state.Counts.{Counts}
 use Rattle.pass_core.specs.declared.state.State.{State}
@@ -21,8 +26,9 @@ use Rattle.tree_method.specs.declared.found.Found.{Found}
 use Rattle.tree_method.specs.declared.method.Method.{Method}
 use Rattle.tree_method.specs.declared.method.Method.TheVariants.{Working as AtWork, Idle}
 use Rattle.tree_method.specs.declared.method.Working.{Working}
-use Rattle.tree_method.specs.Stands.{HasFewNodes, StandsOn, Begins, SolvesNodes, none, more, anew, FindsBySolves, WorksAnew, SolvesAnew, WorksBySteps, is_spent, after_telling}
+use Rattle.tree_method.specs.Stands.{HasFewNodes, StandsOn, Begins, HasSolve, Rests, closing, FindsBySolves, WorksAnew, WorksBySteps, is_spent, after_telling}
 use Rattle.tree_method.proofs.StandLemmas.{more_counted, solves_behind}
+use Rattle.tree_method.proofs.Numbers.{pivots_arise, pass_arises, closing_pivots, closing_passed, told_rested}
 use Rattle.smps_session.specs.Reasons.{told_reasons}
 use Rattle.smps_session.specs.Comes.{tells_solves, is_unfinished, ShowsClosing, ShowsFound, ComesOf, ComesOfAll}
 
@@ -34,20 +40,23 @@ claimed_so program number solves place place' why why' claim claim' report n p w
 
 shows_one : (budget : Budget) (program : Program) (old new : Method) (found : Found) (number : ℕ) (report : Report)
     → FindsBySolves (content program) old new found → WorksBySteps (content program) old new → report.number ≡ number
-    → IsClaimed program number found.place found.why budget.solves found.claim report → ShowsFound budget program old new report
-shows_one budget program (AtWork old) (AtWork new) found number report f steps n c = record {
+    → IsClaimed program number found.place found.why budget.solves found.claim report
+    → IsTrue (view_of (content program)) (given found.why budget.solves) report → ShowsFound budget program old new report
+shows_one budget program (AtWork old) (AtWork new) found number report f steps n c t = record {
   solves = f.solves;
   claimed = claimed_so program number budget.solves found.place _ found.why _ found.claim _ report n f.place f.why f.claim c;
+  truth = subst (λ (why : Open). IsTrue (view_of (content program)) (given why budget.solves) report) f.why t;
 }
-shows_one budget program (AtWork old) (Idle why own) found number report f steps n c = f
-shows_one budget program (Idle why own) new found number report f steps n c = steps
+shows_one budget program (AtWork old) (Idle why own) found number report f steps n c t = f
+shows_one budget program (Idle why own) new found number report f steps n c t = steps
 
 pub shows_found : {E : Type 0} (budget : Budget) (program : Program) (old new : Method) (found : Found) (number : ℕ) (result : Result Report E)
     → FindsBySolves (content program) old new found → WorksBySteps (content program) old new → IfOk result (λ report. report.number ≡ number)
     → IfOk result (IsClaimed program number found.place found.why budget.solves found.claim)
+    → IfOk result (IsTrue (view_of (content program)) (given found.why budget.solves))
     → IfOk result (ShowsFound budget program old new)
-shows_found budget program old new found number (Ok report) f steps n c = shows_one budget program old new found number report f steps n c
-shows_found budget program old new found number (Err e) f steps n c = tt
+shows_found budget program old new found number (Ok report) f steps n c t = shows_one budget program old new found number report f steps n c t
+shows_found budget program old new found number (Err e) f steps n c t = tt
 
 -- ---- a program that is begun anew until its solves have ended
 -- so many solves at least are counted
@@ -96,6 +105,7 @@ round_counts budget program k (AtWork old) (AtWork mid) (AtWork next) (AtWork ne
       record {
         solves = solves_behind p old.state mid.state new.state shows.solves (solves_behind p mid.state next.state new.state anew.solves shows'.solves);
         claimed = shows'.claimed;
+        truth = shows'.truth;
       },
       omega (arith, counted, one, later.0),
     )
@@ -121,12 +131,13 @@ all_counted budget w finding n b e (inl ended) =
     omega (arith, spent, ap (λ (x : Budget). x.solves) b)
 
 pub comes_of : (budget : Budget) (program : Program) (old mid new : Method) (report : Report) → IsProgram (content program)
-    → HasFewNodes (content program) → StandsOn (content program) budget mid → IsTrue (view_of (content program)) (told_reasons program budget) report
+    → HasFewNodes (content program) → StandsOn (content program) budget mid → Rests old → IsTrue (view_of (content program)) (told_reasons program budget) report
     → ShowsFound budget program old mid report → HasEnded budget report.finding mid → new ≡ after_telling mid → ComesOf budget program old report new
-comes_of budget program (Idle why own) mid new report i few stands truth shows ended e =
+comes_of budget program (Idle why own) mid new report i few stands rests truth shows ended e =
     e ∙ ap after_telling shows
-comes_of budget program (AtWork old) (Idle why own) new report i few stands truth shows ended e = absurd shows
-comes_of budget program (AtWork old) (AtWork mid) new report i few stands truth shows ended e = (mid, (record { shows = shows; spent = spent }, e))
+comes_of budget program (AtWork old) (Idle why own) new report i few stands rests truth shows ended e = absurd shows
+comes_of budget program (AtWork old) (AtWork mid) new report i few stands rests truth shows ended e =
+    (mid, (record { shows = shows; spent = spent; pivots = pivots; passed = passed }, e))
   where
     told : (finding : Finding) (n : ℕ) → finding ≡ OpenSolves n → Explains (view_of (content program)) (told_reasons program budget) report finding → n ≡ budget.solves
     told finding n e t = subst (Explains (view_of (content program)) (told_reasons program budget) report) e t
@@ -137,6 +148,30 @@ comes_of budget program (AtWork old) (AtWork mid) new report i few stands truth 
         let all = all_counted budget mid report.finding n stands.budget_is f ended in
         let allowed : mid.state.budget.solves ≡ budget.solves = ap (λ (x : Budget). x.solves) stands.budget_is in
         omega (arith, within, all, allowed, told report.finding n f truth.finding)
+
+    pivots : (k : ℕ) → report.finding ≡ OpenPivots k → HasSolve (content program) k PivotsEnded old.state mid.state
+    pivots k f =
+        let why : (closing mid.state).why ≡ Pivots k =
+        subst (Explains (view_of (content program)) (given (closing mid.state).why budget.solves) report) f shows.truth.finding in
+        pivots_arise (content program) old.state mid.state k shows.solves rests (closing_pivots mid.state k why)
+
+    passed : (k : ℕ) (o : Operation) → report.finding ≡ OpenPassed (Solve k) o → HasSolve (content program) k (Passed false o) old.state mid.state
+    passed k o f =
+        let s = mid.state in
+        let because = by_claim program o (Solve k) s.counts.all report.number report.nodes report.scenarios budget.solves (closing s).why (closing s).claim
+        (sym (ap (λ (r : Report). r.finding) shows.claimed.is) ∙ f) in
+        elim because [
+          | inl w ↦ pass_arises (content program) old.state s k o shows.solves rests (closing_passed s k o w)
+          | inr t ↦ absurd t
+        ]
+
+-- and is rested behind it
+pub told_rests : (budget : Budget) (program : Program) (old mid new : Method) (report : Report) → Rests old → ShowsFound budget program old mid report
+    → new ≡ after_telling mid → Rests new
+told_rests budget program (Idle why own) mid new report rests shows e = subst Rests (sym (e ∙ ap after_telling shows)) tt
+told_rests budget program (AtWork old) (Idle why own) new report rests shows e = absurd shows
+told_rests budget program (AtWork old) (AtWork mid) new report rests shows e =
+    subst Rests (sym e) (told_rested (content program) old.state mid.state shows.solves rests)
 
 pub comes_of_all : {E : Type 0} (budget : Budget) (program : Program) (method next : Method) (result : Result Report E) → Begins (content program) budget method
     → IfOk result (λ report. ComesOf budget program method report next) → IfOk result (ComesOfAll budget program)

@@ -1,6 +1,6 @@
 -- How a report comes of the method: of its solves, of what it claims behind them, and of the test of that.
 use Rattle.std.specs.Prelude.{◌≡◌, ◌&&◌, ℕ, Bool, true, false, not}
-use Rattle.scen_defs.specs.Program.{Program, content}
+use Rattle.scen_defs.specs.Program.{Program, content, view_of}
 use Rattle.scen_defs.specs.declared.program.Program.{Program as ProgramOf}
 use Rattle.scen_defs.specs.declared.report.Finding.{Finding}
 use Rattle.scen_defs.specs.declared.report.Finding.TheVariants.{Optimal, Infeasible, Unbounded, OpenSolves, OpenPivots, OpenPassed}
@@ -8,6 +8,8 @@ use Rattle.scen_defs.specs.declared.report.Place.TheVariants.{Solve, Cost}
 use Rattle.scen_defs.specs.declared.report.Report.{Report}
 use Rattle.rationals.specs.Passes.{Operation}
 use Rattle.node_lp.specs.declared.solved.Solved.TheVariants.{PivotsEnded, Passed}
+use Rattle.report_defs.specs.Truth.{IsTrue}
+use Rattle.proved_report.specs.Open.{given}
 use Rattle.proved_report.specs.Reports.{IsClaimed}
 use Rattle.edit_defs.specs.declared.edit.Edit.{Edit}
 use Rattle.pass_core.specs.declared.budget.Budget.{Budget}
@@ -31,10 +33,12 @@ tells_solves (OpenPassed place o) = false
 abbrev pub is_unfinished : Finding → Method → Bool
 is_unfinished finding method = tells_solves finding && not (is_spent method)
 
--- what is claimed behind solves of the program's nodes is tested, and the report tells what was shown
+-- what is claimed behind solves of the program's nodes is tested, and the report tells what was shown, and is true for the reason that is
+-- claimed with it
 pub record ShowsClosing (budget : Budget) (program : ProgramOf) (old new : State) (report : Report) : Type 0 where
   pub solves : SolvesNodes (content program) old new
   pub claimed : IsClaimed program report.number (Cost new.counts.all) (closing new).why budget.solves (closing new).claim report
+  pub truth : IsTrue (view_of (content program)) (given (closing new).why budget.solves) report
 
 -- so a method at work finds what is reported
 abbrev pub ShowsFound : Budget → ProgramOf → Method → Method → Report → Type 0

@@ -18,7 +18,14 @@ use Rattle.pass_core.specs.Counting.{with_commit, after_report}
 use Rattle.pass_core.specs.Explained.{IsUnstopped}
 use Rattle.pass_core.specs.Reasons.{HasReason, IsAtSolve, IsOfSolve, IsOfOpening, IsLasting, GainsReasons}
 use Rattle.pass_core.specs.Turns.{SolvesNode, AreReady, MakesStep, begins_none, opens_run, solves}
-use Rattle.tree_method.specs.Stands.{IsRested, SolvesNodes, none, more, anew, HasSolve}
+use Rattle.edit_defs.specs.declared.edit.Edit.{Edit}
+use Rattle.edit_defs.specs.After.{after}
+use Rattle.run_ends.specs.Settled.{why_open}
+use Rattle.run_ends.specs.Claims.{IsReason}
+use Rattle.run_ends.proofs.Reasons.{closed_reason}
+use Rattle.tree_method.specs.declared.method.Method.{Method}
+use Rattle.tree_method.specs.declared.method.Method.TheVariants.{Working as AtWork, Idle}
+use Rattle.tree_method.specs.Stands.{HasFewNodes, IsRested, Begins, settled_in, closing, SolvesNodes, none, more, anew, HasSolve, Rests, GoesOn}
 use Rattle.tree_method.proofs.StandLemmas.{solves_behind}
 
 -- a reason is told of one of the solves between two states, if of a solve
@@ -202,3 +209,31 @@ pass_arises p old new k o x r e = go (arises p old new (Passed (Solve k) o) x (i
     go (inl (inl s)) = elim (r.stop (Passed (Solve k) o) s) [ inl n ↦ absurd (lasts_not n) | inr q ↦ absurd (cc) ]
     go (inl (inr l)) = absurd (lasts_not (r.lasting (Passed (Solve k) o) l))
     go (inr h) = h
+
+-- ---- what is claimed
+told_stop : (stop : Option Open) (n : ℕ) (told w : Open) → told ≡ w → ((m : ℕ) → w ≡ Solves m → ⊥) → told ≡ why_open stop n → stop ≡ Some w
+told_stop None n told w e unlike t = absurd (unlike n (sym e ∙ t))
+told_stop (Some f) n told w e unlike t = ap (λ (x : Open). Some x) (sym t ∙ e)
+
+stop_of : (s : State) (w : Open) → ((m : ℕ) → w ≡ Solves m → ⊥) → ((o : Operation) → w ≡ Passed Dual o → ⊥) → (closing s).why ≡ w → s.stop ≡ Some w
+stop_of s w unlike never e = go (closed_reason (settled_in s) s.ends (why_open s.stop s.budget.solves) (closing s) refl)
+  where
+    go : IsReason s.ends (why_open s.stop s.budget.solves) (closing s).why → s.stop ≡ Some w
+    go (inl t) = told_stop s.stop s.budget.solves (closing s).why w e unlike t
+    go (inr h) = absurd (never h.0 (sym e ∙ h.1))
+
+pub closing_pivots : (s : State) (k : ℕ) → (closing s).why ≡ Pivots k → s.stop ≡ Some (Pivots k)
+closing_pivots s k e = stop_of s (Pivots k) (λ m q. cc) (λ o q. cc) e
+
+pub closing_passed : (s : State) (k : ℕ) (o : Operation) → (closing s).why ≡ Passed (Solve k) o → s.stop ≡ Some (Passed (Solve k) o)
+closing_passed s k o e = stop_of s (Passed (Solve k) o) (λ m q. cc) (λ q r. cc) e
+
+-- ---- methods that are rested
+pub first_rests : (p : Program) (budget : Budget) (m : Method) → Begins p budget m → Rests m
+first_rests p budget (AtWork w) b = begins_rested p budget w.state b.1
+first_rests p budget (Idle why own) b = tt
+
+pub edited_rests : (p : Program) (e : Edit) (old new : Method) → GoesOn p e old new → HasFewNodes (after p e) → Rests new
+edited_rests p e (AtWork old) (AtWork new) g few = edited_rested new.state g.reasons
+edited_rests p e (AtWork old) (Idle why own) g few = tt
+edited_rests p e (Idle why own) new g few = first_rests (after p e) own new (g.1 few)

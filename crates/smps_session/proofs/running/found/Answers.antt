@@ -1,4 +1,5 @@
 use Rattle.scen_defs.specs.Program.{content}
+use Rattle.scen_defs.proofs.Valid.{programs_are_trees}
 use Rattle.tree_method.specs.Stands.{StandsOn}
 use Rattle.smps_session.proofs.ComeLemmas.{shows_found}
 use Rattle.smps_session.proofs.ReasonLemmas.{true_told}
@@ -29,3 +30,4 @@ pub returns-clause-shows : goal.returns-clause-shows
 returns-clause-shows c = λ i few stands.
     shows_found c.args.budget c.args.program.now c.args.method.now c.find.new.self c.in_ok-found.found c.args.number c.report.result
     (c.in_ok-found.ensures.solves c.args.budget i few stands) c.in_ok-found.ensures.steps c.report.ensures.number c.report.ensures.exact
+    (c.report.ensures.truth (programs_are_trees (content c.args.program.now) i).0)

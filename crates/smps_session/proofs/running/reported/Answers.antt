@@ -2,7 +2,7 @@ use Rattle.std.proofs.Common.{◌≡◌, ◌<◌, ◌^◌, false, inl, inr, refl
 use Rattle.scen_defs.specs.Program.{content}
 use Rattle.scen_defs.proofs.Valid.{programs_are_trees}
 use Rattle.tree_method.specs.Stands.{is_spent}
-use Rattle.smps_session.proofs.ComeLemmas.{first_counts, counts_fewer, left_over, round_counts, ended_by, comes_of}
+use Rattle.smps_session.proofs.ComeLemmas.{first_counts, counts_fewer, left_over, round_counts, ended_by, comes_of, told_rests}
 use Rattle.smps_session.proofs.running.reported.Goals as goal
 
 pub loop-init : goal.loop-init
@@ -44,13 +44,18 @@ pub returns-clause-stands : goal.returns-clause-stands
 returns-clause-stands c = λ small stands. c.close.ensures.stays (content c.args.program.now) c.args.budget (c.loop.invariant.stands small stands)
 
 pub returns-clause-comes : goal.returns-clause-comes
-returns-clause-comes c = λ i few stands.
+returns-clause-comes c = λ i few stands rests.
     let p = content c.args.program.now in
     let under = c.loop.invariant.under_way i few stands in
     comes_of c.args.budget c.args.program.now c.args.method.now c.loop.method c.close.new.self c.loop.report i few
-    (c.loop.invariant.stands i.small stands) (c.loop.invariant.truth i.small stands (programs_are_trees p i).0) under.0
+    (c.loop.invariant.stands i.small stands) rests (c.loop.invariant.truth i.small stands (programs_are_trees p i).0) under.0
     (elim c.loop-test.branch [
       | goal.else-loop-test way ↦ inr (counts_fewer c.loop.counter c.args.budget.solves c.loop.method (omega (arith, way.loop-test.false)) under.1)
       | goal.then-loop-test+then-not-is_unfinished way ↦
           inl (ended_by c.loop.report.finding c.loop.method way.is_unfinished.result way.is_unfinished.ensures way.if-not-is_unfinished.true)
     ]) c.close.ensures.after
+
+pub returns-clause-rests : goal.returns-clause-rests
+returns-clause-rests c = λ i few stands rests.
+    told_rests c.args.budget c.args.program.now c.args.method.now c.loop.method c.close.new.self c.loop.report rests
+    (c.loop.invariant.under_way i few stands).0 c.close.ensures.after
