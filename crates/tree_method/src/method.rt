@@ -1,6 +1,6 @@
 //! The nested method at work on a program.
-ghost use Rattle.std.specs.Prelude.{◌≡◌, ◌<◌, length, List, IfOk, OnOk};
-ghost use Rattle.scen_defs.specs.Program.{content};
+ghost use Rattle.std.specs.Prelude.{◌≡◌, ◌<◌, ℕ, length, List, IfOk, OnOk};
+ghost use Rattle.scen_defs.specs.Program.{content, Program as ProgramOf};
 ghost use Rattle.scen_defs.specs.Valid.{IsProgram, IsSmall};
 ghost use Rattle.run_data.specs.Frames.{frame_of};
 ghost use Rattle.pass_table.specs.Machine.{Machine};
@@ -8,7 +8,7 @@ ghost use Rattle.pass_table.specs.Marks.{nothing};
 ghost use Rattle.pass_core.specs.declared.budget.Budget.{Budget as BudgetOf};
 ghost use Rattle.edit_defs.specs.declared.edit.Edit.{Edit};
 ghost use Rattle.tree_method.specs.Edited.{IsTreeless};
-ghost use Rattle.tree_method.specs.Scripted.{AreToCome, HasHistory, IsInScript};
+ghost use Rattle.tree_method.specs.Scripted.{AreToCome, IsInHistory, IsInScript, IsFoundInHistory, FindsInScript};
 ghost use Rattle.pass_core.specs.Tabled.{IsTabledBy, GoesBySteps};
 ghost use Rattle.tree_method.specs.Stands.{WorksOn, StandsOn, WorksBySteps, TellsWhy};
 ghost use Rattle.tree_method.specs.Stands.{SolvesNodes, WorksBySolves, IsFoundBySolves, FindsBySolves};
@@ -61,8 +61,9 @@ impl Working {
             → IsTabledBy p self.old.state m → OnOk result (GoesBySteps p m self.new.state) }
         ensures solves { let p = content program.now in (budget : BudgetOf) → IsProgram p → length p.nodes < nothing
             → WorksOn p budget self.old → OnOk result (SolvesNodes p self.old.state self.new.state) }
-        ensures made { let p = content program.now in (budget : BudgetOf) (rest : List Edit)
-            → WorksOn p budget self.old → HasHistory p rest self.old.state → OnOk result (HasHistory p rest self.new.state) }
+        ensures made { let p = content program.now in (budget : BudgetOf) (first : ProgramOf) (edits rest : List Edit) (came : ℕ)
+            → WorksOn p budget self.old → IsInHistory first edits came p rest self.old.state
+            → OnOk result (IsInHistory first edits came p rest self.new.state) }
     {
         for _ in 0..u64::MAX {
             if self.state.is_ripe(work) || !self.state.advance(alloc, program, &self.tree)? {
@@ -82,8 +83,12 @@ impl Working {
             → IsTabledBy p self.old.state m → OnOk result (GoesBySteps p m self.new.state) }
         ensures solves { let p = content program.now in (budget : BudgetOf) → IsProgram p → length p.nodes < nothing
             → WorksOn p budget self.old → IfOk result (IsFoundBySolves p self.old.state self.new.state) }
-        ensures made { let p = content program.now in (budget : BudgetOf) (rest : List Edit)
-            → WorksOn p budget self.old → HasHistory p rest self.old.state → OnOk result (HasHistory p rest self.new.state) }
+        ensures made { let p = content program.now in (budget : BudgetOf) (first : ProgramOf) (edits rest : List Edit) (came : ℕ)
+            → WorksOn p budget self.old → IsInHistory first edits came p rest self.old.state
+            → OnOk result (IsInHistory first edits came p rest self.new.state) }
+        ensures claims { let p = content program.now in (budget : BudgetOf) (first : ProgramOf) (edits rest : List Edit) (came : ℕ)
+            → WorksOn p budget self.old → IsInHistory first edits came p rest self.old.state
+            → IfOk result (IsFoundInHistory first edits came p rest) }
     {
         self.run(alloc, program, ENDLESS)?;
         let place = Place::Cost(self.state.commits());
@@ -101,7 +106,7 @@ impl Method {
     pub fn begin(alloc: Global, program: &Program, budget: Budget) -> Result<Method, Memory>
         ensures stands { let p = content program.now in IsSmall p → IfOk result (StandsOn p budget) }
         // with any edits that are to come
-        ensures made { let p = content program.now in (rest : List Edit) → AreToCome p rest → IfOk result (IsInScript p rest) }
+        ensures made { let p = content program.now in (rest : List Edit) → AreToCome p rest → IfOk result (IsInScript p rest 0 p rest) }
     {
         if program.nodes.len() >= MANY {
             return Ok(Method::Idle(Open::Solves(budget.solves), budget));
@@ -125,8 +130,9 @@ impl Method {
         ensures solves { let p = content program.now in (budget : BudgetOf) → IsProgram p → length p.nodes < nothing
             → StandsOn p budget self.old → OnOk result (WorksBySolves p self.old self.new) }
         // in a script the method goes on in its history
-        ensures made { let p = content program.now in (budget : BudgetOf) (rest : List Edit)
-            → StandsOn p budget self.old → IsInScript p rest self.old → OnOk result (IsInScript p rest self.new) }
+        ensures made { let p = content program.now in (budget : BudgetOf) (first : ProgramOf) (edits rest : List Edit) (came : ℕ)
+            → StandsOn p budget self.old → IsInScript first edits came p rest self.old
+            → OnOk result (IsInScript first edits came p rest self.new) }
     {
         match self {
             Method::Working(working) => working.run(alloc, program, work),
@@ -145,8 +151,13 @@ impl Method {
         ensures solves { let p = content program.now in (budget : BudgetOf) → IsProgram p → length p.nodes < nothing
             → StandsOn p budget self.old → IfOk result (FindsBySolves p self.old self.new) }
         // in a script the method goes on in its history
-        ensures made { let p = content program.now in (budget : BudgetOf) (rest : List Edit)
-            → StandsOn p budget self.old → IsInScript p rest self.old → OnOk result (IsInScript p rest self.new) }
+        ensures made { let p = content program.now in (budget : BudgetOf) (first : ProgramOf) (edits rest : List Edit) (came : ℕ)
+            → StandsOn p budget self.old → IsInScript first edits came p rest self.old
+            → OnOk result (IsInScript first edits came p rest self.new) }
+        // and what it finds is claimed of a state in the history
+        ensures claims { let p = content program.now in (budget : BudgetOf) (first : ProgramOf) (edits rest : List Edit) (came : ℕ)
+            → StandsOn p budget self.old → IsInScript first edits came p rest self.old
+            → IfOk result (FindsInScript first edits came p rest self.old) }
     {
         match self {
             Method::Working(working) => working.find(alloc, program),

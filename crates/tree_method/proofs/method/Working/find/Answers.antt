@@ -37,8 +37,15 @@ returns-clause-solves c = λ budget i few w. record {
 }
 
 pub returns-clause-made : goal.returns-clause-made
-returns-clause-made c = λ budget rest w h.
+returns-clause-made c = λ budget first edits rest came w h.
     let e = c.in_ok-closed.ensures.state in
-    history_stays (content c.args.program.now) rest c.run.new.self.state c.close.new.self (ap (λ (s : State). s.versions) e)
+    history_stays first edits came (content c.args.program.now) rest c.run.new.self.state c.close.new.self (ap (λ (s : State). s.versions) e)
     (λ b i right. (same_made b c.run.new.self.state c.close.new.self (ap (λ (s : State). s.banks) e) (ap (λ (s : State). s.kind) e) (ap (λ (s : State). s.ends) e)).1)
-    (c.in_ok-run.ensures.made budget rest w h)
+    (c.in_ok-run.ensures.made budget first edits rest came w h)
+
+pub returns-clause-claims : goal.returns-clause-claims
+returns-clause-claims c = λ budget first edits rest came w h. record {
+  before = c.run.new.self.state;
+  history = c.in_ok-run.ensures.made budget first edits rest came w h;
+  claim = ap (λ (x : Closed). x.claim) c.in_ok-closed.ensures.claim;
+}
