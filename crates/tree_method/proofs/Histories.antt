@@ -55,7 +55,7 @@ pub still_to_come : (p : Program) (e : Edit) (rest : List Edit) → AreToCome p 
 still_to_come p e rest h = record {
   program = edits_keep_programs p e h.program h.apply.0;
   apply = h.apply.1;
-  widths = subst HasWidths (none_left rest) (widths_stay p (e ∷ rest) 1 h.program h.apply h.widths);
+  widths = λ l. subst HasWidths (none_left rest) (widths_stay p (e ∷ rest) 1 h.program h.apply (h.widths (omega arith)));
   few = let l : length (e ∷ rest) < 2 ^ 32 = h.few in omega (arith, l);
 }
   where
@@ -205,7 +205,7 @@ dues_have k p first es e versions is at h counts =
         let there : shift_of (after_edits k first es) e (suc (version touches_rows k first es s.node)) ≡ Some s =
         ap₂ (λ (x : Program) (v : ℕ). shift_of x e v) (sym is) (sym up) ∙ q in
         carried_of (bank_book bank (script_books first es)) bank t s
-        (subst (λ (x : Book). IsShift x (in_bank bank s)) (in_book bank first es) (shifts_are_the_books first es k e s bank h.program h.apply h.widths at there))
+        (subst (λ (x : Book). IsShift x (in_bank bank s)) (in_book bank first es) (shifts_are_the_books first es k e s bank h.program h.apply (h.widths (let within : k < length es = is_within k es e at in omega (arith, within))) at there))
 
 -- ---- behind an edit
 pub history_goes_on : (first : Program) (edits : List Edit) (came : ℕ) (p : Program) (e : Edit) (budget : Budget) (rest : List Edit) (old new : Working)

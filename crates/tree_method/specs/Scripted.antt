@@ -20,13 +20,13 @@ use Rattle.tree_method.specs.declared.method.Method.{Method}
 use Rattle.tree_method.specs.declared.method.Method.TheVariants.{Working as AtWork, Idle}
 use Rattle.tree_method.specs.Stands.{closing}
 
--- these edits are to come to a program: each applies to the program after those before it, rows with two finite ends have the widths of
--- their ranges, and 32 bits count the edits
+-- these edits are to come to a program: each applies to the program after those before it, 32 bits count them, and where there are any,
+-- rows with two finite ends have the widths of their ranges
 pub record AreToCome (p : Program) (es : List Edit) : Type 0 where
   pub program : IsProgram p
   pub apply : AllApply p es
-  pub widths : HasWidths p
   pub few : length es < 2 ^ 32
+  pub widths : 0 < length es → HasWidths p
 
 -- the versions of nodes are how many of the first k edits touched their parts
 abbrev pub CountTouches : ℕ → Program → List Edit → List Version → Type 0
