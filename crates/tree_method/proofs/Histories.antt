@@ -44,7 +44,7 @@ use Rattle.pass_core.proofs.MadeAfterEdits.{all_made_at_start, all_made_behind, 
 use Rattle.tree_method.specs.declared.method.Working.{Working}
 use Rattle.tree_method.specs.Edited.{is_grown, touches_of, dues_of, IsEdited}
 use Rattle.tree_method.specs.Stands.{WorksOn}
-use Rattle.tree_method.specs.Scripted.{AreToCome, CountTouches, HasHistory, HistoriesMakeSound}
+use Rattle.tree_method.specs.Scripted.{AreToCome, CountTouches, IsInHistory, HistoriesMakeSound}
 use Rattle.tree_method.proofs.Counting.{after_next, edit_at, is_within, version_most, counts_behind}
 
 -- ---- what is to come
@@ -56,7 +56,7 @@ pub still_to_come : (p : Program) (e : Edit) (rest : List Edit) → AreToCome p 
 still_to_come p e rest h = record {
   program = edits_keep_programs p e h.program h.apply.0;
   apply = h.apply.1;
-  widths = subst HasWidths (none_left rest) (widths_stay p (e ∷ rest) 1 h.program h.apply h.widths);
+  widths = λ l. subst HasWidths (none_left rest) (widths_stay p (e ∷ rest) 1 h.program h.apply (h.widths (omega arith)));
   few = let l : length (e ∷ rest) < 2 ^ 32 = h.few in omega (arith, l);
 }
   where
@@ -71,10 +71,10 @@ left_to_come (suc k) first [] h = h
 left_to_come zero first (e ∷ es) h = h
 left_to_come (suc k) first (e ∷ es) h = left_to_come k (after first e) es (still_to_come first e es h)
 
--- what a state with a history has to come
-pub has_to_come : (p : Program) (rest : List Edit) (s : State) → HasHistory p rest s → AreToCome p rest
-has_to_come p rest s h =
-    subst (λ (q : Program). AreToCome q rest) (sym h.program) (subst (AreToCome (after_edits h.came h.first h.edits)) (sym h.left) (left_to_come h.came h.first h.edits h.to_come))
+-- what is to come to a state in a history
+pub is_to_come : (first : Program) (edits : List Edit) (came : ℕ) (p : Program) (rest : List Edit) (s : State) → IsInHistory first edits came p rest s → AreToCome p rest
+is_to_come first edits came p rest s h =
+    subst (λ (q : Program). AreToCome q rest) (sym h.program) (subst (AreToCome (after_edits came first edits)) (sym h.left) (left_to_come came first edits h.to_come))
 
 -- ---- steps
 -- the books are right of the program
@@ -85,34 +85,29 @@ right_by kind k first es versions h counts n l =
     subst (λ (v : Version). IsRight (view_in kind (after_edits k first es)) (book kind first es) n v.rows v.costs) (sym (counts n))
     (node-right edits_keep_programs kind first es h.program h.apply k n l)
 
-books_are : (p : Program) (rest : List Edit) (s : State) (h : HasHistory p rest s) → AreBooksOf p s.versions (script_books h.first h.edits)
-books_are p rest s h = subst (λ (q : Program). AreBooksOf q s.versions (script_books h.first h.edits)) (sym h.program) (record {
-  plain = right_by run_kind.Cost h.came h.first h.edits s.versions h.to_come h.versions;
-  cone = right_by run_kind.Recession h.came h.first h.edits s.versions h.to_come h.versions;
+books_are : (first : Program) (edits : List Edit) (came : ℕ) (p : Program) (rest : List Edit) (s : State) → IsInHistory first edits came p rest s
+    → AreBooksOf p s.versions (script_books first edits)
+books_are first edits came p rest s h = subst (λ (q : Program). AreBooksOf q s.versions (script_books first edits)) (sym h.program) (record {
+  plain = right_by run_kind.Cost came first edits s.versions h.to_come h.versions;
+  cone = right_by run_kind.Recession came first edits s.versions h.to_come h.versions;
 })
 
 -- a step that keeps the versions, and all cuts made for books that are right
-pub history_stays : (p : Program) (rest : List Edit) (old new : State) → new.versions ≡ old.versions
+pub history_stays : (first : Program) (edits : List Edit) (came : ℕ) (p : Program) (rest : List Edit) (old new : State) → new.versions ≡ old.versions
     → ((b : BankBooks) → IsProgram p → AreBooksOf p old.versions b → CutsAreMade b old → CutsAreMade b new)
-    → HasHistory p rest old → HasHistory p rest new
-history_stays p rest old new e step h = record {
-  first = h.first;
-  edits = h.edits;
-  came = h.came;
+    → IsInHistory first edits came p rest old → IsInHistory first edits came p rest new
+history_stays first edits came p rest old new e step h = record {
   to_come = h.to_come;
   program = h.program;
   left = h.left;
-  versions = subst (CountTouches h.came h.first h.edits) (sym e) h.versions;
-  made = step (script_books h.first h.edits) (subst IsProgram (sym h.program) (program_at h.came h.first h.edits h.to_come)) (books_are p rest old h) h.made;
+  versions = subst (CountTouches came first edits) (sym e) h.versions;
+  made = step (script_books first edits) (subst IsProgram (sym h.program) (program_at came first edits h.to_come)) (books_are first edits came p rest old h) h.made;
 }
 
 -- before anything is done
 pub history_begins : (p : Program) (es : List Edit) (s : State) → AreToCome p es → ((n : ℕ) → version_of s.versions n ≡ record { rows = 0; costs = 0 })
-    → ((b : BankBooks) → CutsAreMade b s) → HasHistory p es s
+    → ((b : BankBooks) → CutsAreMade b s) → IsInHistory p es 0 p es s
 history_begins p es s h zeros made = record {
-  first = p;
-  edits = es;
-  came = 0;
   to_come = h;
   program = sym (none_yet es);
   left = all_left es;
@@ -136,13 +131,21 @@ history_begins p es s h zeros made = record {
     no_costs [] n = refl
     no_costs (e ∷ xs) n = refl
 
+-- what is to come to a state in a history
+pub comes_here : (first : Program) (edits : List Edit) (came : ℕ) (p : Program) (rest : List Edit) (s : State) → IsInHistory first edits came p rest s
+    → AreToCome p rest
+comes_here first edits came p rest s h =
+    subst (λ (q : Program). AreToCome q rest) (sym h.program) (subst (AreToCome (after_edits came first edits)) (sym h.left) (left_to_come came first edits h.to_come))
+
 -- begun anew, the history begins with the program as it is
-pub over_history : (p : Program) (rest : List Edit) (old new : State) → (new ≡ old) ⊎ StartsOver p old new → HasHistory p rest old → HasHistory p rest new
-over_history p rest old new (inl e) h = subst (HasHistory p rest) (sym e) h
-over_history p rest old new (inr o) h =
+pub over_history : (first : Program) (edits : List Edit) (came : ℕ) (p : Program) (rest : List Edit) (old new : State) → (new ≡ old) ⊎ StartsOver p old new
+    → IsInHistory first edits came p rest old → IsInHistory first edits came p rest new ⊎ IsInHistory p rest 0 p rest new
+over_history first edits came p rest old new (inl e) h = inl (subst (IsInHistory first edits came p rest) (sym e) h)
+over_history first edits came p rest old new (inr o) h =
     let b = o.beginning in
-    history_begins p rest new (has_to_come p rest old h) (λ n. ap (λ (vs : List Version). version_of vs n) b.versions ∙ never_touched (length p.nodes) n)
-    (λ books. all_made_at_start books new.kind new.banks new.ends (length p.nodes) b.pools b.ends)
+    inr (history_begins p rest new (comes_here first edits came p rest old h)
+    (λ n. ap (λ (vs : List Version). version_of vs n) b.versions ∙ never_touched (length p.nodes) n)
+    (λ books. all_made_at_start books new.kind new.banks new.ends (length p.nodes) b.pools b.ends))
 
 -- ---- the sweeps of an edit
 module _ (b : BankBooks) (shift : Option Shift) (has : (bank : Bank) (t : Touch) → IsShiftOf (bank_book bank b) (carried bank t shift)) where
@@ -219,33 +222,30 @@ dues_have k p first es e versions is at h counts =
         let there : shift_of (after_edits k first es) e (suc (version touches_rows k first es s.node)) ≡ Some s =
         ap₂ (λ (x : Program) (v : ℕ). shift_of x e v) (sym is) (sym up) ∙ q in
         carried_of (bank_book bank (script_books first es)) bank t s
-        (subst (λ (x : Book). IsShift x (in_bank bank s)) (in_book bank first es) (shifts_are_the_books first es k e s bank h.program h.apply h.widths at there))
+        (subst (λ (x : Book). IsShift x (in_bank bank s)) (in_book bank first es) (shifts_are_the_books first es k e s bank h.program h.apply (h.widths (let within : k < length es = is_within k es e at in omega (arith, within))) at there))
 
 -- ---- behind an edit
-pub history_goes_on : (p : Program) (e : Edit) (budget : Budget) (rest : List Edit) (old new : Working) → WorksOn p budget old → IsEdited p e old new
-    → HasHistory p (e ∷ rest) old.state → HasHistory (after p e) rest new.state
-history_goes_on p e budget rest old new w edited h =
-    let at = edit_at h.came h.edits e rest h.left in
-    let program : IsProgram p = subst IsProgram (sym h.program) (program_at h.came h.first h.edits h.to_come) in
-    let applies : Applies p e = (has_to_come p (e ∷ rest) old.state h).apply.0 in
+pub history_goes_on : (first : Program) (edits : List Edit) (came : ℕ) (p : Program) (e : Edit) (budget : Budget) (rest : List Edit) (old new : Working)
+    → WorksOn p budget old → IsEdited p e old new → IsInHistory first edits came p (e ∷ rest) old.state → IsInHistory first edits (suc came) (after p e) rest new.state
+history_goes_on first edits came p e budget rest old new w edited h =
+    let at = edit_at came edits e rest h.left in
+    let program : IsProgram p = subst IsProgram (sym h.program) (program_at came first edits h.to_come) in
+    let applies : Applies p e = (is_to_come first edits came p (e ∷ rest) old.state h).apply.0 in
     record {
-      first = h.first;
-      edits = h.edits;
-      came = suc h.came;
       to_come = h.to_come;
-      program = ap (λ (q : Program). after q e) h.program ∙ sym (after_next h.came h.first h.edits e at.0);
+      program = ap (λ (q : Program). after q e) h.program ∙ sym (after_next came first edits e at.0);
       left = at.1;
-      versions = subst (CountTouches (suc h.came) h.first h.edits) (sym edited.versions)
-          (counts_behind h.came p h.first h.edits e old.state.versions h.program at.0 h.to_come.few program applies w.versions h.versions);
-      made = all_made_behind (script_books h.first h.edits) (is_grown e) (after p e).nodes (dues_of p e old.state.versions) old.state.banks new.state
-          (dues_have h.came p h.first h.edits e old.state.versions h.program at.0 h.to_come h.versions) h.made.0 edited.pools edited.reasons;
+      versions = subst (CountTouches (suc came) first edits) (sym edited.versions)
+          (counts_behind came p first edits e old.state.versions h.program at.0 h.to_come.few program applies w.versions h.versions);
+      made = all_made_behind (script_books first edits) (is_grown e) (after p e).nodes (dues_of p e old.state.versions) old.state.banks new.state
+          (dues_have came p first edits e old.state.versions h.program at.0 h.to_come h.versions) h.made.0 edited.pools edited.reasons;
     }
 
 -- ---- what follows
 pub histories_make_sound : HistoriesMakeSound
-histories_make_sound p rest s h = record {
-  plain = each-map (λ pool made. pools_keep_what_is_made.sound (history run_kind.Cost h.first h.edits) (book run_kind.Cost h.first h.edits) pool
-      (scripts_make_books run_kind.Cost h.first h.edits h.to_come.program h.to_come.apply) made) s.banks.plain h.made.0.plain;
-  cone = each-map (λ pool made. pools_keep_what_is_made.sound (history run_kind.Recession h.first h.edits) (book run_kind.Recession h.first h.edits) pool
-      (scripts_make_books run_kind.Recession h.first h.edits h.to_come.program h.to_come.apply) made) s.banks.cone h.made.0.cone;
+histories_make_sound first edits came p rest s h = record {
+  plain = each-map (λ pool made. pools_keep_what_is_made.sound (history run_kind.Cost first edits) (book run_kind.Cost first edits) pool
+      (scripts_make_books run_kind.Cost first edits h.to_come.program h.to_come.apply) made) s.banks.plain h.made.0.plain;
+  cone = each-map (λ pool made. pools_keep_what_is_made.sound (history run_kind.Recession first edits) (book run_kind.Recession first edits) pool
+      (scripts_make_books run_kind.Recession first edits h.to_come.program h.to_come.apply) made) s.banks.cone h.made.0.cone;
 }

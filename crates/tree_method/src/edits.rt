@@ -1,6 +1,6 @@
 //! How the method goes on behind an edit of its program.
-ghost use Rattle.std.specs.Prelude.{◌≡◌, [], ◌∷◌, List, IfOk, IfNone, OnOk, MatchOption};
-ghost use Rattle.scen_defs.specs.Program.{content};
+ghost use Rattle.std.specs.Prelude.{◌≡◌, ℕ, [], ◌∷◌, List, IfOk, IfNone, OnOk, MatchOption};
+ghost use Rattle.scen_defs.specs.Program.{content, Program as ProgramOf};
 ghost use Rattle.scen_defs.specs.Valid.{IsProgram};
 ghost use Rattle.edit_defs.specs.After.{after};
 ghost use Rattle.edit_defs.specs.Limits.{counts};
@@ -16,7 +16,7 @@ ghost use Rattle.scen_defs.specs.Lists.{pick};
 ghost use Rattle.tree_method.specs.Edited.{is_grown, dues_of, fit_versions, KeepsTabled, IsEdited, HasNoTree};
 ghost use Rattle.edit_defs.specs.declared.edit.Edit.{Edit as EditOf};
 ghost use Rattle.tree_method.specs.Stands.{StandsOn, GoesOn, CarriesVersions};
-ghost use Rattle.tree_method.specs.Scripted.{IsInScript};
+ghost use Rattle.tree_method.specs.Scripted.{IsInScript, GoesOnInScript};
 
 use crate::method::{Method, Working, treeless};
 use cut_defs::Due;
@@ -138,9 +138,11 @@ impl Method {
             → OnOk result (StandsOn (content program.new) budget self.new) }
         ensures touches { (budget : BudgetOf) → StandsOn (content program.old) budget self.old
             → OnOk result (CarriesVersions (content program.old) edit.now self.old self.new) }
-        // where it is the next edit of a script, the method goes on in the history of that
-        ensures made { (budget : BudgetOf) (rest : List EditOf) → StandsOn (content program.old) budget self.old
-            → IsInScript (content program.old) (edit.now ∷ rest) self.old → OnOk result (IsInScript (content program.new) rest self.new) }
+        // where it is the next edit of a script, the method goes on in the history of that, or begins anew
+        ensures made { (budget : BudgetOf) (first : ProgramOf) (edits rest : List EditOf) (came : ℕ)
+            → StandsOn (content program.old) budget self.old
+            → IsInScript first edits came (content program.old) (edit.now ∷ rest) self.old
+            → OnOk result (GoesOnInScript first edits came (content program.new) rest self.new) }
     {
         match self {
             Method::Working(working) => {

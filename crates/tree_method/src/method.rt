@@ -1,5 +1,5 @@
 //! The nested method at work on a program.
-ghost use Rattle.std.specs.Prelude.{◌≡◌, ◌<◌, false, List, IfOk, OnOk};
+ghost use Rattle.std.specs.Prelude.{◌≡◌, ◌⊎◌, ◌<◌, ℕ, false, List, IfOk, OnOk};
 ghost use Rattle.scen_defs.specs.Program.{content, Program as ProgramOf};
 ghost use Rattle.scen_defs.specs.Valid.{IsProgram, IsSmall};
 ghost use Rattle.run_data.specs.Frames.{frame_of};
@@ -7,7 +7,7 @@ ghost use Rattle.pass_table.specs.Machine.{Machine};
 ghost use Rattle.pass_core.specs.declared.budget.Budget.{Budget as BudgetOf};
 ghost use Rattle.edit_defs.specs.declared.edit.Edit.{Edit};
 ghost use Rattle.tree_method.specs.Edited.{IsTreeless};
-ghost use Rattle.tree_method.specs.Scripted.{AreToCome, HasHistory, IsInScript};
+ghost use Rattle.tree_method.specs.Scripted.{AreToCome, IsInHistory, IsInScript, StaysInScript, IsFoundInHistory, FindsInScript};
 ghost use Rattle.pass_core.specs.Tabled.{IsTabledBy, GoesBySteps};
 ghost use Rattle.tree_method.specs.Stands.{HasFewNodes, WorksOn, StandsOn, Begins, WorksBySteps, TellsWhy};
 ghost use Rattle.tree_method.specs.Stands.{SolvesNodes, WorksBySolves, IsFoundBySolves, FindsBySolves};
@@ -61,8 +61,9 @@ impl Working {
             → IsTabledBy p self.old.state m → OnOk result (GoesBySteps p m self.new.state) }
         ensures solves { let p = content program.now in (budget : BudgetOf) → IsProgram p → HasFewNodes p
             → WorksOn p budget self.old → OnOk result (SolvesNodes p self.old.state self.new.state) }
-        ensures made { let p = content program.now in (budget : BudgetOf) (rest : List Edit)
-            → WorksOn p budget self.old → HasHistory p rest self.old.state → OnOk result (HasHistory p rest self.new.state) }
+        ensures made { let p = content program.now in (budget : BudgetOf) (first : ProgramOf) (edits rest : List Edit) (came : ℕ)
+            → WorksOn p budget self.old → IsInHistory first edits came p rest self.old.state
+            → OnOk result (IsInHistory first edits came p rest self.new.state) }
     {
         for _ in 0..u64::MAX {
             if self.state.is_ripe(work) || !self.state.advance(alloc, program, &self.tree)? {
@@ -82,8 +83,12 @@ impl Working {
             → IsTabledBy p self.old.state m → OnOk result (GoesBySteps p m self.new.state) }
         ensures solves { let p = content program.now in (budget : BudgetOf) → IsProgram p → HasFewNodes p
             → WorksOn p budget self.old → IfOk result (IsFoundBySolves p self.old.state self.new.state) }
-        ensures made { let p = content program.now in (budget : BudgetOf) (rest : List Edit)
-            → WorksOn p budget self.old → HasHistory p rest self.old.state → OnOk result (HasHistory p rest self.new.state) }
+        ensures made { let p = content program.now in (budget : BudgetOf) (first : ProgramOf) (edits rest : List Edit) (came : ℕ)
+            → WorksOn p budget self.old → IsInHistory first edits came p rest self.old.state
+            → OnOk result (IsInHistory first edits came p rest self.new.state) }
+        ensures claims { let p = content program.now in (budget : BudgetOf) (first : ProgramOf) (edits rest : List Edit) (came : ℕ)
+            → WorksOn p budget self.old → IsInHistory first edits came p rest self.old.state
+            → IfOk result (IsFoundInHistory first edits came p rest) }
     {
         self.run(alloc, program, ENDLESS)?;
         let closed = self.state.found(alloc)?;
@@ -102,8 +107,9 @@ impl Working {
         ensures solves { let p = content program.now in (budget : BudgetOf) → IsProgram p → HasFewNodes p
             → self.old.state.counts.since_report < self.old.state.budget.solves
             → WorksOn p budget self.old → OnOk result (SolvesAnew p self.old.state self.new.state) }
-        ensures made { let p = content program.now in (budget : BudgetOf) (rest : List Edit)
-            → WorksOn p budget self.old → HasHistory p rest self.old.state → OnOk result (HasHistory p rest self.new.state) }
+        ensures made { let p = content program.now in (budget : BudgetOf) (first : ProgramOf) (edits rest : List Edit) (came : ℕ)
+            → WorksOn p budget self.old → IsInHistory first edits came p rest self.old.state
+            → OnOk result (IsInHistory first edits came p rest self.new.state ⊎ IsInHistory p rest 0 p rest self.new.state) }
     {
         self.state.start_over(alloc, program)?;
         self.state.advance(alloc, program, &self.tree)?;
@@ -117,7 +123,7 @@ impl Method {
         ensures stands { let p = content program.now in IsSmall p → IfOk result (StandsOn p budget) }
         ensures begins { let p = content program.now in IsProgram p → HasFewNodes p → IfOk result (Begins p budget) }
         // with any edits that are to come
-        ensures made { let p = content program.now in (rest : List Edit) → AreToCome p rest → IfOk result (IsInScript p rest) }
+        ensures made { let p = content program.now in (rest : List Edit) → AreToCome p rest → IfOk result (IsInScript p rest 0 p rest) }
     {
         if program.nodes.len() >= MANY {
             return Ok(Method::Idle(Open::Solves(budget.solves), budget));
@@ -141,8 +147,9 @@ impl Method {
         ensures solves { let p = content program.now in (budget : BudgetOf) → IsProgram p → HasFewNodes p
             → StandsOn p budget self.old → OnOk result (WorksBySolves p self.old self.new) }
         // in a script the method goes on in its history
-        ensures made { let p = content program.now in (budget : BudgetOf) (rest : List Edit)
-            → StandsOn p budget self.old → IsInScript p rest self.old → OnOk result (IsInScript p rest self.new) }
+        ensures made { let p = content program.now in (budget : BudgetOf) (first : ProgramOf) (edits rest : List Edit) (came : ℕ)
+            → StandsOn p budget self.old → IsInScript first edits came p rest self.old
+            → OnOk result (IsInScript first edits came p rest self.new) }
     {
         match self {
             Method::Working(working) => working.run(alloc, program, work),
@@ -161,8 +168,13 @@ impl Method {
         ensures solves { let p = content program.now in (budget : BudgetOf) → IsProgram p → HasFewNodes p
             → StandsOn p budget self.old → IfOk result (FindsBySolves p self.old self.new) }
         // in a script the method goes on in its history
-        ensures made { let p = content program.now in (budget : BudgetOf) (rest : List Edit)
-            → StandsOn p budget self.old → IsInScript p rest self.old → OnOk result (IsInScript p rest self.new) }
+        ensures made { let p = content program.now in (budget : BudgetOf) (first : ProgramOf) (edits rest : List Edit) (came : ℕ)
+            → StandsOn p budget self.old → IsInScript first edits came p rest self.old
+            → OnOk result (IsInScript first edits came p rest self.new) }
+        // and what it finds is claimed of a state in the history
+        ensures claims { let p = content program.now in (budget : BudgetOf) (first : ProgramOf) (edits rest : List Edit) (came : ℕ)
+            → StandsOn p budget self.old → IsInScript first edits came p rest self.old
+            → IfOk result (FindsInScript first edits came p rest self.old) }
     {
         match self {
             Method::Working(working) => working.find(alloc, program),
@@ -186,9 +198,10 @@ impl Method {
             → is_spent self.old ≡ false → StandsOn p budget self.old → OnOk result (StandsOn p budget self.new) }
         ensures solves { let p = content program.now in (budget : BudgetOf) → IsProgram p → HasFewNodes p
             → StandsOn p budget self.old → OnOk result (WorksAnew p self.old self.new) }
-        // in a script the history begins anew
-        ensures made { let p = content program.now in (budget : BudgetOf) (rest : List Edit)
-            → StandsOn p budget self.old → IsInScript p rest self.old → OnOk result (IsInScript p rest self.new) }
+        // in a script the method stays in its history, or begins a new one
+        ensures made { let p = content program.now in (budget : BudgetOf) (first : ProgramOf) (edits rest : List Edit) (came : ℕ)
+            → StandsOn p budget self.old → IsInScript first edits came p rest self.old
+            → OnOk result (StaysInScript first edits came p rest self.new) }
     {
         match self {
             Method::Working(working) => working.start_over(alloc, program),
@@ -200,7 +213,8 @@ impl Method {
     pub fn close(&mut self)
         ensures after { self.new ≡ after_telling self.old }
         ensures stays { (p : ProgramOf) (budget : BudgetOf) → StandsOn p budget self.old → StandsOn p budget self.new }
-        ensures made { (p : ProgramOf) (rest : List Edit) → IsInScript p rest self.old → IsInScript p rest self.new }
+        ensures made { (first p : ProgramOf) (edits rest : List Edit) (came : ℕ)
+            → IsInScript first edits came p rest self.old → IsInScript first edits came p rest self.new }
     {
         match self {
             Method::Working(working) => working.state.close(),

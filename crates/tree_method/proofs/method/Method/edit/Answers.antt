@@ -1,4 +1,4 @@
-use Rattle.std.proofs.Common.{◌∷◌, rules, sym, subst}
+use Rattle.std.proofs.Common.{◌∷◌, suc, rules, sym, subst, inl, inr}
 use Rattle.scen_defs.specs.Program.{content}
 use Rattle.script_steps.proofs.StepLemmas.{edit_applies}
 use Rattle.tree_method.specs.declared.method.Method.{Method}
@@ -8,8 +8,8 @@ use Rattle.tree_method.specs.Edited.{is_grown, KeepsTabled, IsEdited}
 use Rattle.tree_method.specs.Stands.{StandsOn, CarriesVersions}
 use Rattle.tree_method.proofs.StandLemmas.{works_on, touches_carry}
 use Rattle.scen_defs.specs.Program.{Program}
-use Rattle.tree_method.specs.Scripted.{AreToCome, HasHistory, IsInScript}
-use Rattle.tree_method.proofs.Histories.{history_goes_on, has_to_come, still_to_come}
+use Rattle.tree_method.specs.Scripted.{AreToCome, IsInHistory, IsInScript}
+use Rattle.tree_method.proofs.Histories.{history_goes_on, is_to_come, still_to_come}
 use Rattle.tree_method.proofs.method.Method.edit.Goals as goal
 
 pub returns-in_default-clause-stands : goal.returns-in_default-clause-stands
@@ -30,23 +30,25 @@ returns-in_default-clause-touches c = λ budget s.
     (subst (StandsOn p budget) c.in-Working.is s) edited)
 
 pub returns-in_default-clause-made : goal.returns-in_default-clause-made
-returns-in_default-clause-made c = λ budget rest s h.
+returns-in_default-clause-made c = λ budget first edits rest came s h.
     let p = content c.args.program.now in
     let e = c.args.edit.now in
     let edited : IsEdited p e c.in-Working.working c.edit.new.self = search rules in
-    subst (λ (q : Program). HasHistory q rest c.edit.new.self.state) (sym c.in_ok-why-in-Working.ensures.after)
-    (history_goes_on p e budget rest c.in-Working.working c.edit.new.self (subst (StandsOn p budget) c.in-Working.is s) edited (subst (IsInScript p (e ∷ rest)) c.in-Working.is h))
+    inl (subst (λ (q : Program). IsInHistory first edits (suc came) q rest c.edit.new.self.state) (sym c.in_ok-why-in-Working.ensures.after)
+    (history_goes_on first edits came p e budget rest c.in-Working.working c.edit.new.self (subst (StandsOn p budget) c.in-Working.is s) edited
+    (subst (IsInScript first edits came p (e ∷ rest)) c.in-Working.is h)))
 
 pub returns-in-Some-clause-made : goal.returns-in-Some-clause-made
-returns-in-Some-clause-made c = λ budget rest s h.
+returns-in-Some-clause-made c = λ budget first edits rest came s h.
     let p = content c.args.program.now in
     let e = c.args.edit.now in
-    subst (λ (q : Program). AreToCome q rest) (sym c.in_ok-why-in-Working.ensures.after)
-    (still_to_come p e rest (has_to_come p (e ∷ rest) c.in-Working.working.state (subst (IsInScript p (e ∷ rest)) c.in-Working.is h)))
+    inl (subst (λ (q : Program). AreToCome q rest) (sym c.in_ok-why-in-Working.ensures.after)
+    (still_to_come p e rest (is_to_come first edits came p (e ∷ rest) c.in-Working.working.state (subst (IsInScript first edits came p (e ∷ rest)) c.in-Working.is h))))
 
 pub returns-in_ok-self-in-Idle-clause-made : goal.returns-in_ok-self-in-Idle-clause-made
-returns-in_ok-self-in-Idle-clause-made c = λ budget rest s h.
+returns-in_ok-self-in-Idle-clause-made c = λ budget first edits rest came s h.
     let p = content c.args.program.now in
     let e = c.args.edit.now in
-    c.in_ok-self-in-Idle.ensures.made rest
-    (subst (λ (q : Program). AreToCome q rest) (sym c.in_ok-applied-in-Idle.ensures.after) (still_to_come p e rest (subst (IsInScript p (e ∷ rest)) c.in-Idle.is h)))
+    inr (c.in_ok-self-in-Idle.ensures.made rest
+    (subst (λ (q : Program). AreToCome q rest) (sym c.in_ok-applied-in-Idle.ensures.after)
+    (still_to_come p e rest (subst (IsInScript first edits came p (e ∷ rest)) c.in-Idle.is h))))

@@ -3,6 +3,7 @@ use Rattle.scen_defs.specs.Program.{Program, content}
 use Rattle.tree_method.specs.declared.method.Method.{Method}
 use Rattle.tree_method.specs.declared.method.Method.TheVariants.{Working as AtWork}
 use Rattle.tree_method.specs.Stands.{StandsOn, FindsBySolves}
+use Rattle.tree_method.specs.Scripted.{IsInScript, FindsInScript}
 use Rattle.tree_method.proofs.method.Method.find.Goals as goal
 
 pub returns-in-Working-clause-solves : goal.returns-in-Working-clause-solves
@@ -10,3 +11,9 @@ returns-in-Working-clause-solves c = λ budget i few s.
     let p : Program = content c.args.program.now in
     subst (λ (m : Method). IfOk c.find.result (FindsBySolves p m (AtWork c.find.new.self))) (sym c.in-Working.is)
     (c.find.ensures.solves budget i few (subst (StandsOn p budget) c.in-Working.is s))
+
+pub returns-in-Working-clause-claims : goal.returns-in-Working-clause-claims
+returns-in-Working-clause-claims c = λ budget first edits rest came s h.
+    let p : Program = content c.args.program.now in
+    subst (λ (m : Method). IfOk c.find.result (FindsInScript first edits came p rest m)) (sym c.in-Working.is)
+    (c.find.ensures.claims budget first edits rest came (subst (StandsOn p budget) c.in-Working.is s) (subst (IsInScript first edits came p rest) c.in-Working.is h))

@@ -13,6 +13,6 @@ returns-in-Working-clause-solves c = λ budget i few s.
     (c.run.ensures.solves budget i few (subst (StandsOn p budget) c.in-Working.is s))
 
 pub returns-in-Working-clause-made : goal.returns-in-Working-clause-made
-returns-in-Working-clause-made c = λ budget rest s h.
+returns-in-Working-clause-made c = λ budget first edits rest came s h.
     let p : Program = content c.args.program.now in
-    c.run.ensures.made budget rest (subst (StandsOn p budget) c.in-Working.is s) (subst (IsInScript p rest) c.in-Working.is h)
+    c.run.ensures.made budget first edits rest came (subst (StandsOn p budget) c.in-Working.is s) (subst (IsInScript first edits came p rest) c.in-Working.is h)

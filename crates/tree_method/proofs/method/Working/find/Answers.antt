@@ -18,3 +18,10 @@ returns-clause-solves c = λ budget i few w. record {
   why = ap (λ (x : Closed). x.why) c.in_ok-closed.ensures.claim;
   place = ap Cost c.commits.ensures;
 }
+
+pub returns-clause-claims : goal.returns-clause-claims
+returns-clause-claims c = λ budget first edits rest came w h. record {
+  before = c.run.new.self.state;
+  history = c.in_ok-run.ensures.made budget first edits rest came w h;
+  claim = ap (λ (x : Closed). x.claim) c.in_ok-closed.ensures.claim;
+}

@@ -5,13 +5,13 @@ use Rattle.pass_core.proofs.Tabling.{goes_further, goes_nowhere}
 use Rattle.tree_method.specs.declared.method.Working.{Working}
 use Rattle.tree_method.specs.Stands.{WorksOn, settled_in, SolvesNodes, none}
 use Rattle.tree_method.proofs.StandLemmas.{works_still, step_tabled, steps_points, goes_on, not_ripe, step_in_budget, solves_more}
-use Rattle.tree_method.specs.Scripted.{HasHistory}
+use Rattle.tree_method.specs.Scripted.{IsInHistory}
 use Rattle.tree_method.proofs.Histories.{history_stays}
 use Rattle.tree_method.proofs.method.Working.run.Goals as goal
 use Rattle.tree_method.proofs.method.Working.run.Goals.{then-is_ripe-via-then-is_ripe, then-is_ripe-via-else-is_ripe+in_ok-advance+then-not-branch}
 
 pub loop-init : goal.loop-init
-loop-init c = ((λ budget w. w), (λ m i f h. (goes_nowhere (content c.args.program.now) m c.args.self.now.state h, f)), (λ budget i few w. none), (λ budget rest w h. h))
+loop-init c = ((λ budget w. w), (λ m i f h. (goes_nowhere (content c.args.program.now) m c.args.self.now.state h, f)), (λ budget i few w. none), (λ budget first edits rest came w h. h))
 
 pub loop-preserved : goal.loop-preserved
 loop-preserved c =
@@ -28,10 +28,10 @@ loop-preserved c =
           (goes_further p m c.loop.self.state new.state _ before.0 (λ j. c.in_ok-advance.ensures.tabled j i before.1), c.in_ok-advance.ensures.explained.0 ∙ before.1)),
       (λ budget i few w. solves_more p budget c.args.self.now.state c.loop.self new.state _ i few (c.loop.invariant.0 budget w) (c.loop.invariant.2 budget i few w)
           (λ m. c.in_ok-advance.ensures.solves m i) open_yet),
-      (λ budget rest w h.
+      (λ budget first edits rest came w h.
           let works = c.loop.invariant.0 budget w in
-          history_stays p rest c.loop.self.state new.state c.in_ok-advance.ensures.explained.2
-          (λ b i right made. c.in_ok-advance.ensures.made b i works.tree works.frame right made) (c.loop.invariant.3 budget rest w h)),
+          history_stays first edits came p rest c.loop.self.state new.state c.in_ok-advance.ensures.explained.2
+          (λ b i right made. c.in_ok-advance.ensures.made b i works.tree works.frame right made) (c.loop.invariant.3 budget first edits rest came w h)),
     )
 
 pub returns-then-is_ripe-clause-stays : goal.returns-then-is_ripe-clause-stays
@@ -76,13 +76,13 @@ returns-then-is_ripe-clause-solves c = elim c.then-is_ripe.branch [
 
 pub returns-then-is_ripe-clause-made : goal.returns-then-is_ripe-clause-made
 returns-then-is_ripe-clause-made c = elim c.then-is_ripe.branch [
-  | then-is_ripe-via-then-is_ripe way ↦ λ budget rest w h.
-      subst (λ (working : Working). HasHistory (content c.args.program.now) rest working.state) (sym way.self-is) (c.loop.invariant.3 budget rest w h)
-  | then-is_ripe-via-else-is_ripe+in_ok-advance+then-not-branch way ↦ λ budget rest w h.
+  | then-is_ripe-via-then-is_ripe way ↦ λ budget first edits rest came w h.
+      subst (λ (working : Working). IsInHistory first edits came (content c.args.program.now) rest working.state) (sym way.self-is) (c.loop.invariant.3 budget first edits rest came w h)
+  | then-is_ripe-via-else-is_ripe+in_ok-advance+then-not-branch way ↦ λ budget first edits rest came w h.
       let p = content c.args.program.now in
       let new : Working = record { state = way.advance.new.self; tree = c.loop.self.tree } in
       let works = c.loop.invariant.0 budget w in
-      subst (λ (working : Working). HasHistory p rest working.state) (sym way.self-is)
-      (history_stays p rest c.loop.self.state new.state way.in_ok-advance.ensures.explained.2
-      (λ b i right made. way.in_ok-advance.ensures.made b i works.tree works.frame right made) (c.loop.invariant.3 budget rest w h))
+      subst (λ (working : Working). IsInHistory first edits came p rest working.state) (sym way.self-is)
+      (history_stays first edits came p rest c.loop.self.state new.state way.in_ok-advance.ensures.explained.2
+      (λ b i right made. way.in_ok-advance.ensures.made b i works.tree works.frame right made) (c.loop.invariant.3 budget first edits rest came w h))
 ]

@@ -1,7 +1,7 @@
-use Rattle.std.proofs.Common.{◌≡◌, ◌<◌, List, length}
+use Rattle.std.proofs.Common.{◌≡◌, ℕ, ◌<◌, List, length}
 use Rattle.edit_defs.specs.declared.edit.Edit.{Edit}
-use Rattle.tree_method.specs.Scripted.{HasHistory}
-use Rattle.scen_defs.specs.Program.{content}
+use Rattle.tree_method.specs.Scripted.{IsInHistory}
+use Rattle.scen_defs.specs.Program.{Program, content}
 use Rattle.scen_defs.specs.Valid.{IsProgram}
 use Rattle.run_data.specs.Frames.{frame_of}
 use Rattle.pass_table.specs.Machine.{Machine}
@@ -18,5 +18,5 @@ invariant-loop l = ((budget : Budget) → WorksOn (content l.program) budget l.f
     → GoesBySteps (content l.program) m l.self.state × (l.self.state.frame ≡ frame_of (content l.program)))
     × ((budget : Budget) → IsProgram (content l.program) → length (content l.program).nodes < nothing → WorksOn (content l.program) budget l.fn.self
     → SolvesNodes (content l.program) l.fn.self.state l.self.state)
-    × ((budget : Budget) (rest : List Edit) → WorksOn (content l.program) budget l.fn.self → HasHistory (content l.program) rest l.fn.self.state
-    → HasHistory (content l.program) rest l.self.state)
+    × ((budget : Budget) (first : Program) (edits rest : List Edit) (came : ℕ) → WorksOn (content l.program) budget l.fn.self
+    → IsInHistory first edits came (content l.program) rest l.fn.self.state → IsInHistory first edits came (content l.program) rest l.self.state)

@@ -1,8 +1,8 @@
-use Rattle.std.proofs.Common.{refl}
+use Rattle.std.proofs.Common.{inl, inr, refl}
 use Rattle.scen_defs.specs.Program.{content}
 use Rattle.tree_method.specs.declared.method.Working.{Working}
 use Rattle.tree_method.proofs.StandLemmas.{over_stands, same_left, works_still, step_tabled, steps_points, step_in_budget, solves_anew}
-use Rattle.tree_method.proofs.Histories.{has_to_come, history_stays, over_history}
+use Rattle.tree_method.proofs.Histories.{comes_here, history_stays, over_history}
 use Rattle.tree_method.proofs.method.Working.start_over.Goals as goal
 
 pub returns-clause-stays : goal.returns-clause-stays
@@ -28,11 +28,14 @@ returns-clause-solves c = λ budget i few left w.
     (λ m t. c.in_ok-advance.ensures.solves m i over.tree over.frame t (over.points i few))
 
 pub returns-clause-made : goal.returns-clause-made
-returns-clause-made c = λ budget rest w h.
+returns-clause-made c = λ budget first edits rest came w h.
     let p = content c.args.program.now in
     let mid : Working = record { state = c.start_over.new.self; tree = c.args.self.now.tree } in
-    let come = has_to_come p rest c.args.self.now.state h in
-    let over = c.in_ok-start_over.ensures.over come.program.small in
+    let over = c.in_ok-start_over.ensures.over (comes_here first edits came p rest c.args.self.now.state h).program.small in
     let works = over_stands p budget mid.tree c.args.self.now.state mid.state over c.in_ok-start_over.ensures.tabled w in
-    history_stays p rest mid.state c.advance.new.self c.in_ok-advance.ensures.explained.2
-    (λ b i right made. c.in_ok-advance.ensures.made b i works.tree works.frame right made) (over_history p rest c.args.self.now.state mid.state over h)
+    elim (over_history first edits came p rest c.args.self.now.state mid.state over h) [
+      | inl k ↦ inl (history_stays first edits came p rest mid.state c.advance.new.self c.in_ok-advance.ensures.explained.2
+          (λ b i right made. c.in_ok-advance.ensures.made b i works.tree works.frame right made) k)
+      | inr k ↦ inr (history_stays p rest 0 p rest mid.state c.advance.new.self c.in_ok-advance.ensures.explained.2
+          (λ b i right made. c.in_ok-advance.ensures.made b i works.tree works.frame right made) k)
+    ]
