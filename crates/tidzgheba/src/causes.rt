@@ -12,8 +12,9 @@ pub fn sentence(file: FileKind, cause: Cause) -> &'static str {
         Cause::RowTwice => "that row's name was there before",
         Cause::RowUnknown => "that row isn't stated in ROWS",
         Cause::ColumnSplit => "that column's lines don't stand together",
-        Cause::EntryTwice => "that row is named twice",
-        Cause::FieldCount => "that line has too many or too few fields",
+        Cause::EntryTwice => twice(file),
+        Cause::FieldCount =>
+            "that line has too many or too few fields; a name with a blank inside counts as two",
         Cause::NumberBad => no_number(file),
         Cause::NumberWide => "that number doesn't fit into 128 bits",
         Cause::BoundKind => "that bound's kind isn't LO, UP, FX, FR, MI or PL",
@@ -27,8 +28,9 @@ pub fn sentence(file: FileKind, cause: Cause) -> &'static str {
         Cause::ColumnUnknown => "that column isn't stated in COLUMNS",
         Cause::CoreLimit =>
             "there are more than 4,000 constraints, 4,000 columns or 100,000 entries",
-        Cause::StartUnknown => "that line's column or row isn't one where a period can start",
-        Cause::PeriodOrder => "that period doesn't start behind the one before it",
+        Cause::StartUnknown =>
+            "a name on that line isn't that of a column or a constraint; the objective stands at most on the first line of PERIODS",
+        Cause::PeriodOrder => "that period doesn't start after the one before it",
         Cause::PeriodTwice => "that period's name was there before",
         Cause::NotTriangular { row: _, column: _ } =>
             "a row has an entry of a column of a later period",
@@ -37,19 +39,26 @@ pub fn sentence(file: FileKind, cause: Cause) -> &'static str {
         Cause::RowMissing(_) => "a row of the core has no period",
         Cause::ColumnMissing(_) => "a column of the core has no period",
         Cause::PlaceTwice => "that row or column stands on an earlier line",
-        Cause::KindUnknown => "that section's words aren't known",
+        Cause::KindUnknown =>
+            "those words of a section aren't known: INDEP, BLOCKS and SCENARIOS are followed by nothing, by DISCRETE, \
+or by DISCRETE and one of REPLACE, ADD and MULTIPLY",
         Cause::EntryUnknown => "that column and row name no entry",
         Cause::EntryStage => late(file),
         Cause::ProbabilityRange => "that probability isn't above 0, or is above 1",
-        Cause::ProbabilitySum(_) => "the probabilities add up to a number too far from 1",
-        Cause::ParentUnknown => "that parent isn't ROOT or an earlier scenario",
+        Cause::ProbabilitySum(_) =>
+            "the probabilities of a block, an entry of INDEP or all scenarios add up to the printed sum, more than 1/1000 from 1; \
+blocks and entries are looked at in the order in which they begin, and the first at fault is meant",
+        Cause::ParentUnknown =>
+            "that parent isn't ROOT or an earlier scenario; a line of five fields that begins with SC states a scenario, \
+also where a column has that name",
         Cause::BranchPeriod => "that period isn't known, or no scenario can branch there",
         Cause::ScenarioTwice => "that scenario's name was there before",
         Cause::ScenariosMixed => "SCENARIOS can't stand beside another kind of section",
-        Cause::ScenarioLimit => "there are too many scenarios, nodes or entries",
+        Cause::ScenarioLimit =>
+            "there are more than 10,000 scenarios, 20,000 nodes, or 10,000,000 entries, rows or costs over all nodes",
         Cause::CommandUnknown => "that line's first word isn't SET, PROB, DROP, ADD, WORK or SOLVE",
-        Cause::ScenarioUnknown => "no scenario has that name behind the lines before",
-        Cause::NameTaken => "a scenario has that name behind the lines before",
+        Cause::ScenarioUnknown => "after the lines before it no scenario has that name",
+        Cause::NameTaken => "after the lines before it a scenario has that name",
         Cause::EditProbability => "that probability isn't above 0 and below 1",
         Cause::LastScenario =>
             "that scenario is the only one, so that it stays, and its probability is 1",
@@ -57,9 +66,7 @@ pub fn sentence(file: FileKind, cause: Cause) -> &'static str {
         Cause::ScriptLimit => "that command is the 10,001st, and an edit list has at most 10,000",
         Cause::Passes(_) => passing(file),
         Cause::ReportBad => "a report has another line there, or no further report is asked for",
-        Cause::TraceBad => "that line isn't one of a trace there",
-        Cause::FlatLimit => "the deterministic equivalent is too large for a core file",
-        Cause::TailName => "a name of the core is one of TAIL_H, TAIL_U and TAIL_R",
+        Cause::TraceBad | Cause::FlatLimit | Cause::TailName => "no command has that cause",
     }
 }
 
@@ -67,8 +74,17 @@ pub fn sentence(file: FileKind, cause: Cause) -> &'static str {
 fn no_number(file: FileKind) -> &'static str {
     match file {
         FileKind::Edits =>
-            "that field isn't a number; behind WORK it is a whole number from 1 to 1,000,000",
+            "that field isn't a number; after WORK it is a whole number from 1 to 1,000,000",
         _ => "that field isn't a number",
+    }
+}
+
+/// What stands twice.
+fn twice(file: FileKind) -> &'static str {
+    match file {
+        FileKind::Stoch =>
+            "that entry is set twice: in another block or entry of INDEP, or twice in this case or scenario",
+        _ => "that row is named twice, in a column or in the set of RHS or RANGES that is used",
     }
 }
 
@@ -76,7 +92,9 @@ fn no_number(file: FileKind) -> &'static str {
 fn late(file: FileKind) -> &'static str {
     match file {
         FileKind::Edits => "that entry's column is of a later period than its row",
-        _ => "that entry's period doesn't fit",
+        _ =>
+            "a period there isn't known, is the first, is later than that of the entry, or another one than in the case before; \
+or the column is of a later period than the row",
     }
 }
 
@@ -84,17 +102,17 @@ fn late(file: FileKind) -> &'static str {
 fn passing(file: FileKind) -> &'static str {
     match file {
         FileKind::Edits =>
-            "behind that edit a probability or an end of a row doesn't fit into 128 bits",
+            "after that edit a probability or an end of a row doesn't fit into 128 bits",
         FileKind::Stoch => "a value, a probability or an end of a row doesn't fit into 128 bits",
         _ => "an end of a row doesn't fit into 128 bits",
     }
 }
 
-/// Which sections a file can't do without.
+/// What a file can't do without.
 fn missing(file: FileKind) -> &'static str {
     match file {
         FileKind::Core => "COLUMNS or ENDATA is missing",
         FileKind::Time => "PERIODS or ENDATA is missing",
-        _ => "a section or ENDATA is missing",
+        _ => "ENDATA is missing",
     }
 }

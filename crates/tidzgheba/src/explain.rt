@@ -1,19 +1,23 @@
 //! What standard error says of a status.
-use crate::open_lines::Opens;
+use crate::checked::put_checked;
+use crate::noted::Noted;
 use crate::refusal::{put_refusal, put_too_long, put_unread};
 use crate::unused_text::put_unused;
+use crate::words::put_word_fault;
 use command_words::{Command, Sources, Task, read_words};
 use smps_cli::Status;
 use std::alloc::{AllocError, Global};
 use std::rt::Runtime;
 
-const NO_COMMAND: &str = "tidzgheba: the words aren't those of a command\n";
+const NO_COMMAND: &str = "tidzgheba: the words aren't those of a command: ";
 
 const USAGE: &str = "\
 usage: tidzgheba solve --core FILE [--time FILE [--stoch FILE]] [--edits FILE] [--solves N] [--pivots N]
        tidzgheba check --core FILE --report FILE [--time FILE [--stoch FILE]] [--edits FILE]
        tidzgheba show --core FILE [--time FILE [--stoch FILE]] [--edits FILE]
        tidzgheba make --start N --stages N --branches N --size N [--text core|time|stoch]
+where --solves and --pivots are from 1 to 1000000000, --start from 0 to 65536, --stages from 2 to 6, --branches from 2 to 4,
+and --size from 1 to 20
 ";
 
 const OPEN_PASSED: &str =
@@ -32,10 +36,6 @@ const MADE_OPEN: &str =
     "tidzgheba: make allows as much as solve does where its words don't say how much; to allow more, \
 print the three texts with --text and solve them\n";
 
-const NOT_HELD: &str =
-    "tidzgheba: a report doesn't hold: FAILS names the first claim of it that isn't so, PASSED an operation of the check \
-whose result doesn't fit into 128 bits; docs/FORMATS.md, \"Checking a report\", says what each claim is\n";
-
 const UNWRITTEN: &str =
     "tidzgheba: standard output could not be written; what was printed is only a part of the output\n";
 
@@ -50,28 +50,31 @@ pub const UNEXPLAINED: &str = "tidzgheba: memory ran out before the status could
 pub const NOT_TEXT: &str =
     "tidzgheba: a word isn't UTF-8, so the words aren't those of a command\n";
 
-/// What standard error says of how the words ended, where the reports that were written have these kinds of OPEN; empty
-/// where the output says all.
+/// What standard error says of how the words ended, where this is noted of the reports that were written; empty where the
+/// output says all.
 pub fn explanation<R: Runtime>(
     rt: &R,
     alloc: Global,
     words: &[String],
     status: &Status,
-    opens: Opens,
+    noted: Noted,
 ) -> Result<String, AllocError> {
     let mut text = String::new(alloc);
     match read_words(alloc, words)? {
         Some(Command::OnFiles { sources, task }) => {
-            put_on_files(rt, alloc, &mut text, &sources, task, status, opens)?;
+            put_on_files(rt, alloc, &mut text, &sources, task, status, noted)?;
         }
-        Some(Command::Make(_)) => put_made(&mut text, status, opens)?,
-        None => put_usage(&mut text)?,
+        Some(Command::Make(_)) => put_made(&mut text, status, noted)?,
+        None => put_usage(&mut text, words)?,
     }
     Ok(text)
 }
 
-fn put_usage(text: &mut String) -> Result<(), AllocError> {
+/// Appends which word is at fault, and how the program is called.
+fn put_usage(text: &mut String, words: &[String]) -> Result<(), AllocError> {
     text.push_str(NO_COMMAND)?;
+    put_word_fault(text, words)?;
+    text.push_str("\n")?;
     text.push_str(USAGE)
 }
 
@@ -83,12 +86,14 @@ fn put_on_files<R: Runtime>(
     sources: &Sources<'_>,
     task: Task,
     status: &Status,
-    opens: Opens,
+    noted: Noted,
 ) -> Result<(), AllocError> {
     match status {
-        Status::Done => put_unused(rt, alloc, text, sources),
-        Status::SomeOpen => {
-            put_left(text, task, opens)?;
+        Status::Done | Status::SomeOpen => {
+            match task {
+                Task::Check => put_checked(rt, alloc, text, sources, noted)?,
+                Task::Solve(_) | Task::Show => put_opens(text, noted)?,
+            }
             put_unused(rt, alloc, text, sources)
         }
         Status::Refused(file, line, cause) => {
@@ -96,20 +101,20 @@ fn put_on_files<R: Runtime>(
         }
         Status::TooLong(file) => put_too_long(text, sources, *file),
         Status::ReadFault(file) => put_unread(rt, text, sources, *file),
-        Status::Words => put_usage(text),
+        Status::Words => text.push_str(USAGE),
         Status::WriteFault => text.push_str(UNWRITTEN),
         Status::Memory => text.push_str(MEMORY),
     }
 }
 
 /// Appends what is said of a workload, which needs no file.
-fn put_made(text: &mut String, status: &Status, opens: Opens) -> Result<(), AllocError> {
+fn put_made(text: &mut String, status: &Status, noted: Noted) -> Result<(), AllocError> {
     match status {
         Status::SomeOpen => {
-            put_opens(text, opens)?;
+            put_opens(text, noted)?;
             text.push_str(MADE_OPEN)
         }
-        Status::Words => put_usage(text),
+        Status::Words => text.push_str(USAGE),
         Status::WriteFault => text.push_str(UNWRITTEN),
         Status::Memory => text.push_str(MEMORY),
         Status::Done | Status::Refused(_, _, _) | Status::TooLong(_) | Status::ReadFault(_) => {
@@ -118,23 +123,15 @@ fn put_made(text: &mut String, status: &Status, opens: Opens) -> Result<(), Allo
     }
 }
 
-/// Appends what a task has left: reports that are OPEN, or that don't hold.
-fn put_left(text: &mut String, task: Task, opens: Opens) -> Result<(), AllocError> {
-    match task {
-        Task::Check => text.push_str(NOT_HELD),
-        Task::Solve(_) | Task::Show => put_opens(text, opens),
-    }
-}
-
 /// Appends a sentence for each kind of OPEN.
-fn put_opens(text: &mut String, opens: Opens) -> Result<(), AllocError> {
-    if opens.passed {
+fn put_opens(text: &mut String, noted: Noted) -> Result<(), AllocError> {
+    if noted.open_passed {
         text.push_str(OPEN_PASSED)?;
     }
-    if opens.pivots {
+    if noted.open_pivots {
         text.push_str(OPEN_PIVOTS)?;
     }
-    if opens.solves {
+    if noted.open_solves {
         text.push_str(OPEN_SOLVES)?;
     }
     Ok(())

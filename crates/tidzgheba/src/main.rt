@@ -6,20 +6,23 @@ ghost use Rattle.std.specs.Process.{exit_status};
 ghost use Rattle.tidzgheba.specs.Ending.{EndsOn, EndsWith, IsStatusOf};
 
 mod causes;
+mod checked;
 mod explain;
 mod files;
 mod lines;
-mod open_lines;
+mod noted;
 mod refusal;
+mod report_fault;
 #[cfg(test)]
 mod tests;
 mod unused;
 mod unused_text;
 mod visible;
 mod watched;
+mod words;
 
 use explain::{MEMORY, NOT_TEXT, UNEXPLAINED, explanation};
-use open_lines::Opens;
+use noted::Noted;
 use smps_cli::{Status, run};
 use smps_io::{RealShelf, RealSink};
 use std::alloc::{AllocError, Global};
@@ -64,8 +67,8 @@ fn ended(rt: &HostRuntime, arguments: Result<Option<Vec<String>>, AllocError>) -
 fn ended_so(rt: &HostRuntime, words: &[String]) -> ExitCode
     ensures { EndsWith (map string_bytes words.now) (exit_status result) }
 {
-    let (status, opens) = status_of(rt, words);
-    tell(rt, words, &status, opens);
+    let (status, noted) = status_of(rt, words);
+    tell(rt, words, &status, noted);
     ExitCode::from(status.number())
 }
 
@@ -79,8 +82,8 @@ fn behind_first(words: &[String]) -> &[String]
     }
 }
 
-/// How the words end, and the kinds of OPEN that their reports have.
-fn status_of(rt: &HostRuntime, words: &[String]) -> (Status, Opens)
+/// How the words end, and what is noted of the reports that are written.
+fn status_of(rt: &HostRuntime, words: &[String]) -> (Status, Noted)
     ensures { IsStatusOf (map string_bytes words.now) result.0 }
 {
     let mut sink = Watched::over(RealSink::new());
@@ -91,12 +94,12 @@ fn status_of(rt: &HostRuntime, words: &[String]) -> (Status, Opens)
         &mut RealShelf::new(rt.alloc()),
         &mut sink,
     );
-    (status, sink.opens())
+    (status, sink.noted())
 }
 
 /// Writes the explanation of a status to standard error. That memory or standard error is wanting changes no status.
-fn tell(rt: &HostRuntime, words: &[String], status: &Status, opens: Opens) {
-    let _ = match explanation(rt, rt.alloc(), words, status, opens) {
+fn tell(rt: &HostRuntime, words: &[String], status: &Status, noted: Noted) {
+    let _ = match explanation(rt, rt.alloc(), words, status, noted) {
         Ok(text) => rt.eprint(text.as_str()),
         Err(AllocError) if *status == Status::Memory => rt.eprint(MEMORY),
         Err(AllocError) => rt.eprint(UNEXPLAINED),

@@ -2,6 +2,7 @@
 use crate::causes::sentence;
 use crate::files::{name_of, read_again, why_unread};
 use crate::lines::numbered_line;
+use crate::report_fault::report_fault;
 use crate::visible::{push_line, push_visible};
 use command_words::Sources;
 use mps_core::Cause;
@@ -35,32 +36,47 @@ pub fn put_refusal<R: Runtime>(
     if line > 0 {
         write!(text, ", line {line}")?;
     }
-    let sentence = sentence(file, cause);
-    writeln!(text, ": {sentence}")?;
-    if let Some(name) = name_of(sources, file) {
-        put_line(rt, alloc, text, name, line)?;
+    match bytes_of(rt, alloc, sources, file) {
+        Some(bytes) => put_cause(text, file, &bytes, line, cause)?,
+        None => put_reason(text, sentence(file, cause))?,
     }
     let number = cause.number();
     writeln!(text, "docs/CAUSES.md, cause {number}, says how to mend it")
 }
 
-/// Appends a line of a file behind its number, where the file can be read again and has it.
-fn put_line<R: Runtime>(
+/// The bytes of a file that the words name, where it can be read again.
+fn bytes_of<R: Runtime>(
     rt: &R,
     alloc: Global,
+    sources: &Sources<'_>,
+    file: FileKind,
+) -> Option<Vec<u8>> {
+    let name = name_of(sources, file)?;
+    read_again(rt, alloc, name)
+}
+
+fn put_reason(text: &mut String, sentence: &str) -> Result<(), AllocError> {
+    writeln!(text, ": {sentence}")
+}
+
+/// Appends why a file of these bytes is refused, and the line where it has one.
+fn put_cause(
     text: &mut String,
-    name: &str,
+    file: FileKind,
+    bytes: &[u8],
     number: u32,
+    cause: Cause,
 ) -> Result<(), AllocError> {
-    let Some(bytes) = read_again(rt, alloc, name) else {
-        return Ok(());
-    };
-    let Some(line) = numbered_line(&bytes, number) else {
-        return Ok(());
-    };
-    write!(text, "  {number} | ")?;
-    push_line(text, line)?;
-    text.push_str("\n")
+    match cause {
+        Cause::ReportBad => put_reason(text, report_fault(bytes, number))?,
+        _ => put_reason(text, sentence(file, cause))?,
+    }
+    if let Some(line) = numbered_line(bytes, number) {
+        write!(text, "  {number} | ")?;
+        push_line(text, line)?;
+        text.push_str("\n")?;
+    }
+    Ok(())
 }
 
 /// Appends that a file is too long.

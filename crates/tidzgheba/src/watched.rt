@@ -1,13 +1,13 @@
 //! An output whose lines are looked at on their way.
-use crate::open_lines::{OpenLines, Opens};
+use crate::noted::{LineNotes, Noted};
 use smps_io::{Sink, SinkFault};
 use std::rt::Runtime;
 
-/// An output that notes which kinds of OPEN the reports have that are written to it.
+/// An output that notes what the reports say that are written to it.
 #[derive(Drop)]
 pub struct Watched<K> {
     sink: K,
-    lines: OpenLines,
+    lines: LineNotes,
 }
 
 impl<K: Sink> Watched<K> {
@@ -15,13 +15,13 @@ impl<K: Sink> Watched<K> {
     pub fn over(sink: K) -> Watched<K> {
         Watched {
             sink,
-            lines: OpenLines::new(),
+            lines: LineNotes::new(),
         }
     }
 
-    /// The kinds of OPEN of the reports so far.
-    pub fn opens(&self) -> Opens {
-        self.lines.opens()
+    /// What is noted of the reports so far.
+    pub fn noted(&self) -> Noted {
+        self.lines.noted()
     }
 }
 
