@@ -20,7 +20,7 @@ pub data VainTurns (start : Machine) : ℕ → Machine → Type 0 where
   more : (turns : ℕ) (m k : Machine) → VainTurns start turns m → TakesVainTurn m k → VainTurns start (turns + 1) k
 
 -- they are at most twice as many as there are live nodes, of which each has a turn in the round that is under way and one in the next:
--- behind so many the run is closed, or a turn adds a cut or leaves no last solve
+-- behind so many the run is closed, no node may be begun, or a turn adds a cut or leaves no last solve
 abbrev pub TurnsAddCuts : Type 0
 TurnsAddCuts = (m k : Machine) (turns nodes : ℕ) → IsValid m → IsIdle m → ((n : ℕ) → IsLive m n → n < nodes)
     → VainTurns m turns k → turns ≤ 2 * count_below m.live nodes

@@ -76,6 +76,6 @@ step_solved p old s m n new e ready h = solves s.lasts n ready (record {
   points = h.points;
   reasons =
       let k = subst (λ (x : State). GainsReasons (IsOfSolve (with_commit x.counts).all (node_solved h.task)) (record x { counts = with_commit x.counts }) new)
-          e h.reasons in
+      e h.reasons in
       record { counts = k.counts; stop = k.stop; lasting = k.lasting };
 })

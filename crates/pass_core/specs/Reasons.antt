@@ -40,8 +40,8 @@ IsLasting (reason.Solves n) = ⊥
 IsLasting (reason.Pivots j) = ⊥
 IsLasting (reason.Passed place o) = ((k : ℕ) × (place ≡ Cut k)) ⊎ ((k : ℕ) × (place ≡ Cost k))
 
--- from one state to another the counts stay, a reason is gained only where this holds of it, and one that lasts only where it is of the kind
--- that does
+-- from one state to another the counts stay, a reason is gained only where this holds of it, and one that lasts only where it is of the
+-- kind that does
 pub record GainsReasons (Is : Open → Type 0) (old new : State) : Type 0 where
   pub counts : new.counts ≡ old.counts
   pub stop : (why : Open) → new.stop ≡ Some why → HasReason old why ⊎ Is why

@@ -25,6 +25,7 @@ use Rattle.run_data.specs.Frames.{parent_in, children_in}
 use Rattle.run_ends.specs.declared.last.Last.{Last}
 use Rattle.run_ends.specs.declared.last.Lasts.{Lasts}
 use Rattle.run_ends.specs.Lasts.{last_at, trial_of}
+use Rattle.pass_core.specs.declared.state.Counts.{Counts}
 use Rattle.pass_core.specs.declared.state.State.{State}
 use Rattle.pass_core.specs.Counting.{with_commit}
 use Rattle.pass_core.specs.Reasons.{IsOfSolve, IsOfOpening, GainsReasons}
@@ -96,7 +97,8 @@ pub record SolvesNode (p : Program) (old : State) (m : Machine) (n : ℕ) (new :
   pub fits : IsProblem (problem_of task)
   pub ends : EndsBegun (EndsBy task.trial (node_solved task)) p m n new
   pub points : PointsStand p new.lasts.nodes.items
-  pub reasons : GainsReasons (IsOfSolve (with_commit old.counts).all (node_solved task)) (record old { counts = with_commit old.counts }) new
+  pub reasons : let counts : Counts = with_commit old.counts in
+      GainsReasons (IsOfSolve counts.all (node_solved task)) (record old { counts = counts }) new
 
 -- ---- steps
 -- the last solves of a run, for which there are places once something was done

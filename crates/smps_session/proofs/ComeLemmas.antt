@@ -26,9 +26,9 @@ use Rattle.tree_method.specs.declared.found.Found.{Found}
 use Rattle.tree_method.specs.declared.method.Method.{Method}
 use Rattle.tree_method.specs.declared.method.Method.TheVariants.{Working as AtWork, Idle}
 use Rattle.tree_method.specs.declared.method.Working.{Working}
-use Rattle.tree_method.specs.Stands.{HasFewNodes, StandsOn, Begins, HasSolve, Rests, closing, FindsBySolves, WorksAnew, WorksBySteps, is_spent, after_telling}
+use Rattle.tree_method.specs.Stands.{HasFewNodes, StandsOn, Begins, HasSolve, StandsCleared, closing, FindsBySolves, WorksAnew, WorksBySteps, is_spent, after_telling}
 use Rattle.tree_method.proofs.StandLemmas.{more_counted, solves_behind}
-use Rattle.tree_method.proofs.Numbers.{pivots_arise, pass_arises, closing_pivots, closing_passed, told_rested}
+use Rattle.tree_method.proofs.Numbers.{pivots_arise, pass_arises, closing_pivots, closing_passed, told_cleared}
 use Rattle.smps_session.specs.Reasons.{told_reasons}
 use Rattle.smps_session.specs.Comes.{tells_solves, is_unfinished, ShowsClosing, ShowsFound, ComesOf, ComesOfAll}
 
@@ -131,7 +131,7 @@ all_counted budget w finding n b e (inl ended) =
     omega (arith, spent, ap (λ (x : Budget). x.solves) b)
 
 pub comes_of : (budget : Budget) (program : Program) (old mid new : Method) (report : Report) → IsProgram (content program)
-    → HasFewNodes (content program) → StandsOn (content program) budget mid → Rests old → IsTrue (view_of (content program)) (told_reasons program budget) report
+    → HasFewNodes (content program) → StandsOn (content program) budget mid → StandsCleared old → IsTrue (view_of (content program)) (told_reasons program budget) report
     → ShowsFound budget program old mid report → HasEnded budget report.finding mid → new ≡ after_telling mid → ComesOf budget program old report new
 comes_of budget program (Idle why own) mid new report i few stands rests truth shows ended e =
     e ∙ ap after_telling shows
@@ -165,13 +165,13 @@ comes_of budget program (AtWork old) (AtWork mid) new report i few stands rests 
           | inr t ↦ absurd t
         ]
 
--- and is rested behind it
-pub told_rests : (budget : Budget) (program : Program) (old mid new : Method) (report : Report) → Rests old → ShowsFound budget program old mid report
-    → new ≡ after_telling mid → Rests new
-told_rests budget program (Idle why own) mid new report rests shows e = subst Rests (sym (e ∙ ap after_telling shows)) tt
-told_rests budget program (AtWork old) (Idle why own) new report rests shows e = absurd shows
-told_rests budget program (AtWork old) (AtWork mid) new report rests shows e =
-    subst Rests (sym e) (told_rested (content program) old.state mid.state shows.solves rests)
+-- and its reasons are cleared behind it
+pub tells_cleared : (budget : Budget) (program : Program) (old mid new : Method) (report : Report) → StandsCleared old → ShowsFound budget program old mid report
+    → new ≡ after_telling mid → StandsCleared new
+tells_cleared budget program (Idle why own) mid new report rests shows e = subst StandsCleared (sym (e ∙ ap after_telling shows)) tt
+tells_cleared budget program (AtWork old) (Idle why own) new report rests shows e = absurd shows
+tells_cleared budget program (AtWork old) (AtWork mid) new report rests shows e =
+    subst StandsCleared (sym e) (told_cleared (content program) old.state mid.state shows.solves rests)
 
 pub comes_of_all : {E : Type 0} (budget : Budget) (program : Program) (method next : Method) (result : Result Report E) → Begins (content program) budget method
     → IfOk result (λ report. ComesOf budget program method report next) → IfOk result (ComesOfAll budget program)

@@ -21,8 +21,8 @@ use Rattle.smps_session.specs.declared.told.Told.{Told}
 use Rattle.proved_report.specs.Reports.{EqualIsOptimal}
 use Rattle.smps_session.specs.Told.{IsTold, AreTold}
 use Rattle.tree_method.specs.declared.method.Method.{Method}
-use Rattle.tree_method.specs.Stands.{HasFewNodes, WorksBySolves, GoesOn, Rests}
-use Rattle.tree_method.proofs.Numbers.{edited_rests}
+use Rattle.tree_method.specs.Stands.{HasFewNodes, WorksBySolves, GoesOn, StandsCleared}
+use Rattle.tree_method.proofs.Numbers.{edits_cleared}
 use Rattle.smps_session.specs.Comes.{ComesOf, TakesEdit}
 use Rattle.smps_session.specs.Courses.{Course, course_at, TellsOne, IsBehind}
 
@@ -83,11 +83,11 @@ pub takes_edit : {A E : Type 0} (result : Result A E) (p : Program) (e : Edit) (
 takes_edit (Ok x) p e old worked new w g = record { worked = worked; works = w; goes = g }
 takes_edit (Err x) p e old worked new w g = tt
 
--- and that it is rested behind it
-pub changed_rests : {A E : Type 0} (result : Result A E) (p q : Program) (e : Edit) (worked new : Method) → OnOk result (q ≡ after p e)
-    → OnOk result (GoesOn p e worked new) → HasFewNodes q → OnOk result (Rests new)
-changed_rests (Ok x) p q e worked new a g few = edited_rests p e worked new g (subst HasFewNodes a few)
-changed_rests (Err x) p q e worked new a g few = tt
+-- and that its reasons are cleared behind it
+pub changed_cleared : {A E : Type 0} (result : Result A E) (p q : Program) (e : Edit) (worked new : Method) → OnOk result (q ≡ after p e)
+    → OnOk result (GoesOn p e worked new) → HasFewNodes q → OnOk result (StandsCleared new)
+changed_cleared (Ok x) p q e worked new a g few = edits_cleared p e worked new g (subst HasFewNodes a few)
+changed_cleared (Err x) p q e worked new a g few = tt
 
 -- an item that is an edit
 changed : {A E : Type 0} (result : Result A E) (budget : Budget) (e : Edit) (p q : Program) (method method' : Method) (number number' : ℕ)

@@ -46,8 +46,8 @@ ShowsFound budget program (AtWork old) (AtWork new) report = ShowsClosing budget
 ShowsFound budget program (AtWork old) (Idle why own) report = ⊥
 ShowsFound budget program (Idle why own) new report = new ≡ Idle why own
 
--- The report shows what is claimed behind solves. Where it tells that so many solves were made, so many were counted since the report before;
--- where it tells that the pivots of a solve ended, or of an operation of a solve, one of them has that number, and ended so.
+-- The report shows what is claimed behind solves. Where it tells that so many solves were made, so many were counted since the report
+-- before; where it tells that the pivots of a solve ended, or of an operation of a solve, one of them has that number, and ended so.
 pub record ComesOfSolves (budget : Budget) (program : ProgramOf) (old new : State) (report : Report) : Type 0 where
   pub shows : ShowsClosing budget program old new report
   pub spent : (n : ℕ) → report.finding ≡ OpenSolves n → new.counts.since_report ≡ n

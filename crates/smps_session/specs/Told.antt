@@ -39,8 +39,8 @@ abbrev pub IsThen : (Told → Method → Type 0) → (Method → List Told → T
 IsThen first behind [] = ⊥
 IsThen first behind (told ∷ tolds) = (next : Method) × (first told next × behind next tolds)
 
--- One is told for each SOLVE of a script, of the program after the edits before it, and comes of the one method that goes through the script.
--- They are numbered from this number on.
+-- One is told for each SOLVE of a script, of the program after the edits before it, and comes of the one method that goes through the
+-- script. They are numbered from this number on.
 abbrev pub AreTold : Budget → ℕ → Program → Method → List Item → List Told → Type 0
 AreTold budget number p method [] tolds = tolds ≡ []
 AreTold budget number p method (item ∷ items) tolds = elim item.act [

@@ -6,7 +6,7 @@ ghost use Rattle.edit_defs.specs.After.{after};
 ghost use Rattle.edit_defs.specs.Limits.{counts};
 ghost use Rattle.edit_script.specs.Allowed.{AreAllowed, IsAllowed};
 ghost use Rattle.pass_core.specs.declared.budget.Budget.{Budget as BudgetOf};
-ghost use Rattle.tree_method.specs.Stands.{HasFewNodes, StandsOn, Rests};
+ghost use Rattle.tree_method.specs.Stands.{HasFewNodes, StandsOn, StandsCleared};
 ghost use Rattle.smps_session.specs.Comes.{TakesEdit};
 ghost use Rattle.smps_session.specs.Courses.{course_at, TellsOne, IsBehind};
 
@@ -49,7 +49,7 @@ impl Progress {
             → OnOk result (StandsOn (content program.new) budget self.new.method) }
         ensures takes { (budget : BudgetOf) → StandsOn (content program.old) budget self.old.method
             → OnOk result (TakesEdit (content program.old) edit.now self.old.method self.new.method) }
-        ensures rests { HasFewNodes (content program.new) → OnOk result (Rests self.new.method) }
+        ensures cleared { HasFewNodes (content program.new) → OnOk result (StandsCleared self.new.method) }
     {
         self.method.work(alloc, program, work)?;
         self.method.edit(alloc, program, &mut self.counted, edit)
@@ -65,10 +65,10 @@ impl Progress {
     ) -> Result<(), Memory>
         requires program { IsProgram (content program.now) }
         requires stands { StandsOn (content program.now) budget self.old.method }
-        requires rests { HasFewNodes (content program.now) → Rests self.old.method }
+        requires cleared { HasFewNodes (content program.now) → StandsCleared self.old.method }
         ensures counted { self.new.counted ≡ self.old.counted }
         ensures stands { OnOk result (StandsOn (content program.now) budget self.new.method) }
-        ensures rests { HasFewNodes (content program.now) → OnOk result (Rests self.new.method) }
+        ensures cleared { HasFewNodes (content program.now) → OnOk result (StandsCleared self.new.method) }
         ensures told { OnOk result (TellsOne budget (course_at (content program.now) self.old.method self.old.number tolds.old.items)
             (course_at (content program.now) self.new.method self.new.number tolds.new.items)) }
     {
@@ -92,11 +92,11 @@ impl Progress {
         requires allowed { AreAllowed (content program.old) (item.now ∷ []) }
         requires counted { self.old.counted ≡ counts (content program.old).nodes }
         requires stands { StandsOn (content program.old) budget self.old.method }
-        requires rests { HasFewNodes (content program.old) → Rests self.old.method }
+        requires cleared { HasFewNodes (content program.old) → StandsCleared self.old.method }
         ensures keeps { OnOk result (IsProgram (content program.new)) }
         ensures counted { OnOk result (self.new.counted ≡ counts (content program.new).nodes) }
         ensures stands { OnOk result (StandsOn (content program.new) budget self.new.method) }
-        ensures rests { HasFewNodes (content program.new) → OnOk result (Rests self.new.method) }
+        ensures cleared { HasFewNodes (content program.new) → OnOk result (StandsCleared self.new.method) }
         ensures course { OnOk result (IsBehind budget item.now.act
             (course_at (content program.old) self.old.method self.old.number tolds.old.items)
             (course_at (content program.new) self.new.method self.new.number tolds.new.items)) }

@@ -5,7 +5,7 @@ ghost use Rattle.scen_defs.specs.Program.{IsTree, content, view_of};
 ghost use Rattle.scen_defs.specs.Valid.{IsSmall, IsProgram};
 ghost use Rattle.report_defs.specs.Truth.{IsTrue, HasCounts};
 ghost use Rattle.proved_report.specs.Reports.{EqualIsOptimal};
-ghost use Rattle.tree_method.specs.Stands.{HasFewNodes, StandsOn, Rests};
+ghost use Rattle.tree_method.specs.Stands.{HasFewNodes, StandsOn, StandsCleared};
 ghost use Rattle.smps_session.specs.Reasons.{told_reasons};
 ghost use Rattle.smps_session.specs.Comes.{is_unfinished, ShowsFound, ComesOf, ComesOfAll};
 
@@ -52,10 +52,10 @@ pub(crate) fn reported(
         → IfOk result (IsTrue (view_of p) (told_reasons program.now budget)) }
     ensures equal { IfOk result EqualIsOptimal }
     ensures stands { let p = content program.now in IsSmall p → StandsOn p budget method.old → OnOk result (StandsOn p budget method.new) }
-    ensures comes { let p = content program.now in IsProgram p → HasFewNodes p → StandsOn p budget method.old → Rests method.old
+    ensures comes { let p = content program.now in IsProgram p → HasFewNodes p → StandsOn p budget method.old → StandsCleared method.old
         → IfOk result (λ report. ComesOf budget program.now method.old report method.new) }
-    ensures rests { let p = content program.now in IsProgram p → HasFewNodes p → StandsOn p budget method.old → Rests method.old
-        → OnOk result (Rests method.new) }
+    ensures cleared { let p = content program.now in IsProgram p → HasFewNodes p → StandsOn p budget method.old → StandsCleared method.old
+        → OnOk result (StandsCleared method.new) }
 {
     let mut report = found(alloc, program, method, number, budget)?;
     for _ in 0..budget.solves {

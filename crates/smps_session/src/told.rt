@@ -2,7 +2,7 @@
 ghost use Rattle.std.specs.Prelude.{IfOk, OnOk};
 ghost use Rattle.scen_defs.specs.Program.{content};
 ghost use Rattle.scen_defs.specs.Valid.{IsProgram};
-ghost use Rattle.tree_method.specs.Stands.{HasFewNodes, StandsOn, Rests};
+ghost use Rattle.tree_method.specs.Stands.{HasFewNodes, StandsOn, StandsCleared};
 ghost use Rattle.smps_session.specs.Told.{IsTold};
 
 use crate::running::reported;
@@ -31,10 +31,10 @@ pub(crate) fn told_one(
 ) -> Result<Told, Memory>
     requires program { IsProgram (content program.now) }
     requires stands { StandsOn (content program.now) budget method.old }
-    requires rests { HasFewNodes (content program.now) → Rests method.old }
+    requires cleared { HasFewNodes (content program.now) → StandsCleared method.old }
     ensures told { IfOk result (λ told. IsTold budget number (content program.now) method.old told method.new) }
     ensures stands { OnOk result (StandsOn (content program.now) budget method.new) }
-    ensures rests { HasFewNodes (content program.now) → OnOk result (Rests method.new) }
+    ensures cleared { HasFewNodes (content program.now) → OnOk result (StandsCleared method.new) }
 {
     let report = reported(alloc, program, method, number, budget)?;
     let mut text = Vec::new(alloc);

@@ -25,7 +25,7 @@ use Rattle.run_ends.specs.Claims.{IsReason}
 use Rattle.run_ends.proofs.Reasons.{closed_reason}
 use Rattle.tree_method.specs.declared.method.Method.{Method}
 use Rattle.tree_method.specs.declared.method.Method.TheVariants.{Working as AtWork, Idle}
-use Rattle.tree_method.specs.Stands.{HasFewNodes, IsRested, Begins, settled_in, closing, SolvesNodes, none, more, anew, HasSolve, Rests, GoesOn}
+use Rattle.tree_method.specs.Stands.{HasFewNodes, IsCleared, Begins, settled_in, closing, SolvesNodes, none, more, anew, HasSolve, StandsCleared, GoesOn}
 use Rattle.tree_method.proofs.StandLemmas.{solves_behind}
 
 -- a reason is told of one of the solves between two states, if of a solve
@@ -169,26 +169,26 @@ module _ (p : Program) (old : State) where
   still_lasts new (anew mid k y over) h why e = absurd (no_reason k.lasting why over.beginning.lasting e)
 
 -- ---- where solves are counted from 0
-pub begins_rested : (p : Program) (budget : Budget) (s : State) → IsBeginning p budget s → IsRested s
-begins_rested p budget s b = record {
+pub begins_cleared : (p : Program) (budget : Budget) (s : State) → IsBeginning p budget s → IsCleared s
+begins_cleared p budget s b = record {
   stop = λ why e. absurd (no_reason s.stop why b.stop e);
   lasting = λ why e. absurd (no_reason s.lasting why b.lasting e);
 }
 
-pub edited_rested : (s : State) → IsUnstopped s → IsRested s
-edited_rested s u = record {
+pub edited_cleared : (s : State) → IsUnstopped s → IsCleared s
+edited_cleared s u = record {
   stop = λ why e. inr (subst (λ (o : Option Open). IfSome o (λ w. w ≡ Solves s.budget.solves)) e u.stop);
   lasting = λ why e. absurd (no_reason s.lasting why u.lasting e);
 }
 
-pub told_rested : (p : Program) (old s : State) → SolvesNodes p old s → IsRested old → IsRested (record s { stop = s.lasting; counts = after_report s.counts })
-told_rested p old s x r = record {
+pub told_cleared : (p : Program) (old s : State) → SolvesNodes p old s → IsCleared old → IsCleared (record s { stop = s.lasting; counts = after_report s.counts })
+told_cleared p old s x r = record {
   stop = λ why e. inl (still_lasts p old s x r.lasting why e);
   lasting = λ why e. still_lasts p old s x r.lasting why e;
 }
 
 -- the pivots of one of these solves ended, or an operation of it passes
-pub pivots_arise : (p : Program) (old new : State) (k : ℕ) → SolvesNodes p old new → IsRested old → new.stop ≡ Some (Pivots k)
+pub pivots_arise : (p : Program) (old new : State) (k : ℕ) → SolvesNodes p old new → IsCleared old → new.stop ≡ Some (Pivots k)
     → HasSolve p k solved.PivotsEnded old new
 pivots_arise p old new k x r e = go (arises p old new (Pivots k) x (inl e))
   where
@@ -197,7 +197,7 @@ pivots_arise p old new k x r e = go (arises p old new (Pivots k) x (inl e))
     go (inl (inr l)) = absurd (r.lasting (Pivots k) l)
     go (inr h) = h
 
-pub pass_arises : (p : Program) (old new : State) (k : ℕ) (o : Operation) → SolvesNodes p old new → IsRested old → new.stop ≡ Some (Passed (Solve k) o)
+pub pass_arises : (p : Program) (old new : State) (k : ℕ) (o : Operation) → SolvesNodes p old new → IsCleared old → new.stop ≡ Some (Passed (Solve k) o)
     → HasSolve p k (solved.Passed false o) old new
 pass_arises p old new k o x r e = go (arises p old new (Passed (Solve k) o) x (inl e))
   where
@@ -228,12 +228,12 @@ closing_pivots s k e = stop_of s (Pivots k) (λ m q. cc) (λ o q. cc) e
 pub closing_passed : (s : State) (k : ℕ) (o : Operation) → (closing s).why ≡ Passed (Solve k) o → s.stop ≡ Some (Passed (Solve k) o)
 closing_passed s k o e = stop_of s (Passed (Solve k) o) (λ m q. cc) (λ q r. cc) e
 
--- ---- methods that are rested
-pub first_rests : (p : Program) (budget : Budget) (m : Method) → Begins p budget m → Rests m
-first_rests p budget (AtWork w) b = begins_rested p budget w.state b.1
-first_rests p budget (Idle why own) b = tt
+-- ---- methods whose reasons are cleared
+pub first_cleared : (p : Program) (budget : Budget) (m : Method) → Begins p budget m → StandsCleared m
+first_cleared p budget (AtWork w) b = begins_cleared p budget w.state b.1
+first_cleared p budget (Idle why own) b = tt
 
-pub edited_rests : (p : Program) (e : Edit) (old new : Method) → GoesOn p e old new → HasFewNodes (after p e) → Rests new
-edited_rests p e (AtWork old) (AtWork new) g few = edited_rested new.state g.reasons
-edited_rests p e (AtWork old) (Idle why own) g few = tt
-edited_rests p e (Idle why own) new g few = first_rests (after p e) own new (g.1 few)
+pub edits_cleared : (p : Program) (e : Edit) (old new : Method) → GoesOn p e old new → HasFewNodes (after p e) → StandsCleared new
+edits_cleared p e (AtWork old) (AtWork new) g few = edited_cleared new.state g.reasons
+edits_cleared p e (AtWork old) (Idle why own) g few = tt
+edits_cleared p e (Idle why own) new g few = first_cleared (after p e) own new (g.1 few)

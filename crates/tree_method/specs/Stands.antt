@@ -74,7 +74,7 @@ pub record IsInBudget (s : State) : Type 0 where
   pub report : s.counts.since_report ≤ s.budget.solves
 
 -- where solves are counted from 0, no reason stops the method but one that lasts for the present run, or that it is stuck
-pub record IsRested (s : State) : Type 0 where
+pub record IsCleared (s : State) : Type 0 where
   pub stop : (why : Open) → s.stop ≡ Some why → IsLasting why ⊎ (why ≡ Solves s.budget.solves)
   pub lasting : (why : Open) → s.lasting ≡ Some why → IsLasting why
 
@@ -114,8 +114,8 @@ WorksBySteps p (Idle why own) new = new ≡ Idle why own
 abbrev pub settled_in : State → Option Settled
 settled_in s = settled s.kind s.table.closed s.ends s.stop s.counts.since_report s.budget.solves
 
--- where something is left to find, programs of nodes are solved, one behind the other, with the openings of runs between them, or the program
--- is begun anew, from one state to another
+-- where something is left to find, programs of nodes are solved, one behind the other, with the openings of runs between them, or the
+-- program is begun anew, from one state to another
 pub data SolvesNodes (p : Program) (old : State) : State → Type 0 where
   none : SolvesNodes p old old
   more : (mid new : State) (m : Machine) (told : Bool) → SolvesNodes p old mid → settled_in mid ≡ None → IsTabledBy p mid m
@@ -169,10 +169,10 @@ WorksAnew p (AtWork old) (AtWork new) = old.state.counts.since_report < old.stat
 WorksAnew p (AtWork old) (Idle why own) = ⊥
 WorksAnew p (Idle why own) new = new ≡ Idle why own
 
--- a method at work is rested
-abbrev pub Rests : Method → Type 0
-Rests (AtWork w) = IsRested w.state
-Rests (Idle why own) = Unit {0}
+-- so it is of a method at work
+abbrev pub StandsCleared : Method → Type 0
+StandsCleared (AtWork w) = IsCleared w.state
+StandsCleared (Idle why own) = Unit {0}
 
 -- whether as many solves were made since the last report as are allowed; one that can't go on makes none
 abbrev pub is_spent : Method → Bool

@@ -2,7 +2,7 @@ use Rattle.std.proofs.Common.{◌≡◌, ◌<◌, ◌^◌, false, inl, inr, refl
 use Rattle.scen_defs.specs.Program.{content}
 use Rattle.scen_defs.proofs.Valid.{programs_are_trees}
 use Rattle.tree_method.specs.Stands.{is_spent}
-use Rattle.smps_session.proofs.ComeLemmas.{first_counts, counts_fewer, left_over, round_counts, ended_by, comes_of, told_rests}
+use Rattle.smps_session.proofs.ComeLemmas.{first_counts, counts_fewer, left_over, round_counts, ended_by, comes_of, tells_cleared}
 use Rattle.smps_session.proofs.running.reported.Goals as goal
 
 pub loop-init : goal.loop-init
@@ -55,7 +55,7 @@ returns-clause-comes c = λ i few stands rests.
           inl (ended_by c.loop.report.finding c.loop.method way.is_unfinished.result way.is_unfinished.ensures way.if-not-is_unfinished.true)
     ]) c.close.ensures.after
 
-pub returns-clause-rests : goal.returns-clause-rests
-returns-clause-rests c = λ i few stands rests.
-    told_rests c.args.budget c.args.program.now c.args.method.now c.loop.method c.close.new.self c.loop.report rests
+pub returns-clause-cleared : goal.returns-clause-cleared
+returns-clause-cleared c = λ i few stands rests.
+    tells_cleared c.args.budget c.args.program.now c.args.method.now c.loop.method c.close.new.self c.loop.report rests
     (c.loop.invariant.under_way i few stands).0 c.close.ensures.after

@@ -1,4 +1,5 @@
-use Rattle.tree_method.proofs.Numbers.{first_rests}
+use Rattle.scen_defs.specs.Program.{content}
+use Rattle.tree_method.proofs.Numbers.{first_cleared}
 use Rattle.smps_session.proofs.ComeLemmas.{comes_of_all}
 use Rattle.smps_session.proofs.running.session.Goals as goal
 
@@ -20,4 +21,4 @@ returns-clause-equal c = c.reported.ensures.equal
 pub returns-clause-comes : goal.returns-clause-comes
 returns-clause-comes c = λ i few.
     comes_of_all _ c.args.program.now c.in_ok-method.method c.reported.new.method c.reported.result (c.in_ok-method.ensures.begins i few)
-    (c.reported.ensures.comes i few (c.in_ok-method.ensures.stands i.small) (first_rests _ _ c.in_ok-method.method (c.in_ok-method.ensures.begins i few)))
+    (c.reported.ensures.comes i few (c.in_ok-method.ensures.stands i.small) (first_cleared (content c.args.program.now) (record { solves = c.args.solves; pivots = c.args.pivots }) c.in_ok-method.method (c.in_ok-method.ensures.begins i few)))

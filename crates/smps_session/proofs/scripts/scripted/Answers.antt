@@ -2,7 +2,7 @@ use Rattle.std.proofs.Common.{List, Option, ap, ◌∙◌}
 use Rattle.scen_defs.specs.Program.{content, nodes_content}
 use Rattle.scen_defs.specs.declared.program.Node.{Node as NodeOf}
 use Rattle.edit_defs.specs.Limits.{counts}
-use Rattle.tree_method.proofs.Numbers.{first_rests}
+use Rattle.tree_method.proofs.Numbers.{first_cleared}
 use Rattle.smps_session.specs.Courses.{course_at}
 use Rattle.smps_session.proofs.ToldLemmas.{begins_course, item_allowed, stays_on_course, all_told}
 use Rattle.smps_session.proofs.scripts.scripted.Goals as goal
@@ -12,7 +12,7 @@ loop-rest-init c = record {
   program = c.requires.program;
   counted = c.in_ok-counted.ensures ∙ ap (λ (nodes : List (Option NodeOf)). counts (nodes_content nodes)) c.deref.ensures.value;
   stands = c.in_ok-method.ensures.stands c.requires.program.small;
-  rests = λ few. first_rests _ _ c.in_ok-method.method (c.in_ok-method.ensures.begins c.requires.program few);
+  cleared = λ few. first_cleared (content c.args.program.now) (record { solves = c.args.solves; pivots = c.args.pivots }) c.in_ok-method.method (c.in_ok-method.ensures.begins c.requires.program few);
   course = (
     c.in_ok-method.method,
     (
@@ -30,15 +30,15 @@ take-requires-clause-allowed c = item_allowed (content c.loop-rest.program) c.it
 pub take-requires-clause-stands : goal.take-requires-clause-stands
 take-requires-clause-stands c = c.loop-rest.invariant.stands
 
-pub take-requires-clause-rests : goal.take-requires-clause-rests
-take-requires-clause-rests c = c.loop-rest.invariant.rests
+pub take-requires-clause-cleared : goal.take-requires-clause-cleared
+take-requires-clause-cleared c = c.loop-rest.invariant.cleared
 
 pub loop-rest-preserved : goal.loop-rest-preserved
 loop-rest-preserved c = record {
   program = c.in_ok-take.ensures.keeps;
   counted = c.in_ok-take.ensures.counted;
   stands = c.in_ok-take.ensures.stands;
-  rests = c.in_ok-take.ensures.rests;
+  cleared = c.in_ok-take.ensures.cleared;
   course = (
     c.loop-rest.invariant.course.0,
     (

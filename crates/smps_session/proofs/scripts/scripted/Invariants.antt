@@ -5,7 +5,7 @@ use Rattle.edit_defs.specs.Limits.{counts}
 use Rattle.smps_session.specs.Courses.{course_at}
 use Rattle.smps_session.proofs.ToldLemmas.{IsOnCourse}
 use Rattle.tree_method.specs.declared.method.Method.{Method}
-use Rattle.tree_method.specs.Stands.{HasFewNodes, StandsOn, Begins, Rests}
+use Rattle.tree_method.specs.Stands.{HasFewNodes, StandsOn, Begins, StandsCleared}
 use Rattle.smps_session.proofs.scripts.scripted.Given as goal
 
 abbrev pub invariant-loop-rest : goal.invariant-loop-rest
@@ -13,7 +13,7 @@ invariant-loop-rest l = record {
   program : IsProgram (content l.program);
   counted : l.progress.counted ≡ counts (content l.program).nodes;
   stands : StandsOn (content l.program) (record { solves = l.solves; pivots = l.pivots }) l.progress.method;
-  rests : HasFewNodes (content l.program) → Rests l.progress.method;
+  cleared : HasFewNodes (content l.program) → StandsCleared l.progress.method;
   course : (method : Method) × ((HasFewNodes (content l.fn.program) → Begins (content l.fn.program) (record { solves = l.solves; pivots = l.pivots }) method)
       × IsOnCourse (record { solves = l.solves; pivots = l.pivots }) (content l.fn.program) method l.script.items.items l.rest
       (course_at (content l.program) l.progress.method l.progress.number l.tolds.items));

@@ -9,10 +9,10 @@ returns-clause-told c = is_told c.args.budget c.args.number c.args.program.now c
     c.in_ok-report.ensures.number (rw c.new-text.ensures.items at c.in_ok-print_report.ensures.ok) refl
     (c.in_ok-report.ensures.counts c.requires.program.small)
     (c.in_ok-report.ensures.truth c.requires.program.small c.requires.stands (programs_are_trees (content c.args.program.now) c.requires.program).0)
-    c.in_ok-report.ensures.equal (λ few. c.in_ok-report.ensures.comes c.requires.program few c.requires.stands (c.requires.rests few))
+    c.in_ok-report.ensures.equal (λ few. c.in_ok-report.ensures.comes c.requires.program few c.requires.stands (c.requires.cleared few))
 
 pub returns-clause-stands : goal.returns-clause-stands
 returns-clause-stands c = c.in_ok-report.ensures.stands c.requires.program.small c.requires.stands
 
-pub returns-clause-rests : goal.returns-clause-rests
-returns-clause-rests c = λ few. c.in_ok-report.ensures.rests c.requires.program few c.requires.stands (c.requires.rests few)
+pub returns-clause-cleared : goal.returns-clause-cleared
+returns-clause-cleared c = λ few. c.in_ok-report.ensures.cleared c.requires.program few c.requires.stands (c.requires.cleared few)

@@ -1,5 +1,5 @@
 use Rattle.scen_defs.specs.Program.{content}
-use Rattle.smps_session.proofs.ToldLemmas.{takes_edit, changed_rests}
+use Rattle.smps_session.proofs.ToldLemmas.{takes_edit, changed_cleared}
 use Rattle.smps_session.proofs.items.Progress.change.Goals as goal
 
 pub returns-clause-stands : goal.returns-clause-stands
@@ -10,7 +10,7 @@ returns-clause-takes c = λ budget stands.
     takes_edit c.edit.result (content c.args.program.now) c.args.edit.now c.args.self.now.method c.work.new.self c.edit.new.self
     (λ few. c.in_ok-work.ensures.solves budget c.requires.program few stands) c.edit.ensures.method
 
-pub returns-clause-rests : goal.returns-clause-rests
-returns-clause-rests c = λ few.
-    changed_rests c.edit.result (content c.args.program.now) (content c.edit.new.program) c.args.edit.now c.work.new.self c.edit.new.self
+pub returns-clause-cleared : goal.returns-clause-cleared
+returns-clause-cleared c = λ few.
+    changed_cleared c.edit.result (content c.args.program.now) (content c.edit.new.program) c.args.edit.now c.work.new.self c.edit.new.self
     c.edit.ensures.after c.edit.ensures.method few
