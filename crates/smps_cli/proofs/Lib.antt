@@ -4,3 +4,4 @@ pub mod MeantLemmas
 pub mod GivenLemmas
 pub mod EndLemmas
 pub mod WriteLemmas
+pub mod Few

@@ -13,7 +13,6 @@ use Rattle.command_words.specs.declared.command.Plan.{Plan}
 use Rattle.workload_maker.specs.Texts.{Made, made_of}
 use Rattle.input_files.specs.Fetched.{Texts}
 use Rattle.program_files.specs.Meant.{MeansProgram}
-use Rattle.tree_method.specs.Stands.{HasFewNodes}
 use Rattle.smps_session.specs.Reasons.{told_reasons}
 use Rattle.smps_session.specs.Comes.{ComesOfAll}
 use Rattle.smps_cli.specs.declared.status.Status.{Status}
@@ -61,7 +60,7 @@ pub record PrintsSummary (plan : Plan) (status : Status) (output : List ℕ) : T
   pub report : Report
   pub truth : IsTrue (seen program) (told_reasons program (record { solves = make_limit; pivots = make_limit })) report
   pub counts : HasCounts (seen program) report
-  pub comes : HasFewNodes (content program) → ComesOfAll (record { solves = make_limit; pivots = make_limit }) program report
+  pub comes : ComesOfAll (record { solves = make_limit; pivots = make_limit }) program report
   pub text : output ≡ summary_text plan program report
   pub told : status ≡ command_status report.finding
 

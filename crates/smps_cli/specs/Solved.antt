@@ -7,6 +7,7 @@ use Rattle.command_words.specs.declared.command.Budget.{Budget}
 use Rattle.input_files.specs.Fetched.{Texts}
 use Rattle.program_files.specs.Meant.{MeansProgram}
 use Rattle.program_files.specs.Edited.{MeansScript}
+use Rattle.tree_method.specs.Stands.{HasFewNodes}
 use Rattle.smps_session.specs.declared.told.Told.{Told}
 use Rattle.smps_session.specs.Told.{IsScripted}
 use Rattle.smps_cli.specs.declared.status.Status.{Status}
@@ -24,9 +25,10 @@ any_open (told ∷ tolds) = is_open_finding told.finding || any_open tolds
 -- The output is the texts of reports, one for each SOLVE of the edit list, each of them true of the program after the edits before its
 -- SOLVE. Their findings give the status.
 pub record PrintsReports (budget : Budget) (texts : Texts) (status : Status) (output : List ℕ) : Type 0 where
-  -- the program that the texts mean, and what the edit list means for it
+  -- the program that the texts mean, which has few nodes, and what the edit list means for it
   pub program : Program
   pub means : MeansProgram texts program
+  pub few : HasFewNodes program
   pub items : List Item
   pub script : MeansScript texts program items
   -- the reports, all of them

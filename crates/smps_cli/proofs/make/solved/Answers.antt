@@ -2,6 +2,8 @@ use Rattle.std.proofs.Common.{subst}
 use Rattle.scen_defs.specs.Program.{content}
 use Rattle.input_files.specs.Fetched.{Texts}
 use Rattle.program_files.specs.Meant.{MeansProgram}
+use Rattle.input_files.specs.Unfetched.{texts_view}
+use Rattle.smps_cli.proofs.Few.{few_nodes}
 use Rattle.smps_cli.proofs.make.solved.Goals as goal
 
 pub returns : goal.returns
@@ -11,7 +13,7 @@ returns c = record {
   report = c.in_ok-report.report;
   truth = c.in_ok-report.ensures.truth c.requires.keeps.small c.requires.tree;
   counts = c.in_ok-report.ensures.counts c.requires.keeps.small;
-  comes = c.in_ok-report.ensures.comes c.requires.keeps;
+  comes = c.in_ok-report.ensures.comes c.requires.keeps (few_nodes (texts_view c.args.texts.now) (content c.args.program.now) c.requires.means);
   text = c.in_ok-output.ensures;
   told = c.command_status.ensures;
 }
