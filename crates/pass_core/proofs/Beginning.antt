@@ -4,11 +4,11 @@ use Rattle.std.proofs.lemmas.List.{length-map}
 use Rattle.scen_defs.specs.Program.{Program}
 use Rattle.scen_defs.specs.Valid.{IsSmall, IsProgram}
 use Rattle.run_data.specs.Frames.{Frame, parent_of, frame_of}
-use Rattle.pass_table.specs.Machine.{Machine, IsAbove, IsClosed, IsFlying, MayBegin}
+use Rattle.pass_table.specs.Machine.{Machine, IsAbove, IsClosed, MayBegin}
 use Rattle.pass_table.specs.Machine.IsAbove.{next, further}
 use Rattle.pass_core.specs.declared.state.State.{State}
 use Rattle.pass_core.specs.Counting.{with_commit}
-use Rattle.pass_core.specs.Tabled.{HasRoom, IsTabled, IsTabledBy}
+use Rattle.pass_core.specs.Tabled.{IsTabled, IsTabledBy}
 use Rattle.pass_core.specs.Turns.{MakesStep, begins_none, opens_run, solves}
 use Rattle.pass_core.proofs.Parentage.{root_lives, first_machine, first_tabled}
 
@@ -37,8 +37,8 @@ module _ (p : Program) (s : State) (i : IsProgram p) where
   not_closed closed = let low = (closed 0 (root_lives p i)).0.made.solved in omega (arith, low)
 
   is_counted : (new : State) (told : Bool) → MakesStep p s (first_machine p s) new told → new.counts ≡ with_commit s.counts
-  is_counted new told (begins_none none points reasons) = absurd (none (omega arith, omega arith) 0 root_begins)
-  is_counted new told (opens_run closed opens points reasons) = absurd (not_closed closed)
+  is_counted new told (begins_none none points reasons stays banks ends stop ready) = absurd (none (omega arith, omega arith) 0 root_begins)
+  is_counted new told (opens_run closed opens points reasons run) = absurd (not_closed closed)
   is_counted new told (solves lasts n ready node) = node.reasons.counts
 
   pub first_counted : (new : State) (told : Bool) → s.frame ≡ frame_of p → s.is_begun ≡ false → IsTabled p s

@@ -8,6 +8,7 @@ pub mod Pooling
 pub mod Parentage
 pub mod Tabling
 pub mod CutNodes
+pub mod Leaving
 pub mod Solving
 pub mod Making
 pub mod MadeAfterEdits

@@ -1,42 +1,51 @@
 -- A turn is the solve of the program of its node.
-use Rattle.std.proofs.Common.{◌≡◌, ℕ, Bool, true, false, Result, Ok, Err, OnOk, IfOk, refl, sym, ap, subst, ◌∙◌}
+use Rattle.std.proofs.Common.{◌≡◌, ℕ, true, None, Result, Ok, Err, OnOk, sym, subst, ◌∙◌}
 use Rattle.scen_defs.specs.Program.{Program}
 use Rattle.scen_defs.specs.Valid.{IsProgram}
+use Rattle.scen_tree.specs.Trees.{Tree, tree_walk}
 use Rattle.node_lp.specs.declared.task.Task.{Task}
 use Rattle.node_lp.specs.declared.solved.Solved.{Solved}
 use Rattle.node_lp.specs.Problem.{IsProblem, problem_of}
 use Rattle.node_lp.specs.Told.{node_solved}
+use Rattle.node_lp.specs.Answers.{IsAnswer}
 use Rattle.run_data.specs.Frames.{frame_of}
 use Rattle.pass_table.specs.declared.table.Table.{Table}
-use Rattle.pass_table.specs.Machine.{Flight, Machine, IsClosed, MayBegin}
-use Rattle.run_ends.specs.declared.last.Lasts.{Lasts}
+use Rattle.pass_table.specs.Machine.{Machine}
 use Rattle.pass_core.specs.declared.state.Counts.{Counts}
 use Rattle.pass_core.specs.declared.state.State.{State}
 use Rattle.pass_core.specs.Counting.{with_commit}
 use Rattle.pass_core.specs.Reasons.{IsOfSolve, GainsReasons}
-use Rattle.pass_core.specs.Tabled.{HasRoom, EndsSolve, EndsBegun, IsBegunBy, Opens}
+use Rattle.pass_core.specs.Tabled.{EndsSolve, IsBegunBy}
 use Rattle.pass_core.specs.Turns.{PointsStand, KeepsPoints, IsTaskOf, EndsBy, SolvesNode, AreReady, MakesStep}
-use Rattle.pass_core.specs.Turns.MakesStep.{begins_none, opens_run, solves}
+use Rattle.pass_core.specs.Turns.MakesStep.{solves}
+use Rattle.pass_core.specs.Left.{StaysInRun, LeavesBy}
+use Rattle.pass_core.proofs.Leaving.{leaves_before, leaves_ready, left_by}
 use Rattle.pass_core.proofs.Tabling.{read_machine, begun_flight, solve_ends, told_ends}
 
-on_three : {X E : Type 0} (r : Result X E) (A B C D : Type 0) → (A → B → C → D) → OnOk r A → OnOk r B → OnOk r C → OnOk r D
-on_three (Ok x) A B C D f a b c = f a b c
-on_three (Err e) A B C D f a b c = tt
+on_five : {X E : Type 0} (r : Result X E) (A B C D F G : Type 0) → (A → B → C → D → F → G) → OnOk r A → OnOk r B → OnOk r C
+    → OnOk r D → OnOk r F → OnOk r G
+on_five (Ok x) A B C D F G f a b c d e = f a b c d e
+on_five (Err o) A B C D F G f a b c d e = tt
 
 -- a solve that is counted
-pub solved_by : (p : Program) (s : State) (counts : Counts) (m : Machine) (n : ℕ) (i : IsProgram p) (frame : s.frame ≡ frame_of p)
-    (b : IsBegunBy p (record s { counts = counts }) m n) (t : Task) (all : Solved) (new : State) {X E : Type 0} (r : Result X E)
+pub solved_by : (p : Program) (tree : Tree) (s : State) (counts : Counts) (m : Machine) (n : ℕ) (i : IsProgram p)
+    (walk : tree_walk p ≡ Ok tree) (frame : s.frame ≡ frame_of p) (b : IsBegunBy p (record s { counts = counts }) m n) (t : Task) (all : Solved) (new : State)
+    {X E : Type 0} (r : Result X E)
     → counts ≡ with_commit s.counts → IsTaskOf p s n t → IsProblem (problem_of t) → PointsStand p s.lasts.nodes.items → all ≡ node_solved t
+    → IsAnswer t all
     → OnOk r (EndsSolve (EndsBy t.trial all) (record s { counts = counts }) new (read_machine p (record s { counts = counts }) m n i frame b)
     (begun_flight p (record s { counts = counts }) m n i frame b)) → OnOk r (KeepsPoints p (record s { counts = counts }) new)
-    → OnOk r (GainsReasons (IsOfSolve counts.all all) (record s { counts = counts }) new) → OnOk r (SolvesNode p s m n new)
-solved_by p s counts m n i frame b t all new r raised task problem stand exact ends points reasons =
+    → OnOk r (GainsReasons (IsOfSolve counts.all all) (record s { counts = counts }) new)
+    → OnOk r (StaysInRun (record s { counts = counts }) new)
+    → OnOk r (new.stop ≡ None → LeavesBy p tree n t.trial all (record s { counts = counts }) new) → OnOk r (SolvesNode p s m n new)
+solved_by p tree s counts m n i walk frame b t all new r raised task problem stand exact answer ends points reasons stays leaves =
     let counted : State = record s { counts = counts } in
     let rm = read_machine p counted m n i frame b in
     let bf = begun_flight p counted m n i frame b in
-    on_three r (EndsSolve (EndsBy t.trial all) counted new rm bf) (KeepsPoints p counted new) (GainsReasons (IsOfSolve counts.all all) counted new)
+    on_five r (EndsSolve (EndsBy t.trial all) counted new rm bf) (KeepsPoints p counted new)
+    (GainsReasons (IsOfSolve counts.all all) counted new) (StaysInRun counted new) (new.stop ≡ None → LeavesBy p tree n t.trial all counted new)
     (SolvesNode p s m n new)
-    (λ e k g. record {
+    (λ e k g y l. record {
       task = t;
       is_task = task;
       fits = problem;
@@ -44,7 +53,14 @@ solved_by p s counts m n i frame b t all new r raised task problem stand exact e
       points = k stand;
       reasons = subst (λ (c : Counts). GainsReasons (IsOfSolve c.all (node_solved t)) (record s { counts = c }) new) raised
           (subst (λ (x : Solved). GainsReasons (IsOfSolve counts.all x) counted new) exact g);
-    }) ends points reasons
+      stays = record { kind = y.kind; frame = y.frame; budget = y.budget; versions = y.versions };
+      answer = subst (IsAnswer t) exact answer;
+      leaves = λ other w stop.
+          let same : tree ≡ other = let both = sym walk ∙ w in cc in
+          subst (λ (x : Tree). LeavesBy p x n t.trial (node_solved t) s new) same
+          (leaves_before p tree n t.trial (node_solved t) s counts s.table s.is_begun new
+          (left_by p tree n t.trial (node_solved t) all counted new (sym exact) (l stop)));
+    }) ends points reasons stays leaves
 
 -- the task is the same where the table changes
 task_before : (p : Program) (s : State) (table : Table) (n : ℕ) (t : Task) → IsTaskOf p (record s { table = table }) n t → IsTaskOf p s n t
@@ -58,6 +74,10 @@ solves_before p s table m n new h = record {
   ends = h.ends;
   points = h.points;
   reasons = record { counts = h.reasons.counts; stop = h.reasons.stop; lasting = h.reasons.lasting };
+  stays = record { kind = h.stays.kind; frame = h.stays.frame; budget = h.stays.budget; versions = h.stays.versions };
+  answer = h.answer;
+  leaves = λ tree walk stop.
+      leaves_before p tree n h.task.trial (node_solved h.task) s s.counts table s.is_begun new (h.leaves tree walk stop);
 }
 
 -- a turn as a step
@@ -78,4 +98,8 @@ step_solved p old s m n new e ready h = solves s.lasts n ready (record {
       let k = subst (λ (x : State). GainsReasons (IsOfSolve (with_commit x.counts).all (node_solved h.task)) (record x { counts = with_commit x.counts }) new)
       e h.reasons in
       record { counts = k.counts; stop = k.stop; lasting = k.lasting };
+  stays = let k = subst (λ (x : State). StaysInRun x new) e h.stays in
+      record { kind = k.kind; frame = k.frame; budget = k.budget; versions = k.versions };
+  answer = h.answer;
+  leaves = λ tree walk stop. leaves_ready p tree n h.task.trial (node_solved h.task) old s new e (h.leaves tree walk stop);
 })

@@ -98,7 +98,7 @@ put_stands Q (x ∷ xs) zero last h all (suc k) = all (suc k)
 put_stands Q (x ∷ xs) (suc n) last h all zero = all zero
 put_stands Q (x ∷ xs) (suc n) last h all (suc k) = put_stands (λ j. Q (suc j)) xs n last h (λ j. all (suc j)) k
 
-no_last : (n k : ℕ) → last_at (replicate n None) k ≡ None
+pub no_last : (n k : ℕ) → last_at (replicate n None) k ≡ None
 no_last zero k = refl
 no_last (suc n) zero = refl
 no_last (suc n) (suc k) = no_last n k

@@ -4,6 +4,7 @@ pub mod Versions
 pub mod Explained
 pub mod Tabled
 pub mod Reasons
+pub mod Left
 pub mod Turns
 pub mod Made
 pub mod Assembled

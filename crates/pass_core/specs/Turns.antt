@@ -1,5 +1,5 @@
 -- What a turn solves: the program of its node in the present run; and how the turn ends by what is told of it.
-use Rattle.std.specs.Prelude.{◌≡◌, ◌⊎◌, ℕ, Bool, true, false, leb, List, map, Option, None, Err, IfSome, ⊤}
+use Rattle.std.specs.Prelude.{◌≡◌, ◌⊎◌, ℕ, Bool, true, false, leb, List, map, Option, None, Ok, Err, IfSome, ⊤}
 use Rattle.rationals.specs.Rational.{one_ℚ}
 use Rattle.rationals.specs.Passes.{Operation}
 use Rattle.rationals.specs.Forms.{add_scaled_walk}
@@ -9,6 +9,7 @@ use Rattle.scen_defs.specs.Program.{Program, View, node_at}
 use Rattle.scen_defs.specs.Flat.{children}
 use Rattle.scen_defs.specs.declared.program.Column.{Column}
 use Rattle.scen_defs.specs.declared.report.Kind.{Kind}
+use Rattle.scen_tree.specs.Trees.{Tree, tree_walk}
 use Rattle.cut_defs.specs.Data.{Datum, bounds_of, share_of}
 use Rattle.edit_defs.specs.Data.{view_in}
 use Rattle.cut_banks.specs.Banks.{pools_of}
@@ -18,6 +19,7 @@ use Rattle.node_lp.specs.declared.solved.Solved.{Solved}
 use Rattle.node_lp.specs.declared.solved.Solved.TheVariants as solved
 use Rattle.node_lp.specs.Problem.{IsProblem, problem_of}
 use Rattle.node_lp.specs.Told.{node_solved}
+use Rattle.node_lp.specs.Answers.{IsAnswer}
 use Rattle.pass_table.specs.Machine.{Flight, Machine, IsClosed, MayBegin, dropped}
 use Rattle.run_data.specs.declared.versions.Version.{Version}
 use Rattle.run_data.specs.Counts.{version_of}
@@ -30,6 +32,7 @@ use Rattle.pass_core.specs.declared.state.State.{State}
 use Rattle.pass_core.specs.Counting.{with_commit}
 use Rattle.pass_core.specs.Reasons.{IsOfSolve, IsOfOpening, GainsReasons}
 use Rattle.pass_core.specs.Tabled.{HasRoom, committed_with, EndsBegun, Opens}
+use Rattle.pass_core.specs.Left.{StaysInRun, LeavesBy, OpensRun}
 
 -- ---- points
 -- each value is of a column of this stage or of an earlier one
@@ -89,8 +92,9 @@ EndsBy trial solved.NotGood m f added k = EndsWithout m f added k
 abbrev pub EndsAnyhow : Machine → Flight → Bool → Machine → Type 0
 EndsAnyhow m f added k = ⊤
 
--- the worker's turn was the solve of the program of node n, and ended by what is told of it; the points go on standing, and one more solve
--- is counted, of which each reason is told that the state gains
+-- the worker's turn was the solve of the program of node n, and ended by what is told of it, which is an answer of that program; the run
+-- and the versions stay, the points go on standing, and one more solve is counted, of which each reason is told that the state gains;
+-- where nothing stops the method then, what the solve leaves is known
 pub record SolvesNode (p : Program) (old : State) (m : Machine) (n : ℕ) (new : State) : Type 0 where
   pub task : Task
   pub is_task : IsTaskOf p old n task
@@ -99,6 +103,9 @@ pub record SolvesNode (p : Program) (old : State) (m : Machine) (n : ℕ) (new :
   pub points : PointsStand p new.lasts.nodes.items
   pub reasons : let counts : Counts = with_commit old.counts in
       GainsReasons (IsOfSolve counts.all (node_solved task)) (record old { counts = counts }) new
+  pub stays : StaysInRun old new
+  pub answer : IsAnswer task (node_solved task)
+  pub leaves : (tree : Tree) → tree_walk p ≡ Ok tree → new.stop ≡ None → LeavesBy p tree n task.trial (node_solved task) old new
 
 -- ---- steps
 -- the last solves of a run, for which there are places once something was done
@@ -107,10 +114,12 @@ pub record AreReady (old : State) (lasts : Lasts) : Type 0 where
   pub none : old.is_begun ≡ false → (n : ℕ) → last_at lasts.nodes.items n ≡ None
 
 -- a step of a state whose table fits this machine, and whether it is told that something was done: no node may be begun, or there is no
--- room for it; the run is closed, and the next one opens or doesn't; or the program of a node is solved, which alone is counted
+-- room for it, and nothing is found; the run is closed, and the next one opens or something stops the method; or the program of a node is
+-- solved, which alone is counted
 pub data MakesStep (p : Program) (old : State) (m : Machine) (new : State) : Bool → Type 0 where
   begins_none : (HasRoom m → (n : ℕ) → MayBegin m n → ⊥) → PointsStand p new.lasts.nodes.items
-      → GainsReasons IsOfOpening old new → MakesStep p old m new false
+      → GainsReasons IsOfOpening old new → StaysInRun old new → new.banks ≡ old.banks → new.ends ≡ old.ends → new.stop ≡ old.stop
+      → AreReady old new.lasts → MakesStep p old m new false
   opens_run : IsClosed m → Opens p m new → PointsStand p new.lasts.nodes.items → GainsReasons IsOfOpening old new
-      → MakesStep p old m new true
+      → (new.stop ≡ None → OpensRun old new) → MakesStep p old m new true
   solves : (lasts : Lasts) (n : ℕ) → AreReady old lasts → SolvesNode p (record old { lasts = lasts }) m n new → MakesStep p old m new true

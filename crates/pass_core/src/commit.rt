@@ -1,5 +1,5 @@
 //! What a solve leaves.
-ghost use Rattle.std.specs.Prelude.{◌≡◌, ◌<◌, ℕ, true, false, Ok, Err, IfOk, IfSome, OnOk, OnErr};
+ghost use Rattle.std.specs.Prelude.{◌≡◌, ◌<◌, ℕ, true, false, None, Some, Ok, Err, IfOk, IfSome, OnOk, OnErr};
 ghost use Rattle.rationals.specs.Passes.{Operation};
 ghost use Rattle.scen_defs.specs.Lists.{pick};
 ghost use Rattle.scen_defs.specs.Program.{content, node_at, Program as ProgramOf};
@@ -17,6 +17,8 @@ ghost use Rattle.pass_core.specs.Made.{BankBooks, run_book, IsMadeAbout, KeepsMa
 ghost use Rattle.pass_core.specs.Explained.{IsTask, GivesCut, cut_given, point_found, FindsPoint, KeepsExplained};
 ghost use Rattle.pass_core.specs.Tabled.{pool_number, IsSolving, EndsSolve, Drops, RaisesPool, KeepsPools, committed_with, IsAbout};
 ghost use Rattle.pass_core.specs.Turns.{AreUpTo, KeepsPoints, EndsBy};
+ghost use Rattle.pass_core.specs.Left.{StaysInRun, IsOffered, OffersCut, ends_behind, ends_without, TakesComplete};
+ghost use Rattle.pass_core.specs.Left.{TakesPoint, LeavesNone, LeavesBy};
 
 use crate::state::{Begun, State};
 use cut_pool::Offer;
@@ -62,6 +64,10 @@ impl State {
         ensures made { (b : BankBooks) → IfSome (cut_given solved) (IsMadeAbout (run_book self.old.kind b) node)
             → OnOk result (KeepsMade b self.old self.new) }
         ensures reasons { OnOk result (GainsReasons (IsOfSolve self.old.counts.all solved) self.old self.new) }
+        ensures stays { OnOk result (StaysInRun self.old self.new) }
+        ensures left { (m : Machine) (f : Flight) → IsSolving self.old m f begun.now.readings.items
+            → ((k : ℕ) → m.number k ≡ pool_number self.old k) → f.node ≡ node → IsAbout node solved → OnOk result (self.new.stop ≡ None
+            → LeavesBy (content program.now) tree.now node begun.now.task.trial solved self.old self.new) }
     {
         match solved {
             Solved::Point { point, value, cut } => {
@@ -126,6 +132,8 @@ impl State {
         ensures made { (b : BankBooks) → IfSome cut (IsMadeAbout (run_book self.old.kind b) node)
             → OnOk result (KeepsMade b self.old self.new) }
         ensures reasons { (all : SolvedOf) → OnOk result (GainsReasons (IsOfSolve self.old.counts.all all) self.old self.new) }
+        ensures stays { OnOk result (StaysInRun self.old self.new) }
+        ensures left { OnOk result (self.new.stop ≡ None → TakesPoint node begun.now.task.trial point value cut self.old self.new) }
     {
         if !self.keep(node, &begun.task.trial, point)? {
             return Ok(());
@@ -152,6 +160,10 @@ impl State {
         ensures lasts { OnOk result (self.new.lasts ≡ self.old.lasts) }
         ensures low { IfOk result (λ told. told ≡ true → 0 < node) }
         ensures reasons { (all : SolvedOf) → OnOk result (GainsReasons (IsOfSolve self.old.counts.all all) self.old self.new) }
+        ensures stays { OnOk result (StaysInRun self.old self.new) }
+        ensures offers { OnOk result (self.new.stop ≡ None
+            → OffersCut self.old.kind node cut trial.now self.old.banks self.new.banks) }
+        ensures ends { OnOk result (self.new.ends ≡ ends_behind self.old.kind node value cut self.old.ends) }
     {
         match cut {
             Some(cut) if node > 0 => self.offer(cut, trial),
@@ -174,6 +186,8 @@ impl State {
         ensures points { (p : ProgramOf) → OnOk result (KeepsPoints p self.old self.new) }
         ensures made { (b : BankBooks) → IsMadeAbout (run_book self.old.kind b) node cut → OnOk result (KeepsMade b self.old self.new) }
         ensures reasons { (all : SolvedOf) → OnOk result (GainsReasons (IsOfSolve self.old.counts.all all) self.old self.new) }
+        ensures stays { OnOk result (StaysInRun self.old self.new) }
+        ensures left { OnOk result (self.new.stop ≡ None → LeavesNone node begun.now.task.trial cut self.old self.new) }
     {
         self.lasts.forget(node);
         let is_raised = self.take_ray(node, &begun.task.trial, cut)?;
@@ -191,6 +205,10 @@ impl State {
         ensures lasts { OnOk result (self.new.lasts ≡ self.old.lasts) }
         ensures low { IfOk result (λ told. told ≡ true → 0 < node) }
         ensures reasons { (all : SolvedOf) → OnOk result (GainsReasons (IsOfSolve self.old.counts.all all) self.old self.new) }
+        ensures stays { OnOk result (StaysInRun self.old self.new) }
+        ensures offers { OnOk result (self.new.stop ≡ None
+            → OffersCut self.old.kind node (Some cut) trial.now self.old.banks self.new.banks) }
+        ensures ends { OnOk result (self.new.ends ≡ ends_without node cut self.old.ends) }
     {
         if node > 0 {
             return self.offer(cut, trial);
@@ -260,6 +278,9 @@ impl State {
         ensures made { (b : BankBooks) → IsMadeFor (run_book self.old.kind b) cut → OnOk result (KeepsMade b self.old self.new) }
         ensures lasts { OnOk result (self.new.lasts ≡ self.old.lasts) }
         ensures reasons { (all : SolvedOf) → OnOk result (GainsReasons (IsOfSolve self.old.counts.all all) self.old self.new) }
+        ensures stays { OnOk result (StaysInRun self.old self.new) }
+        ensures offered { OnOk result (self.new.stop ≡ None → IsOffered self.old.kind cut trial.now self.old.banks self.new.banks) }
+        ensures ends { OnOk result (self.new.ends ≡ self.old.ends) }
     {
         match self.banks.offer(self.kind, cut, trial)? {
             Some(offer) => Ok(self.judged(offer)),
@@ -309,6 +330,11 @@ impl State {
         ensures made { (b : BankBooks) → OnOk result (KeepsMade b self.old self.new) }
         ensures lasts { OnOk result (self.new.lasts ≡ self.old.lasts) }
         ensures reasons { (all : SolvedOf) → OnOk result (GainsReasons (IsOfSolve self.old.counts.all all) self.old self.new) }
+        ensures stays { OnOk result (StaysInRun self.old self.new) }
+        ensures banks { OnOk result (self.new.banks ≡ self.old.banks) }
+        ensures left { (m : Machine) → Fits self.old.table m → OnOk result (self.new.stop ≡ None → (self.old.stop ≡ None)
+            × TakesComplete self.old.table.complete (content program.now) tree.now self.old.kind self.old.lasts.nodes.items
+            self.old.ends self.new.ends) }
     {
         if !self.table.is_complete() {
             return Ok(());

@@ -14,6 +14,7 @@ ghost use Rattle.pass_core.specs.Made.{BankBooks, run_book, AreBooksOf, CutsAreM
 ghost use Rattle.pass_core.specs.Tabled.{IsTabledBy, KeepsTable, KeepsPools, Opens};
 ghost use Rattle.pass_core.specs.Reasons.{IsOfOpening, GainsReasons};
 ghost use Rattle.pass_core.specs.Turns.{KeepsPoints};
+ghost use Rattle.pass_core.specs.Left.{next_kind, OpensRun};
 
 use crate::state::State;
 use cut_proof::{CutFault, SharedCut};
@@ -28,7 +29,8 @@ use std::alloc::Global;
 
 /// The run that follows a closed one.
 fn next(kind: Kind) -> Kind
-    ensures { is_priced result ≡ true }
+    ensures kind { result ≡ next_kind kind }
+    ensures priced { is_priced result ≡ true }
 {
     match kind {
         Kind::Feasible => Kind::Recession,
@@ -99,6 +101,7 @@ impl State {
             → self.old.frame ≡ frame_of p → AreBooksOf p self.old.versions b → CutsAreMade b self.old
             → OnOk result (CutsAreMade b self.new) }
         ensures reasons { OnOk result (GainsReasons IsOfOpening self.old self.new) }
+        ensures opened { OnOk result (self.new.stop ≡ None → OpensRun self.old self.new) }
     {
         let kind = next(self.kind);
         match self.first_cuts(alloc, program, tree, kind) {
@@ -115,6 +118,7 @@ impl State {
         ensures made { (b : BankBooks) → OnOk result (KeepsMade b self.old self.new) }
         ensures points { (p : ProgramOf) → OnOk result (KeepsPoints p self.old self.new) }
         ensures reasons { OnOk result (GainsReasons IsOfOpening self.old self.new) }
+        ensures stops { OnOk result (self.new.stop ≡ None → ⊥) }
     {
         match fault {
             CutFault::Passed(passed) => {
@@ -226,6 +230,7 @@ impl State {
         ensures made { (b : BankBooks) → Each (λ place. IfSome place (IsMadeFor (run_book kind b))) cuts.items → CutsAreMade b self.old
             → OnOk result (CutsAreMade b self.new) }
         ensures reasons { OnOk result (GainsReasons IsOfOpening self.old self.new) }
+        ensures opened { kind ≡ next_kind self.old.kind → OnOk result (OpensRun self.old self.new) }
     {
         self.put_all(kind, &cuts)?;
         self.kind = kind;
@@ -243,6 +248,7 @@ impl State {
         ensures made { (b : BankBooks) → Each (λ place. IfSome place (IsMadeFor (run_book kind b))) cuts.now
             → OnOk result (KeepsMade b self.old self.new) }
         ensures reasons { OnOk result (GainsReasons IsOfOpening self.old self.new) }
+        ensures others { OnOk result (self.new ≡ record self.old { banks = self.new.banks; stop = self.new.stop }) }
     {
         for place in cuts {
             self.put(kind, place)?;
@@ -256,6 +262,7 @@ impl State {
         ensures kept { OnOk result (KeepsTable self.old self.new) }
         ensures made { (b : BankBooks) → IfSome place.now (IsMadeFor (run_book kind b)) → OnOk result (KeepsMade b self.old self.new) }
         ensures reasons { OnOk result (GainsReasons IsOfOpening self.old self.new) }
+        ensures others { OnOk result (self.new ≡ record self.old { banks = self.new.banks; stop = self.new.stop }) }
     {
         let Some(cut) = place else {
             return Ok(());

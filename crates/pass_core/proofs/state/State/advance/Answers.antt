@@ -6,6 +6,7 @@ use Rattle.pass_core.specs.Turns.MakesStep.{begins_none, opens_run}
 use Rattle.pass_core.specs.Reasons.{IsOfOpening}
 use Rattle.pass_core.proofs.Reasoning.{ready_gains, then_reasons}
 use Rattle.pass_core.proofs.Solving.{solves_before, step_solved}
+use Rattle.pass_core.proofs.Leaving.{ready_stays, ready_opens}
 use Rattle.pass_core.specs.Tabled.{IsTabledBy, HasRoom, IsBegunBy}
 use Rattle.pass_core.proofs.Tabling.{ready_tabled, refit, room_of, room_in, begun_by, rested, opening, turned}
 use Rattle.run_data.specs.declared.versions.Version.{Version}
@@ -56,6 +57,9 @@ returns-then-not-has_room-clause-solves c = λ m i walk frame t stand.
     let u : IsTabledBy p s m = ready_tabled p m c.args.self.now s t c.in_ok-get_ready.ensures.others c.in_ok-get_ready.ensures.begun in
     begins_none (λ room n may. let no : false ≡ true = c.if-not-has_room.ensures.1 (room_in m s.table u.fits room) in absurd (cc))
     (c.in_ok-get_ready.ensures.points p stand) (ready_gains c.args.self.now s c.in_ok-get_ready.ensures.others)
+    (ready_stays c.args.self.now s c.in_ok-get_ready.ensures.others) (ap (λ (x : State). x.banks) c.in_ok-get_ready.ensures.others)
+    (ap (λ (x : State). x.ends) c.in_ok-get_ready.ensures.others) (ap (λ (x : State). x.stop) c.in_ok-get_ready.ensures.others)
+    c.in_ok-get_ready.ensures.ready
 
 pub returns-then-ne-clause-solves : goal.returns-then-ne-clause-solves
 returns-then-ne-clause-solves c = λ m i walk frame t stand.
@@ -66,6 +70,7 @@ returns-then-ne-clause-solves c = λ m i walk frame t stand.
     opens_run ((c.if-is_closed.ensures.meaning m u.fits).0 refl) (c.in_ok-open_next.ensures.tabled p m u c.in_ok-get_ready.ensures.begun room.1)
     (c.in_ok-open_next.ensures.points p (c.in_ok-get_ready.ensures.points p stand))
     (then_reasons IsOfOpening c.args.self.now s c.open_next.new.self (ready_gains c.args.self.now s c.in_ok-get_ready.ensures.others) c.in_ok-open_next.ensures.reasons)
+    (λ stop. ready_opens c.args.self.now s c.open_next.new.self c.in_ok-get_ready.ensures.others (c.in_ok-open_next.ensures.opened stop))
 
 pub returns-in_ok-solve-in-Some-clause-solves : goal.returns-in_ok-solve-in-Some-clause-solves
 returns-in_ok-solve-in-Some-clause-solves c = λ m i walk frame t stand.
@@ -88,6 +93,10 @@ returns-in-None-clause-solves c = λ m i walk frame t stand.
     let none = c.in-None.ensures m u.valid u.fits (u.idle 0) in
     begins_none (λ room. none.0) (c.in_ok-get_ready.ensures.points p stand)
     (record { counts = (ready_gains c.args.self.now s c.in_ok-get_ready.ensures.others).counts; stop = (ready_gains c.args.self.now s c.in_ok-get_ready.ensures.others).stop; lasting = (ready_gains c.args.self.now s c.in_ok-get_ready.ensures.others).lasting })
+    (let stays = ready_stays c.args.self.now s c.in_ok-get_ready.ensures.others in
+    record { kind = stays.kind; frame = stays.frame; budget = stays.budget; versions = stays.versions })
+    (ap (λ (x : State). x.banks) c.in_ok-get_ready.ensures.others) (ap (λ (x : State). x.ends) c.in_ok-get_ready.ensures.others)
+    (ap (λ (x : State). x.stop) c.in_ok-get_ready.ensures.others) c.in_ok-get_ready.ensures.ready
 
 pub returns-then-not-has_room-clause-made : goal.returns-then-not-has_room-clause-made
 returns-then-not-has_room-clause-made c = λ b i walk frame right h.

@@ -1,4 +1,4 @@
-use Rattle.std.proofs.Common.{◌≡◌, IfSome, refl, sym, ap, subst, ◌∙◌}
+use Rattle.std.proofs.Common.{◌≡◌, None, IfSome, refl, sym, ap, subst, ◌∙◌}
 use Rattle.scen_defs.specs.Program.{content, node_at}
 use Rattle.scen_defs.specs.declared.report.Place.{Place}
 use Rattle.node_lp.specs.declared.solved.Solved.{Solved}
@@ -15,6 +15,8 @@ use Rattle.pass_core.specs.Made.{run_book, IsMadeAbout, KeepsMade}
 use Rattle.pass_core.proofs.Making.{then_made}
 use Rattle.pass_core.specs.Reasons.{IsOfSolve, GainsReasons}
 use Rattle.pass_core.proofs.Reasoning.{solve_reasons}
+use Rattle.pass_core.specs.Left.{StaysInRun, LeavesNone, LeavesBy}
+use Rattle.pass_core.proofs.Leaving.{stays_then, stopped_stays, not_stopped, left_by, point_completed}
 use Rattle.pass_core.proofs.state.State.commit.Goals as goal
 
 pub returns-in_ok-point-in-Point-clause-explained : goal.returns-in_ok-point-in-Point-clause-explained
@@ -134,3 +136,55 @@ returns-in_ok-point-in-Point-clause-reasons c =
 
 pub returns-in-NoPoint-clause-reasons : goal.returns-in-NoPoint-clause-reasons
 returns-in-NoPoint-clause-reasons c = c.no_point.ensures.reasons c.args.solved
+
+pub returns-in_ok-point-in-Point-clause-stays : goal.returns-in_ok-point-in-Point-clause-stays
+returns-in_ok-point-in-Point-clause-stays c =
+    let old = c.args.self.now in
+    on_ok c.complete.result (StaysInRun c.point.new.self c.complete.new.self) (StaysInRun old c.complete.new.self)
+    (stays_then old c.point.new.self c.complete.new.self c.in_ok-point-in-Point.ensures.stays) c.complete.ensures.stays
+
+pub returns-in-PivotsEnded-clause-stays : goal.returns-in-PivotsEnded-clause-stays
+returns-in-PivotsEnded-clause-stays c = stopped_stays c.args.self.now c.left_open.new.self _ _ c.left_open.ensures.others
+
+pub returns-in-Passed-clause-stays : goal.returns-in-Passed-clause-stays
+returns-in-Passed-clause-stays c = stopped_stays c.args.self.now c.left_open-in-Passed.new.self _ _ c.left_open-in-Passed.ensures.others
+
+pub returns-in-Loose-clause-stays : goal.returns-in-Loose-clause-stays
+returns-in-Loose-clause-stays c = stopped_stays c.args.self.now c.left_stuck.new.self _ _ c.left_stuck.ensures.others
+
+pub returns-in_ok-point-in-Point-clause-left : goal.returns-in_ok-point-in-Point-clause-left
+returns-in_ok-point-in-Point-clause-left c = λ m f solving number node about.
+    let point = c.in_ok-point-in-Point.ensures in
+    let ended = point.tabled m f solving number node (subst (IsAbout c.args.node) c.in-Point.is about) in
+    point_completed c.complete.result (content c.args.program.now) c.args.tree.now c.args.node c.args.begun.now.task.trial c.in-Point.point
+    c.in-Point.value c.in-Point.cut c.args.solved c.args.self.now c.point.new.self c.complete.new.self c.in-Point.is point.left point.stays
+    c.complete.ensures.lasts c.complete.ensures.banks c.complete.ensures.pools (c.complete.ensures.left ended.machine ended.fits)
+
+pub returns-in-NoPoint-clause-left : goal.returns-in-NoPoint-clause-left
+returns-in-NoPoint-clause-left c = λ m f solving number node about.
+    let p = content c.args.program.now in
+    let tree = c.args.tree.now in
+    let old = c.args.self.now in
+    let new = c.no_point.new.self in
+    let trial = c.args.begun.now.task.trial in
+    let cut = c.in-NoPoint.cut in
+    on_ok c.no_point.result (new.stop ≡ None → LeavesNone c.args.node trial cut old new)
+    (new.stop ≡ None → LeavesBy p tree c.args.node trial c.args.solved old new)
+    (λ h stop. left_by p tree c.args.node trial c.args.solved (solved.NoPoint cut) old new c.in-NoPoint.is (h stop)) c.no_point.ensures.left
+
+pub returns-in-PivotsEnded-clause-left : goal.returns-in-PivotsEnded-clause-left
+returns-in-PivotsEnded-clause-left c = λ m f solving number node about stop.
+    let old = c.args.self.now in
+    absurd (not_stopped old c.left_open.new.self (reason.Pivots old.counts.all)
+    (ap (λ (s : State). s.stop) c.left_open.ensures.others) stop)
+
+pub returns-in-Passed-clause-left : goal.returns-in-Passed-clause-left
+returns-in-Passed-clause-left c = λ m f solving number node about stop.
+    absurd (not_stopped c.args.self.now c.left_open-in-Passed.new.self (reason.Passed c.solve_place-place.result c.in-Passed.passed)
+    (ap (λ (s : State). s.stop) c.left_open-in-Passed.ensures.others) stop)
+
+pub returns-in-Loose-clause-left : goal.returns-in-Loose-clause-left
+returns-in-Loose-clause-left c = λ m f solving number node about stop.
+    let old = c.args.self.now in
+    absurd (not_stopped old c.left_stuck.new.self (reason.Solves old.budget.solves)
+    (ap (λ (s : State). s.stop) c.left_stuck.ensures.others) stop)

@@ -1,5 +1,5 @@
 use Rattle.pass_core.specs.declared.state.State.{State}
-use Rattle.std.proofs.Common.{false, refl, ap, ◌∙◌}
+use Rattle.std.proofs.Common.{false, Some, refl, sym, ap, ◌∙◌}
 use Rattle.node_lp.specs.declared.solved.Solved.TheVariants as solved
 use Rattle.pass_core.specs.Turns.{EndsBy}
 use Rattle.pass_core.proofs.Standing.{same_points, then_points, forgotten_stand}
@@ -9,6 +9,8 @@ use Rattle.pass_core.proofs.Making.{same_made, then_made}
 use Rattle.pass_core.specs.Reasons.{IsOfSolve}
 use Rattle.proved_report.specs.declared.open.Open.{Open}
 use Rattle.pass_core.proofs.Reasoning.{same_reasons, then_reasons}
+use Rattle.run_ends.specs.declared.last.Lasts.{Lasts}
+use Rattle.pass_core.proofs.Leaving.{stays_then, lasts_stays, table_stays, offers_as}
 use Rattle.pass_core.proofs.state.State.no_point.Goals as goal
 
 pub returns-clause-explained : goal.returns-clause-explained
@@ -51,3 +53,24 @@ returns-clause-reasons c = λ all.
     let given = then_reasons is old s c.take_ray.new.self (same_reasons is old s refl refl refl) (c.in_ok-is_raised.ensures.reasons all) in
     then_reasons is old c.take_ray.new.self c.commit_last.new.self given
     (same_reasons is c.take_ray.new.self c.commit_last.new.self (ap (λ (x : State). x.counts) e) (ap (λ (x : State). x.stop) e) (ap (λ (x : State). x.lasting) e))
+
+pub returns-clause-stays : goal.returns-clause-stays
+returns-clause-stays c =
+    let old = c.args.self.now in
+    let s : State = record old { lasts = c.forget.new.self } in
+    stays_then old s c.commit_last.new.self (lasts_stays old s c.forget.new.self refl)
+    (stays_then s c.take_ray.new.self c.commit_last.new.self c.in_ok-is_raised.ensures.stays
+    (table_stays c.take_ray.new.self c.commit_last.new.self _ c.commit_last.ensures.others))
+
+pub returns-clause-left : goal.returns-clause-left
+returns-clause-left c = λ stop.
+    let old = c.args.self.now in
+    let f = c.commit_last.ensures.others in
+    let ray = c.in_ok-is_raised.ensures in
+    record {
+      lasts = ap (λ (l : Lasts). l.nodes.items) (ap (λ (s : State). s.lasts) f ∙ ray.lasts) ∙ c.forget.ensures;
+      banks = offers_as c.args.node (Some c.args.cut) c.args.begun.now.task.trial old.kind old.kind old.banks old.banks
+          c.take_ray.new.self.banks c.commit_last.new.self.banks refl refl (sym (ap (λ (s : State). s.banks) f))
+          (ray.offers (sym (ap (λ (s : State). s.stop) f) ∙ stop));
+      ends = ap (λ (s : State). s.ends) f ∙ ray.ends;
+    }

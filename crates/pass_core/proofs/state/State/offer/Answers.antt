@@ -15,6 +15,7 @@ use Rattle.pass_core.specs.Reasons.{IsOfSolve, GainsReasons}
 use Rattle.proved_report.specs.declared.open.Open.{Open}
 use Rattle.proved_report.specs.declared.open.Open.TheVariants.{Solves}
 use Rattle.pass_core.proofs.Reasoning.{same_reasons, stopped_reasons, then_reasons, answered_reasons}
+use Rattle.pass_core.proofs.Leaving.{stays_as, answer_stays, answer_ends, not_stopped, offered_taken}
 use Rattle.pass_core.proofs.state.State.offer.Goals as goal
 
 pub returns-in-Some-clause-explained : goal.returns-in-Some-clause-explained
@@ -78,3 +79,37 @@ returns-in-None-clause-reasons c = λ all.
     let is : Open → Type 0 = IsOfSolve old.counts.all all in
     then_reasons is old s c.stuck.new.self (same_reasons is old s refl refl refl)
     (stopped_reasons is s c.stuck.new.self (Solves old.budget.solves) (ap (λ (x : State). x.counts) e) (ap (λ (x : State). x.stop) e) (ap (λ (x : State). x.lasting) e) tt)
+
+pub returns-in-Some-clause-stays : goal.returns-in-Some-clause-stays
+returns-in-Some-clause-stays c =
+    let s : State = record c.args.self.now { banks = c.offer.new.self } in
+    let h = stays_as s (after_answer c.in-Some.offer s) c.judged.new.self c.judged.ensures.state (answer_stays c.in-Some.offer s) in
+    record { kind = h.kind; frame = h.frame; budget = h.budget; versions = h.versions }
+
+pub returns-in-None-clause-stays : goal.returns-in-None-clause-stays
+returns-in-None-clause-stays c =
+    let e = c.stuck.ensures in
+    record {
+      kind = ap (λ (x : State). x.kind) e;
+      frame = ap (λ (x : State). x.frame) e;
+      budget = ap (λ (x : State). x.budget) e;
+      versions = ap (λ (x : State). x.versions) e;
+    }
+
+pub returns-in-Some-clause-offered : goal.returns-in-Some-clause-offered
+returns-in-Some-clause-offered c =
+    offered_taken c.args.self.now c.judged.new.self c.args.cut c.args.trial.now c.offer.new.self c.in-Some.offer
+    (sym c.in-Some.is ∙ c.in_ok-offer.ensures.answer) c.in_ok-offer.ensures.ok c.judged.ensures.state
+
+pub returns-in-None-clause-offered : goal.returns-in-None-clause-offered
+returns-in-None-clause-offered c = λ stop.
+    let s : State = record c.args.self.now { banks = c.offer.new.self } in
+    absurd (not_stopped s c.stuck.new.self (Solves s.budget.solves) (ap (λ (x : State). x.stop) c.stuck.ensures) stop)
+
+pub returns-in-Some-clause-ends : goal.returns-in-Some-clause-ends
+returns-in-Some-clause-ends c =
+    let s : State = record c.args.self.now { banks = c.offer.new.self } in
+    ap (λ (x : State). x.ends) c.judged.ensures.state ∙ answer_ends c.in-Some.offer s
+
+pub returns-in-None-clause-ends : goal.returns-in-None-clause-ends
+returns-in-None-clause-ends c = ap (λ (x : State). x.ends) c.stuck.ensures

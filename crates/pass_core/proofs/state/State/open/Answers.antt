@@ -1,9 +1,13 @@
-use Rattle.std.proofs.Common.{Option, IfSome, refl, sym, subst}
+use Rattle.std.proofs.Common.{List, Option, None, IfSome, refl, sym, ap, subst, ◌∙◌}
 use Rattle.scen_defs.specs.Lists.{Each}
 use Rattle.cut_defs.specs.Stored.{Stored, IsMadeFor}
 use Rattle.pass_core.specs.Made.{run_book}
 use Rattle.pass_core.specs.Explained.{PointsAreFound}
-use Rattle.pass_core.proofs.Standing.{none_stand}
+use Rattle.run_ends.specs.declared.ends.Ends.{Ends}
+use Rattle.run_ends.specs.declared.last.Last.{Last}
+use Rattle.run_ends.specs.Lasts.{last_at}
+use Rattle.pass_core.specs.declared.state.State.{State}
+use Rattle.pass_core.proofs.Standing.{none_stand, no_last}
 use Rattle.pass_core.proofs.Tabling.{run_opened}
 use Rattle.pass_core.proofs.Explaining.{none_found}
 use Rattle.pass_core.proofs.state.State.open.Goals as goal
@@ -37,3 +41,16 @@ returns-clause-made c = λ b all h.
     subst (Each (λ (place : Option Stored). IfSome place (IsMadeFor (run_book c.args.kind b)))) (sym c.deref.ensures.value) all in
     let k = (c.in_ok-put_all.ensures.made b each).1 h in
     (k.0, record { root = tt; lower = k.1.lower; nowhere = k.1.nowhere })
+
+pub returns-clause-opened : goal.returns-clause-opened
+returns-clause-opened c = λ k.
+    let e = c.in_ok-put_all.ensures.others in
+    record {
+      kind = k;
+      lasts = λ n. ap (λ (ls : List (Option Last)). last_at ls n) c.in_ok-self.ensures ∙ no_last _ n;
+      ends = ap (λ (s : State). let x : Ends = record s.ends { root = None } in x) e;
+      lasting = refl;
+      frame = ap (λ (s : State). s.frame) e;
+      budget = ap (λ (s : State). s.budget) e;
+      versions = ap (λ (s : State). s.versions) e;
+    }

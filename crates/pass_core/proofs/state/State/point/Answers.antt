@@ -1,4 +1,4 @@
-use Rattle.std.proofs.Common.{◌≡◌, Bool, true, false, Ok, ap, inl, inr, refl, ◌∙◌, rules}
+use Rattle.std.proofs.Common.{◌≡◌, Bool, true, false, Ok, ap, inl, inr, refl, sym, ◌∙◌, rules}
 use Rattle.node_lp.specs.declared.solved.Solved.TheVariants as solved
 use Rattle.pass_core.specs.declared.state.State.{State}
 use Rattle.pass_core.specs.Turns.{EndsBy}
@@ -10,6 +10,8 @@ use Rattle.pass_core.proofs.Making.{same_made, then_made, still_made}
 use Rattle.pass_core.specs.Reasons.{IsOfSolve}
 use Rattle.proved_report.specs.declared.open.Open.{Open}
 use Rattle.pass_core.proofs.Reasoning.{same_reasons, then_reasons, solve_reasons}
+use Rattle.proved_report.specs.declared.open.Open.TheVariants.{Solves}
+use Rattle.pass_core.proofs.Leaving.{stays_then, stopped_stays, lasts_stays, table_stays, not_stopped, point_taken}
 use Rattle.pass_core.proofs.state.State.point.Goals as goal
 
 pub returns-clause-explained : goal.returns-clause-explained
@@ -75,3 +77,34 @@ returns-clause-reasons c = λ all.
     then_reasons is old c.take_bound.new.self c.commit_last.new.self
     (solve_reasons all old c.keep.new.self c.take_bound.new.self (c.in_ok-keep.ensures.reasons all) (c.in_ok-is_raised.ensures.reasons all))
     (same_reasons is c.take_bound.new.self c.commit_last.new.self (ap (λ (x : State). x.counts) e) (ap (λ (x : State). x.stop) e) (ap (λ (x : State). x.lasting) e))
+
+pub returns-then-not-branch-clause-stays : goal.returns-then-not-branch-clause-stays
+returns-then-not-branch-clause-stays c =
+    let q : c.in_ok-keep.field-0 ≡ false = first_of (cc, search (rules, not_true, c.if-not-branch.true)) in
+    stopped_stays c.args.self.now c.keep.new.self _ _ (c.in_ok-keep.ensures.stuck (ap (λ (b : Bool). Ok b) q))
+
+pub returns-clause-stays : goal.returns-clause-stays
+returns-clause-stays c =
+    let q : c.in_ok-keep.field-0 ≡ true = first_of (cc, search (rules, not_false, c.if-not-branch.false)) in
+    let old = c.args.self.now in
+    stays_then old c.keep.new.self c.commit_last.new.self
+    (lasts_stays old c.keep.new.self _ (c.in_ok-keep.ensures.others (ap (λ (b : Bool). Ok b) q)))
+    (stays_then c.keep.new.self c.take_bound.new.self c.commit_last.new.self c.in_ok-is_raised.ensures.stays
+    (table_stays c.take_bound.new.self c.commit_last.new.self _ c.commit_last.ensures.others))
+
+pub returns-then-not-branch-clause-left : goal.returns-then-not-branch-clause-left
+returns-then-not-branch-clause-left c = λ stop.
+    let q : c.in_ok-keep.field-0 ≡ false = first_of (cc, search (rules, not_true, c.if-not-branch.true)) in
+    let old = c.args.self.now in
+    absurd (not_stopped old c.keep.new.self (Solves old.budget.solves)
+    (ap (λ (s : State). s.stop) (c.in_ok-keep.ensures.stuck (ap (λ (b : Bool). Ok b) q))) stop)
+
+pub returns-clause-left : goal.returns-clause-left
+returns-clause-left c = λ stop.
+    let q : c.in_ok-keep.field-0 ≡ true = first_of (cc, search (rules, not_false, c.if-not-branch.false)) in
+    let e = c.in_ok-keep.ensures.others (ap (λ (b : Bool). Ok b) q) in
+    let f = c.commit_last.ensures.others in
+    let bound = c.in_ok-is_raised.ensures in
+    point_taken c.args.node c.args.begun.now.task.trial c.args.point c.args.value c.args.cut c.args.self.now c.keep.new.self
+    c.take_bound.new.self c.commit_last.new.self _ _ e f (c.in_ok-keep.ensures.kept (ap (λ (b : Bool). Ok b) q)) bound.lasts
+    (bound.offers (sym (ap (λ (s : State). s.stop) f) ∙ stop)) bound.ends

@@ -7,6 +7,7 @@ use Rattle.cut_pool.specs.Pool.{with_cut}
 use Rattle.scen_defs.proofs.ValueLaws.{each-push}
 use Rattle.pass_core.specs.Made.{run_book}
 use Rattle.pass_core.proofs.Making.{bank_changed, banks_made, then_made, same_made}
+use Rattle.pass_core.proofs.Leaving.{put_others}
 use Rattle.pass_core.proofs.state.State.put.Goals as goal
 
 pub returns-then-is_put-clause-kept : goal.returns-then-is_put-clause-kept
@@ -41,3 +42,6 @@ returns-clause-made c = λ b h.
     (bank_changed c.args.kind b old.banks c.ground.new.self (may_put cut) (λ p. with_cut p cut) (source_of cut).node
     (λ p k. each-push (IsMadeFor (run_book c.args.kind b)) p.cuts cut k made) c.in_ok-is_put.ensures.ok))
     (same_made b s c.stuck.new.self (ap (λ (x : State). x.banks) e) (ap (λ (x : State). x.kind) e) (ap (λ (x : State). x.ends) e))
+
+pub returns-clause-others : goal.returns-clause-others
+returns-clause-others c = put_others c.args.self.now c.stuck.new.self c.ground.new.self _ c.stuck.ensures

@@ -6,6 +6,7 @@ use Rattle.pass_core.proofs.Tabling.{table_then}
 use Rattle.pass_core.specs.Reasons.{IsOfOpening}
 use Rattle.pass_core.proofs.Reasoning.{then_reasons}
 use Rattle.pass_core.proofs.Making.{then_made, each_at}
+use Rattle.pass_core.proofs.Leaving.{others_then}
 use Rattle.pass_core.proofs.state.State.put_all.Goals as goal
 
 pub loop-place-preserved : goal.loop-place-preserved
@@ -14,5 +15,6 @@ loop-place-preserved c = record {
   made = λ b all. then_made b c.args.self.now c.loop-place.self c.put.new.self (c.loop-place.invariant.made b all) (c.in_ok-put.ensures.made b
       (each_at (λ (place : Option Stored). IfSome place (IsMadeFor (run_book c.args.kind b))) c.args.cuts.now c.loop-place.place-index c.place-item.result all c.loop-place-test.true c.place-item.is));
   kept = table_then c.args.self.now c.loop-place.self c.put.new.self c.loop-place.invariant.kept c.in_ok-put.ensures.kept;
+  others = others_then c.args.self.now c.loop-place.self c.put.new.self c.loop-place.invariant.others c.in_ok-put.ensures.others;
   reasons = then_reasons IsOfOpening c.args.self.now c.loop-place.self c.put.new.self c.loop-place.invariant.reasons c.in_ok-put.ensures.reasons;
 }

@@ -1,4 +1,4 @@
-use Rattle.std.proofs.Common.{IfSome}
+use Rattle.std.proofs.Common.{◌≡◌, IfSome}
 use Rattle.scen_defs.specs.Lists.{Each}
 use Rattle.scen_defs.specs.Program.{Program}
 use Rattle.cut_defs.specs.Stored.{IsMadeFor}
@@ -14,5 +14,6 @@ invariant-loop-place l = record {
   explained : (p : Program) (tree : Tree) → KeepsExplained p tree l.initial.self l.self;
   made : (b : BankBooks) → Each (λ place. IfSome place (IsMadeFor (run_book l.kind b))) l.cuts → KeepsMade b l.initial.self l.self;
   kept : KeepsTable l.initial.self l.self;
+  others : l.self ≡ record l.initial.self { banks = l.self.banks; stop = l.self.stop };
   reasons : GainsReasons IsOfOpening l.initial.self l.self;
 }

@@ -97,13 +97,17 @@ returns-clause-solves c = λ m i walk frame begun stand.
     x.readings.items ≡ numbers_read (pools_of c.args.self.now.kind c.args.self.now.banks) (children_in c.args.self.now.frame c.args.node)))
     c.in-Some.is c.in_ok-begun.ensures.readings in
     let trial : AreUpTo p (node_at p.nodes n).stage t.trial = task_trial p old n t i (lives p old m n i frame begun) frame stand task in
-    solved_by p old c.raise.new.self m n i frame b t all c.commit.new.self c.commit.result c.raise.ensures task (c.if-not-fits.ensures.exact.0 refl) stand
-    c.in_ok-solved.ensures.exact
+    let about = answer_about t n all node c.in_ok-solved.ensures.answer in
+    solved_by p c.args.tree.now old c.raise.new.self m n i walk frame b t all c.commit.new.self c.commit.result c.raise.ensures task
+    (c.if-not-fits.ensures.exact.0 refl) stand
+    c.in_ok-solved.ensures.exact c.in_ok-solved.ensures.answer
     (c.commit.ensures.tabled (read_machine p s m n i frame b) (begun_flight p s m n i frame b)
     (begun_solving p s m n i frame b c.in-Some.begun.readings.items rs) (reads_number p s m n i frame b) (at_node p s m n i frame b)
-    (answer_about t n all node c.in_ok-solved.ensures.answer))
+    about)
     (c.commit.ensures.points p trial (found_stands p s.kind n (version_of s.versions n) t all task.datum c.in_ok-solved.ensures.answer))
-    c.commit.ensures.reasons
+    c.commit.ensures.reasons c.commit.ensures.stays
+    (c.commit.ensures.left (read_machine p s m n i frame b) (begun_flight p s m n i frame b)
+    (begun_solving p s m n i frame b c.in-Some.begun.readings.items rs) (reads_number p s m n i frame b) (at_node p s m n i frame b) about)
 
 pub returns-in_default-clause-made : goal.returns-in_default-clause-made
 returns-in_default-clause-made c = λ b i walk frame right h.
