@@ -133,8 +133,8 @@ module _ (p : Program) (old : State) where
       opened (inr i) = inr (at_opening why new i)
 
       go : (b : Bool) → MakesStep p mid m new b → HasReason old why ⊎ Arises p old new why
-      go b (begins_none rests points reasons) = opened (gained IsOfOpening mid new why reasons h)
-      go b (opens_run closed opens points reasons) = opened (gained IsOfOpening mid new why reasons h)
+      go b (begins_none rests points reasons stays banks ends stop ready) = opened (gained IsOfOpening mid new why reasons h)
+      go b (opens_run closed opens points reasons run) = opened (gained IsOfOpening mid new why reasons h)
       go b (solves lasts n ready node) =
           elim (gained (IsOfSolve (with_commit mid.counts).all (node_solved node.task)) (record mid { lasts = lasts; counts = with_commit mid.counts }) new why node.reasons h) [
             | inl x ↦ kept (rest x)
@@ -157,8 +157,8 @@ module _ (p : Program) (old : State) where
       by Is (inr i) = i.1
 
       go : (b : Bool) → MakesStep p mid m new b → IsLasting why
-      go b (begins_none rests points reasons) = by IsOfOpening (reasons.lasting why e)
-      go b (opens_run closed opens points reasons) = by IsOfOpening (reasons.lasting why e)
+      go b (begins_none rests points reasons stays banks ends stop ready) = by IsOfOpening (reasons.lasting why e)
+      go b (opens_run closed opens points reasons run) = by IsOfOpening (reasons.lasting why e)
       go b (solves lasts n ready node) = by (IsOfSolve (with_commit mid.counts).all (node_solved node.task)) (node.reasons.lasting why e)
 
   -- what lasts for a run is told of a cut or of a cost
