@@ -23,8 +23,8 @@ use Rattle.cut_defs.specs.Data.{Datum, datum_of}
 use Rattle.cut_defs.specs.Stored.{Source, Stored, StoredUses, source_of, constant_of, form_of, form_sum, constant_sum, slope_of, cost_of, weight_on, StoredRays, WeightsFit, IsMadeFrom, IsMadeFor, AreMadeFor}
 use Rattle.cut_defs.specs.Stored.Stored.{Stored_of}
 use Rattle.cut_defs.specs.Stored.StoredUses.{No_stored, Use_stored}
-use Rattle.cut_defs.specs.Current.{IsCurrent, AreCurrent}
-use Rattle.cut_defs.proofs.Present.{current_is_present}
+use Rattle.cut_defs.specs.Current.{IsCurrent, AreCurrent, stored_flat}
+use Rattle.cut_defs.proofs.Present.{current_is_present, stored_flats_are_good}
 use Rattle.edit_defs.specs.Data.{view_in, history, book}
 use Rattle.edit_defs.proofs.EditLaws.{scripts_make_books}
 use Rattle.dual_assemble.specs.Laws.{flat_of}
@@ -178,6 +178,19 @@ good_and_worth kind p (Stored_of s uses constant form) fs i made root walk =
     (same_flat [] one_ℚ cut ∙ walk) 0
     (current_is_present (history kind p []) 0 (anew cut) (anew_current kind p cut (root_live p s.node root (root_lives p i)) made))
     (subst (IsRoot (view_in kind p)) (sym root) (root_in kind p i))
+
+-- multipliers that are good, and worth at least the cut's constant, whether or not an operation of its assembly passes
+pub root_is_worth : (kind : Kind) (p : Program) (cut : Stored) → IsProgram p → IsMadeAbout (book kind p []) 0 cut
+    → (y : ℕ → ℕ → ℚ) × (IsGood (priced (view_in kind p) (source_of cut).kind) y
+    × (constant_of cut ≤ℚ value (priced (view_in kind p) (source_of cut).kind) y))
+root_is_worth kind p (Stored_of s uses constant form) i h =
+    let cut : Stored = Stored_of s uses constant form in (
+      stored_flat (anew cut),
+      stored_flats_are_good (history kind p []) (book kind p []) (anew cut) (scripts_make_books kind p [] i tt)
+          (for_anew kind p cut h.made) 0
+          (current_is_present (history kind p []) 0 (anew cut) (anew_current kind p cut (root_live p s.node h.node (root_lives p i)) h.made))
+          (subst (IsRoot (view_in kind p)) (sym h.node) (root_in kind p i)),
+    )
 
 pub roots_assemble_well : RootsAssembleWell
 roots_assemble_well kind p cut i h = record {

@@ -318,3 +318,7 @@ assembly_fails p frame tree pivots cut form_fault.Memory g h = tt
 pub on_ok : {X E : Type 0} (r : Result X E) (A B : Type 0) → (A → B) → OnOk r A → OnOk r B
 on_ok (Ok x) A B f a = f a
 on_ok (Err e) A B f a = tt
+
+pub both_ok : {X E : Type 0} (r : Result X E) (A B C : Type 0) → (A → B → C) → OnOk r A → OnOk r B → OnOk r C
+both_ok (Ok x) A B C f a b = f a b
+both_ok (Err e) A B C f a b = tt

@@ -31,6 +31,7 @@ use Rattle.run_ends.specs.Lasts.{last_at, along_of, trial_of, with_last, kept}
 use Rattle.pass_core.specs.declared.state.State.{State}
 use Rattle.pass_core.specs.Counting.{after_answer}
 use Rattle.pass_core.specs.Explained.{point_found}
+use Rattle.pass_core.specs.Left.{places_in}
 use Rattle.pass_core.specs.Turns.{AreUpTo, PointsStand, KeepsPoints, datum_in, PassesInJoin, AreReady}
 
 -- ---- the columns of a sum
@@ -233,13 +234,17 @@ answer_lasts (offer.Stale node part seen known) s = refl
 answer_lasts (offer.Passed o) s = refl
 
 -- there are places for last solves
-pub ready_before : (old : State) (lasts : Lasts) → old.is_begun ≡ true → lasts ≡ old.lasts → AreReady old lasts
-ready_before old lasts z e = record { same = λ y. e; none = λ y n. let no : true ≡ false = sym z ∙ y in absurd (cc) }
+clash : {A : Type 0} (b : Bool) → b ≡ true → b ≡ false → A
+clash b x y = let no : true ≡ false = sym x ∙ y in absurd (cc)
 
-pub ready_first : (old : State) (lasts : Lasts) (n : ℕ) → old.is_begun ≡ false → lasts.nodes.items ≡ replicate n None → AreReady old lasts
-ready_first old lasts n z e = record {
+pub ready_before : (old : State) (lasts : Lasts) → old.is_begun ≡ true → lasts ≡ old.lasts → AreReady old lasts
+ready_before old lasts z e = record { same = λ y. e; none = λ y. clash old.is_begun z y }
+
+pub ready_first : (old : State) (lasts : Lasts) (n : ℕ) → old.is_begun ≡ false → lasts.nodes.items ≡ replicate n None → n ≡ places_in old.frame
+    → AreReady old lasts
+ready_first old lasts n z e q = record {
   same = λ y. let no : false ≡ true = sym z ∙ y in absurd (cc);
-  none = λ y k. ap (λ (ls : List (Option Last)). last_at ls k) e ∙ no_last n k;
+  none = λ y. e ∙ ap (λ (k : ℕ). replicate k None) q;
 }
 
 -- where a point can't be kept an operation passes

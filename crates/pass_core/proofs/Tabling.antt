@@ -496,7 +496,7 @@ rested p m s none t = record { machine = m; step = rests none; tabled = t }
 
 -- a run was to open
 pub opening : (p : Program) (m : Machine) (s : State) → IsClosed m → Opens p m s → StepsTo p m true s
-opening p m s closed (not_opened t) = record { machine = m; step = waits closed; tabled = t }
+opening p m s closed (not_opened stops t) = record { machine = m; step = waits closed; tabled = t }
 opening p m s closed (is_opened number t) = record { machine = opened m number; step = opens closed number; tabled = t }
 
 -- a node was solved

@@ -1,6 +1,6 @@
 -- What a solve leaves of the last solves, the pools and the ends, where nothing stops the method behind it; and what the opening of a run
 -- leaves.
-use Rattle.std.specs.Prelude.{◌≡◌, ℕ, zero, suc, Bool, true, false, List, Option, Some, None, Ok}
+use Rattle.std.specs.Prelude.{◌≡◌, ℕ, zero, suc, ◌-◌, ◌^◌, min, Bool, true, false, List, length, replicate, Option, Some, None, Ok}
 use Rattle.rationals.specs.Rational.{ℚ}
 use Rattle.rationals.specs.Sparse.{Entry}
 use Rattle.scen_defs.specs.Program.{Program}
@@ -17,9 +17,10 @@ use Rattle.cut_banks.specs.Banks.{pools_of, with_pools}
 use Rattle.cut_banks.specs.Pools.{may_take, pool_if, with_pool}
 use Rattle.node_lp.specs.declared.solved.Solved.{Solved}
 use Rattle.node_lp.specs.declared.solved.Solved.TheVariants as solved
+use Rattle.run_data.specs.Frames.{Frame}
 use Rattle.run_ends.specs.declared.last.Last.{Last}
 use Rattle.run_ends.specs.declared.ends.Ends.{Ends}
-use Rattle.run_ends.specs.Lasts.{last_at, with_last, kept, joined_points}
+use Rattle.run_ends.specs.Lasts.{with_last, kept, joined_points}
 use Rattle.run_ends.specs.Costs.{joined_cost}
 use Rattle.run_ends.specs.Ends.{after_root, after_policy}
 use Rattle.pass_core.specs.declared.state.State.{State}
@@ -114,10 +115,14 @@ next_kind Feasible = Recession
 next_kind Recession = Cost
 next_kind Cost = Cost
 
+-- how many places there are for nodes: their numbers have 32 bits
+abbrev pub places_in : Frame → ℕ
+places_in frame = min (length frame.parents) (2 ^ 32 - 1)
+
 -- the next run is open: no node has a last solve, of the ends all but the root's cut stay, and no reason lasts
 pub record OpensRun (old new : State) : Type 0 where
   pub kind : new.kind ≡ next_kind old.kind
-  pub lasts : (n : ℕ) → last_at new.lasts.nodes.items n ≡ None
+  pub lasts : new.lasts.nodes.items ≡ replicate (places_in new.frame) None
   pub ends : new.ends ≡ record old.ends { root = None }
   pub lasting : new.lasting ≡ None
   pub frame : new.frame ≡ old.frame

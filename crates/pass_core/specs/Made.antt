@@ -74,6 +74,10 @@ CutsAreMade b s = PoolsAreMade b s.banks × EndsAreMade b s.kind s.ends
 abbrev pub KeepsMade : BankBooks → State → State → Type 0
 KeepsMade b old new = (new.kind ≡ old.kind) × (CutsAreMade b old → CutsAreMade b new)
 
+-- where books are right of the program and all cuts are made for them, they are so behind a step
+abbrev pub KeepsBooks : Program → State → State → Type 0
+KeepsBooks p old new = (b : BankBooks) → AreBooksOf p old.versions b → CutsAreMade b old → CutsAreMade b new
+
 -- ---- behind an edit
 -- the book of a bank
 abbrev pub bank_book : Bank → BankBooks → Book

@@ -1,5 +1,5 @@
 -- The table of a state: the machine of the program that it fits, and what a step does to it.
-use Rattle.std.specs.Prelude.{◌≡◌, ℕ, ◌+◌, ◌<◌, ◌≤◌, ◌^◌, Bool, true, false, List, length, slice_index, IfSome}
+use Rattle.std.specs.Prelude.{◌≡◌, ℕ, ◌+◌, ◌<◌, ◌≤◌, ◌^◌, Bool, true, false, None, List, length, slice_index, IfSome}
 use Rattle.scen_defs.specs.Lists.{pick, passes_at}
 use Rattle.scen_defs.specs.Program.{Program, is_live}
 use Rattle.cut_defs.specs.Stored.{source_of}
@@ -157,7 +157,7 @@ pub record EndsBegun (Way : Machine → Flight → Bool → Machine → Type 0) 
   pub tabled : IsTabledBy p s machine
 
 -- ---- the opening of a run
--- the next run opens or doesn't
+-- the next run opens, or doesn't, and then something stops the method
 pub data Opens (p : Program) (m : Machine) (s : State) : Type 0 where
-  not_opened : IsTabledBy p s m → Opens p m s
+  not_opened : (s.stop ≡ None → ⊥) → IsTabledBy p s m → Opens p m s
   is_opened : (number : ℕ → ℕ) → IsTabledBy p s (opened m number) → Opens p m s

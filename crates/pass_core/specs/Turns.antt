@@ -1,5 +1,5 @@
 -- What a turn solves: the program of its node in the present run; and how the turn ends by what is told of it.
-use Rattle.std.specs.Prelude.{◌≡◌, ◌⊎◌, ℕ, Bool, true, false, leb, List, map, Option, None, Ok, Err, IfSome, ⊤}
+use Rattle.std.specs.Prelude.{◌≡◌, ◌⊎◌, ℕ, Bool, true, false, leb, List, map, replicate, Option, None, Ok, Err, IfSome, ⊤}
 use Rattle.rationals.specs.Rational.{one_ℚ}
 use Rattle.rationals.specs.Passes.{Operation}
 use Rattle.rationals.specs.Forms.{add_scaled_walk}
@@ -31,8 +31,8 @@ use Rattle.pass_core.specs.declared.state.Counts.{Counts}
 use Rattle.pass_core.specs.declared.state.State.{State}
 use Rattle.pass_core.specs.Counting.{with_commit}
 use Rattle.pass_core.specs.Reasons.{IsOfSolve, IsOfOpening, GainsReasons}
-use Rattle.pass_core.specs.Tabled.{HasRoom, committed_with, EndsBegun, Opens}
-use Rattle.pass_core.specs.Left.{StaysInRun, LeavesBy, OpensRun}
+use Rattle.pass_core.specs.Tabled.{HasRoom, IsTabledBy, committed_with, EndsBegun, Opens}
+use Rattle.pass_core.specs.Left.{StaysInRun, LeavesBy, places_in, OpensRun}
 
 -- ---- points
 -- each value is of a column of this stage or of an earlier one
@@ -111,15 +111,23 @@ pub record SolvesNode (p : Program) (old : State) (m : Machine) (n : ℕ) (new :
 -- the last solves of a run, for which there are places once something was done
 pub record AreReady (old : State) (lasts : Lasts) : Type 0 where
   pub same : old.is_begun ≡ true → lasts ≡ old.lasts
-  pub none : old.is_begun ≡ false → (n : ℕ) → last_at lasts.nodes.items n ≡ None
+  pub none : old.is_begun ≡ false → lasts.nodes.items ≡ replicate (places_in old.frame) None
+
+-- nothing is done but that there are places for last solves
+pub record StaysReady (p : Program) (old : State) (m : Machine) (new : State) : Type 0 where
+  pub run : StaysInRun old new
+  pub banks : new.banks ≡ old.banks
+  pub ends : new.ends ≡ old.ends
+  pub stop : new.stop ≡ old.stop
+  pub ready : AreReady old new.lasts
+  pub tabled : IsTabledBy p new m
 
 -- a step of a state whose table fits this machine, and whether it is told that something was done: no node may be begun, or there is no
 -- room for it, and nothing is found; the run is closed, and the next one opens or something stops the method; or the program of a node is
 -- solved, which alone is counted
 pub data MakesStep (p : Program) (old : State) (m : Machine) (new : State) : Bool → Type 0 where
   begins_none : (HasRoom m → (n : ℕ) → MayBegin m n → ⊥) → PointsStand p new.lasts.nodes.items
-      → GainsReasons IsOfOpening old new → StaysInRun old new → new.banks ≡ old.banks → new.ends ≡ old.ends → new.stop ≡ old.stop
-      → AreReady old new.lasts → MakesStep p old m new false
+      → GainsReasons IsOfOpening old new → StaysReady p old m new → MakesStep p old m new false
   opens_run : IsClosed m → Opens p m new → PointsStand p new.lasts.nodes.items → GainsReasons IsOfOpening old new
       → (new.stop ≡ None → OpensRun old new) → MakesStep p old m new true
   solves : (lasts : Lasts) (n : ℕ) → AreReady old lasts → SolvesNode p (record old { lasts = lasts }) m n new → MakesStep p old m new true

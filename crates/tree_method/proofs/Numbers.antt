@@ -133,7 +133,7 @@ module _ (p : Program) (old : State) where
       opened (inr i) = inr (at_opening why new i)
 
       go : (b : Bool) → MakesStep p mid m new b → HasReason old why ⊎ Arises p old new why
-      go b (begins_none rests points reasons stays banks ends stop ready) = opened (gained IsOfOpening mid new why reasons h)
+      go b (begins_none rests points reasons ready) = opened (gained IsOfOpening mid new why reasons h)
       go b (opens_run closed opens points reasons run) = opened (gained IsOfOpening mid new why reasons h)
       go b (solves lasts n ready node) =
           elim (gained (IsOfSolve (with_commit mid.counts).all (node_solved node.task)) (record mid { lasts = lasts; counts = with_commit mid.counts }) new why node.reasons h) [
@@ -143,8 +143,8 @@ module _ (p : Program) (old : State) where
 
   arises : (new : State) (why : Open) → SolvesNodes p old new → HasReason new why → HasReason old why ⊎ Arises p old new why
   arises new why none h = inl h
-  arises new why (more mid k m told y left t step) h =
-      step_arises why mid k m told y (more mid k m told none left t step) step (arises mid why y) h
+  arises new why (more mid k m told y left t step keeps) h =
+      step_arises why mid k m told y (more mid k m told none left t step keeps) step (arises mid why y) h
   arises new why (anew mid k y over) (inl e) = absurd (no_reason k.stop why over.beginning.stop e)
   arises new why (anew mid k y over) (inr e) = absurd (no_reason k.lasting why over.beginning.lasting e)
 
@@ -157,7 +157,7 @@ module _ (p : Program) (old : State) where
       by Is (inr i) = i.1
 
       go : (b : Bool) → MakesStep p mid m new b → IsLasting why
-      go b (begins_none rests points reasons stays banks ends stop ready) = by IsOfOpening (reasons.lasting why e)
+      go b (begins_none rests points reasons ready) = by IsOfOpening (reasons.lasting why e)
       go b (opens_run closed opens points reasons run) = by IsOfOpening (reasons.lasting why e)
       go b (solves lasts n ready node) = by (IsOfSolve (with_commit mid.counts).all (node_solved node.task)) (node.reasons.lasting why e)
 
@@ -165,7 +165,7 @@ module _ (p : Program) (old : State) where
   still_lasts : (new : State) → SolvesNodes p old new → ((why : Open) → old.lasting ≡ Some why → IsLasting why) → (why : Open) → new.lasting ≡ Some why
       → IsLasting why
   still_lasts new none h why e = h why e
-  still_lasts new (more mid k m told y left t step) h why e = step_lasts mid k m told step (still_lasts mid y h) why e
+  still_lasts new (more mid k m told y left t step keeps) h why e = step_lasts mid k m told step (still_lasts mid y h) why e
   still_lasts new (anew mid k y over) h why e = absurd (no_reason k.lasting why over.beginning.lasting e)
 
 -- ---- where solves are counted from 0

@@ -26,6 +26,7 @@ use Rattle.run_data.specs.declared.versions.Version.{Version}
 use Rattle.run_data.specs.Frames.{Frame, parent_of, stage_of, columns_from, frame_of}
 use Rattle.pass_table.specs.Machine.{Machine}
 use Rattle.pass_table.specs.Marks.{nothing}
+use Rattle.pass_core.specs.Made.{KeepsBooks}
 use Rattle.pass_core.specs.declared.budget.Budget.{Budget}
 use Rattle.pass_core.specs.declared.state.Counts.{Counts}
 use Rattle.pass_core.specs.Counting.{no_commits, one_solve_more, with_commit}
@@ -141,7 +142,7 @@ step_tabled p old new told step h = let s = step h.0 h.1 in (s.machine, s.tabled
 
 -- and the points standing
 step_points : (p : Program) (old new : State) (m : Machine) (told : Bool) → MakesStep p old m new told → PointsStand p new.lasts.nodes.items
-step_points p old new m told (begins_none rests points reasons stays banks ends stop ready) = points
+step_points p old new m told (begins_none rests points reasons ready) = points
 step_points p old new m told (opens_run closed opens points reasons run) = points
 step_points p old new m told (solves lasts n ready node) = node.points
 
@@ -153,7 +154,7 @@ steps_points p old new told step h points = step_points p old new h.0 told (step
 -- a step counts one more solve, or none
 step_counts : (p : Program) (old new : State) (m : Machine) (told : Bool) → MakesStep p old m new told
     → (new.counts ≡ old.counts) ⊎ (new.counts ≡ with_commit old.counts)
-step_counts p old new m told (begins_none rests points reasons stays banks ends stop ready) = inl reasons.counts
+step_counts p old new m told (begins_none rests points reasons ready) = inl reasons.counts
 step_counts p old new m told (opens_run closed opens points reasons run) = inl reasons.counts
 step_counts p old new m told (solves lasts n ready node) = inr node.reasons.counts
 
@@ -277,23 +278,24 @@ begun_open p budget s b less =
 -- begun anew, its first step is a solve
 pub solves_anew : (p : Program) (old mid new : State) (told : Bool) → IsProgram p → StartsOver p old mid → IsTabled p mid
     → mid.counts.since_report < mid.budget.solves
-    → ((m : Machine) → IsTabledBy p mid m → MakesStep p mid m new told) → SolvesAnew p old new
-solves_anew p old mid new told i over tabled less step = record {
-  solves = more mid new tabled.0 told (anew old mid none over) (begun_open p old.budget mid over.beginning less) tabled.1 (step tabled.0 tabled.1);
+    → ((m : Machine) → IsTabledBy p mid m → MakesStep p mid m new told) → KeepsBooks p mid new → SolvesAnew p old new
+solves_anew p old mid new told i over tabled less step keeps = record {
+  solves = more mid new tabled.0 told (anew old mid none over) (begun_open p old.budget mid over.beginning less) tabled.1 (step tabled.0 tabled.1)
+      keeps;
   counts = first_counted p mid i new told over.beginning.frame over.beginning.is_begun tabled step ∙ ap with_commit over.counts;
 }
 
 -- ---- solves behind one another
 pub solves_behind : (p : Program) (a b c : State) → SolvesNodes p a b → SolvesNodes p b c → SolvesNodes p a c
 solves_behind p a b c x none = x
-solves_behind p a b c x (more mid new m told y left t step) = more mid new m told (solves_behind p a b mid x y) left t step
+solves_behind p a b c x (more mid new m told y left t step keeps) = more mid new m told (solves_behind p a b mid x y) left t step keeps
 solves_behind p a b c x (anew mid new y over) = anew mid new (solves_behind p a b mid x y) over
 
 -- the solves that are counted since a report don't become less, and have 64 bits
 pub more_counted : (p : Program) (a b : State) → a.counts.since_report < 2 ^ 64 → SolvesNodes p a b
     → (a.counts.since_report ≤ b.counts.since_report) × (b.counts.since_report < 2 ^ 64)
 more_counted p a b less none = (omega arith, less)
-more_counted p a b less (more mid new m told y left t step) =
+more_counted p a b less (more mid new m told y left t step keeps) =
     let h = more_counted p a mid less y in go (step_counts p mid new m told step) h
   where
     go : (new.counts ≡ mid.counts) ⊎ (new.counts ≡ with_commit mid.counts)
@@ -310,9 +312,11 @@ pub solves_more : (p : Program) (budget : Budget) (old : State) (w : Working) (n
     → WorksOn p budget w → SolvesNodes p old w.state
     → ((m : Machine) → tree_walk p ≡ Ok w.tree → w.state.frame ≡ frame_of p → IsTabledBy p w.state m → PointsStand p w.state.lasts.nodes.items
     → MakesStep p w.state m new told)
+    → (tree_walk p ≡ Ok w.tree → w.state.frame ≡ frame_of p → KeepsBooks p w.state new)
     → settled_in w.state ≡ None → SolvesNodes p old new
-solves_more p budget old w new told i few works before step open_yet =
-    let t = works.tabled i few in more w.state new t.0 told before open_yet t.1 (step t.0 works.tree works.frame t.1 (works.points i few))
+solves_more p budget old w new told i few works before step keeps open_yet =
+    let t = works.tabled i few in
+    more w.state new t.0 told before open_yet t.1 (step t.0 works.tree works.frame t.1 (works.points i few)) (keeps works.tree works.frame)
 
 -- an edit: its versions are in no table
 versions_tabled : (q : Program) (old new : State) → new ≡ record old { versions = new.versions } → IsTabled q old → IsTabled q new

@@ -20,6 +20,7 @@ use Rattle.pass_core.specs.declared.state.State.{State}
 use Rattle.pass_core.specs.Beginning.{IsBeginning, StartsOver}
 use Rattle.pass_core.specs.Counting.{no_commits, with_commit, after_report}
 use Rattle.pass_core.specs.Tabled.{IsTabled, IsTabledBy, GoesBySteps}
+use Rattle.pass_core.specs.Made.{KeepsBooks}
 use Rattle.pass_core.specs.Reasons.{IsLasting}
 use Rattle.pass_core.specs.Turns.{PointsStand, SolvesNode, AreReady, MakesStep}
 use Rattle.run_ends.specs.declared.last.Lasts.{Lasts}
@@ -115,11 +116,11 @@ abbrev pub settled_in : State → Option Settled
 settled_in s = settled s.kind s.table.closed s.ends s.stop s.counts.since_report s.budget.solves
 
 -- where something is left to find, programs of nodes are solved, one behind the other, with the openings of runs between them, or the
--- program is begun anew, from one state to another
+-- program is begun anew, from one state to another; cuts that are made for books that are right of the program are followed by such cuts
 pub data SolvesNodes (p : Program) (old : State) : State → Type 0 where
   none : SolvesNodes p old old
   more : (mid new : State) (m : Machine) (told : Bool) → SolvesNodes p old mid → settled_in mid ≡ None → IsTabledBy p mid m
-      → MakesStep p mid m new told → SolvesNodes p old new
+      → MakesStep p mid m new told → KeepsBooks p mid new → SolvesNodes p old new
   anew : (mid new : State) → SolvesNodes p old mid → StartsOver p mid new → SolvesNodes p old new
 
 -- the method has done nothing but that on the program

@@ -57,9 +57,14 @@ returns-then-not-has_room-clause-solves c = λ m i walk frame t stand.
     let u : IsTabledBy p s m = ready_tabled p m c.args.self.now s t c.in_ok-get_ready.ensures.others c.in_ok-get_ready.ensures.begun in
     begins_none (λ room n may. let no : false ≡ true = c.if-not-has_room.ensures.1 (room_in m s.table u.fits room) in absurd (cc))
     (c.in_ok-get_ready.ensures.points p stand) (ready_gains c.args.self.now s c.in_ok-get_ready.ensures.others)
-    (ready_stays c.args.self.now s c.in_ok-get_ready.ensures.others) (ap (λ (x : State). x.banks) c.in_ok-get_ready.ensures.others)
-    (ap (λ (x : State). x.ends) c.in_ok-get_ready.ensures.others) (ap (λ (x : State). x.stop) c.in_ok-get_ready.ensures.others)
-    c.in_ok-get_ready.ensures.ready
+    (record {
+      run = ready_stays c.args.self.now s c.in_ok-get_ready.ensures.others;
+      banks = ap (λ (x : State). x.banks) c.in_ok-get_ready.ensures.others;
+      ends = ap (λ (x : State). x.ends) c.in_ok-get_ready.ensures.others;
+      stop = ap (λ (x : State). x.stop) c.in_ok-get_ready.ensures.others;
+      ready = c.in_ok-get_ready.ensures.ready;
+      tabled = u;
+    })
 
 pub returns-then-ne-clause-solves : goal.returns-then-ne-clause-solves
 returns-then-ne-clause-solves c = λ m i walk frame t stand.
@@ -94,9 +99,14 @@ returns-in-None-clause-solves c = λ m i walk frame t stand.
     begins_none (λ room. none.0) (c.in_ok-get_ready.ensures.points p stand)
     (record { counts = (ready_gains c.args.self.now s c.in_ok-get_ready.ensures.others).counts; stop = (ready_gains c.args.self.now s c.in_ok-get_ready.ensures.others).stop; lasting = (ready_gains c.args.self.now s c.in_ok-get_ready.ensures.others).lasting })
     (let stays = ready_stays c.args.self.now s c.in_ok-get_ready.ensures.others in
-    record { kind = stays.kind; frame = stays.frame; budget = stays.budget; versions = stays.versions })
-    (ap (λ (x : State). x.banks) c.in_ok-get_ready.ensures.others) (ap (λ (x : State). x.ends) c.in_ok-get_ready.ensures.others)
-    (ap (λ (x : State). x.stop) c.in_ok-get_ready.ensures.others) c.in_ok-get_ready.ensures.ready
+    record {
+      run = record { kind = stays.kind; frame = stays.frame; budget = stays.budget; versions = stays.versions };
+      banks = ap (λ (x : State). x.banks) c.in_ok-get_ready.ensures.others;
+      ends = ap (λ (x : State). x.ends) c.in_ok-get_ready.ensures.others;
+      stop = ap (λ (x : State). x.stop) c.in_ok-get_ready.ensures.others;
+      ready = c.in_ok-get_ready.ensures.ready;
+      tabled = refit p m s c.begin.new.self u c.in_ok-get_ready.ensures.begun none.1;
+    })
 
 pub returns-then-not-has_room-clause-made : goal.returns-then-not-has_room-clause-made
 returns-then-not-has_room-clause-made c = λ b i walk frame right h.

@@ -1,8 +1,9 @@
-use Rattle.std.proofs.Common.{List, Option, None, IfSome, refl, sym, ap, subst, ◌∙◌}
+use Rattle.std.proofs.Common.{List, Option, None, replicate, IfSome, refl, sym, ap, subst, ◌∙◌}
 use Rattle.scen_defs.specs.Lists.{Each}
 use Rattle.cut_defs.specs.Stored.{Stored, IsMadeFor}
 use Rattle.pass_core.specs.Made.{run_book}
 use Rattle.pass_core.specs.Explained.{PointsAreFound}
+use Rattle.pass_core.specs.Left.{places_in}
 use Rattle.run_ends.specs.declared.ends.Ends.{Ends}
 use Rattle.run_ends.specs.declared.last.Last.{Last}
 use Rattle.run_ends.specs.Lasts.{last_at}
@@ -47,7 +48,7 @@ returns-clause-opened c = λ k.
     let e = c.in_ok-put_all.ensures.others in
     record {
       kind = k;
-      lasts = λ n. ap (λ (ls : List (Option Last)). last_at ls n) c.in_ok-self.ensures ∙ no_last _ n;
+      lasts = c.in_ok-self.ensures ∙ ap (λ n. replicate n None) c.nodes.ensures;
       ends = ap (λ (s : State). let x : Ends = record s.ends { root = None } in x) e;
       lasting = refl;
       frame = ap (λ (s : State). s.frame) e;

@@ -1,6 +1,6 @@
 use Rattle.pass_core.specs.Tabled.{KeepsPools, Opens}
 use Rattle.pass_core.specs.Tabled.Opens.{not_opened}
-use Rattle.pass_core.proofs.Explaining.{on_ok}
+use Rattle.pass_core.proofs.Explaining.{on_ok, both_ok}
 use Rattle.std.proofs.Common.{◌≡◌, None}
 use Rattle.pass_core.specs.Left.{OpensRun}
 use Rattle.pass_core.proofs.Tabling.{still_tabled}
@@ -12,8 +12,9 @@ returns-in-Ok-clause-tabled c = λ p m t z room. c.open.ensures.tabled p m t z r
 
 pub returns-in-Err-clause-tabled : goal.returns-in-Err-clause-tabled
 returns-in-Err-clause-tabled c = λ p m t z room.
-    on_ok c.not_opened.result (KeepsPools c.args.self.now c.not_opened.new.self) (Opens p m c.not_opened.new.self)
-    (λ k. not_opened (still_tabled p m c.args.self.now c.not_opened.new.self t k)) c.not_opened.ensures.pools
+    both_ok c.not_opened.result (KeepsPools c.args.self.now c.not_opened.new.self) (c.not_opened.new.self.stop ≡ None → ⊥)
+    (Opens p m c.not_opened.new.self) (λ k stops. not_opened stops (still_tabled p m c.args.self.now c.not_opened.new.self t k))
+    c.not_opened.ensures.pools c.not_opened.ensures.stops
 
 pub returns-in-Ok-clause-points : goal.returns-in-Ok-clause-points
 returns-in-Ok-clause-points c = λ p. c.open.ensures.points p

@@ -27,7 +27,7 @@ loop-preserved c =
           let before = c.loop.invariant.1 m i f h in
           (goes_further p m c.loop.self.state new.state _ before.0 (λ j. c.in_ok-advance.ensures.tabled j i before.1), c.in_ok-advance.ensures.explained.0 ∙ before.1)),
       (λ budget i few w. solves_more p budget c.args.self.now.state c.loop.self new.state _ i few (c.loop.invariant.0 budget w) (c.loop.invariant.2 budget i few w)
-          (λ m. c.in_ok-advance.ensures.solves m i) open_yet),
+          (λ m. c.in_ok-advance.ensures.solves m i) (λ t f b right made. c.in_ok-advance.ensures.made b i t f right made) open_yet),
       (λ budget first edits rest came w h.
           let works = c.loop.invariant.0 budget w in
           history_stays first edits came p rest c.loop.self.state new.state c.in_ok-advance.ensures.explained.2
@@ -71,7 +71,8 @@ returns-then-is_ripe-clause-solves c = elim c.then-is_ripe.branch [
       let new : Working = record { state = way.advance.new.self; tree = c.loop.self.tree } in
       subst (λ (working : Working). SolvesNodes p c.args.self.now.state working.state) (sym way.self-is)
       (solves_more p budget c.args.self.now.state c.loop.self new.state _ i few (c.loop.invariant.0 budget w) (c.loop.invariant.2 budget i few w)
-      (λ m. way.in_ok-advance.ensures.solves m i) (not_ripe c.args.work _ _ (sym c.is_ripe.ensures ∙ way.if-is_ripe.false)))
+      (λ m. way.in_ok-advance.ensures.solves m i) (λ t f b right made. way.in_ok-advance.ensures.made b i t f right made)
+      (not_ripe c.args.work _ _ (sym c.is_ripe.ensures ∙ way.if-is_ripe.false)))
 ]
 
 pub returns-then-is_ripe-clause-made : goal.returns-then-is_ripe-clause-made

@@ -26,6 +26,7 @@ returns-clause-solves c = λ budget i few left w.
     solves_anew p c.args.self.now.state mid.state c.advance.new.self _ i starts (c.in_ok-start_over.ensures.tabled i few)
     (same_left p c.args.self.now.state mid.state (c.in_ok-start_over.ensures.over i.small) left)
     (λ m t. c.in_ok-advance.ensures.solves m i over.tree over.frame t (over.points i few))
+    (λ b right made. c.in_ok-advance.ensures.made b i over.tree over.frame right made)
 
 pub returns-clause-made : goal.returns-clause-made
 returns-clause-made c = λ budget first edits rest came w h.
