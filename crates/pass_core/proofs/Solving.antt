@@ -29,8 +29,8 @@ on_five (Err o) A B C D F G f a b c d e = tt
 
 -- a solve that is counted
 pub solved_by : (p : Program) (tree : Tree) (s : State) (counts : Counts) (m : Machine) (n : ℕ) (i : IsProgram p)
-    (walk : tree_walk p ≡ Ok tree) (frame : s.frame ≡ frame_of p) (b : IsBegunBy p (record s { counts = counts }) m n) (t : Task) (all : Solved) (new : State)
-    {X E : Type 0} (r : Result X E)
+    (walk : tree_walk p ≡ Ok tree) (frame : s.frame ≡ frame_of p) (b : IsBegunBy p (record s { counts = counts }) m n)
+    (t : Task) (all : Solved) (new : State) {X E : Type 0} (r : Result X E)
     → counts ≡ with_commit s.counts → IsTaskOf p s n t → IsProblem (problem_of t) → PointsStand p s.lasts.nodes.items → all ≡ node_solved t
     → IsAnswer t all
     → OnOk r (EndsSolve (EndsBy t.trial all) (record s { counts = counts }) new (read_machine p (record s { counts = counts }) m n i frame b)
@@ -43,7 +43,8 @@ solved_by p tree s counts m n i walk frame b t all new r raised task problem sta
     let rm = read_machine p counted m n i frame b in
     let bf = begun_flight p counted m n i frame b in
     on_five r (EndsSolve (EndsBy t.trial all) counted new rm bf) (KeepsPoints p counted new)
-    (GainsReasons (IsOfSolve counts.all all) counted new) (StaysInRun counted new) (new.stop ≡ None → LeavesBy p tree n t.trial all counted new)
+    (GainsReasons (IsOfSolve counts.all all) counted new) (StaysInRun counted new)
+    (new.stop ≡ None → LeavesBy p tree n t.trial all counted new)
     (SolvesNode p s m n new)
     (λ e k g y l. record {
       task = t;
