@@ -1,0 +1,5 @@
+pub mod Along
+pub mod Joined
+pub mod Places
+pub mod Policies
+pub mod Costs
