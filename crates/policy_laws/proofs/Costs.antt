@@ -22,7 +22,6 @@ use Rattle.scen_model.proofs.WalkEnds.{ended}
 use Rattle.scen_tree.specs.Trees.{Tree, tree_walk}
 use Rattle.edit_defs.proofs.Lists.{passes-within}
 use Rattle.dual_assemble.specs.Values.{point_entries}
-use Rattle.run_data.proofs.TreeReads.{total_at}
 use Rattle.run_ends.specs.declared.last.Last.{Last}
 use Rattle.run_ends.specs.Lasts.{last_at, last_point, joined_points}
 use Rattle.run_ends.specs.Costs.{part, node_number, node_costs_from, joined_cost}
@@ -30,6 +29,7 @@ use Rattle.policy_laws.specs.Points.{MeetsAt, AllMeet, point_at}
 use Rattle.policy_laws.specs.Laws.{JoinedCosts}
 use Rattle.policy_laws.proofs.Joined.{joined_number}
 use Rattle.policy_laws.proofs.Places.{tree_in, few_nodes}
+use Rattle.policy_laws.proofs.Totals.{tree_total}
 
 -- ---- node by node
 module _ (totals : List ℚ) (lasts : List (Option Last)) (g : ℕ → ℚ) where
@@ -58,7 +58,7 @@ module _ (kind : Kind) (p : Program) (lasts : List (Option Last)) (tree : Tree) 
   total_is n l =
       let few : n < 2 ^ 32 = few_nodes p n i l in
       let same : node_number n ≡ n = omega (arith, few) in
-      ap (λ m. get_or tree.chances.totals m zero_ℚ) same ∙ total_at p tree walk n l
+      ap (λ m. get_or tree.chances.totals m zero_ℚ) same ∙ tree_total p tree n walk l
 
   cost_is : (n : ℕ) → Lives p n → IsForm (point_at lasts n)
       → product (node_at p.nodes n).cost (coefficient (point_at lasts n)) ≡ node_cost (view_of p) (at (joined_points lasts)) n
@@ -88,6 +88,7 @@ pub joined_points_cost : JoinedCosts
 joined_points_cost kind p lasts tree c i h walk e =
     let g : ℕ → ℚ = λ n. total (view_of p) n *ℚ node_cost (view_of p) (at (joined_points lasts)) n in
     costs_from tree.chances.totals lasts g 0 zero_ℚ c p.nodes
-    (λ j l. part_is kind p lasts tree i walk j l (h j l)) e
+    (λ j l. let d : j ≡ 0 + j = omega arith in
+    subst (λ n. IsPart tree.chances.totals lasts g n (node_at p.nodes j)) d (part_is kind p lasts tree i walk j l (h j l))) e
     ∙ zero_add_ℚ (sum_ℚ g (places is_live 0 p.nodes))
     ∙ sym (cost-by_nodes (view_of p) (tree_in Cost p i) (at (joined_points lasts)))
