@@ -1,5 +1,5 @@
 -- What the points of all nodes cost together, node by node.
-use Rattle.std.proofs.Common.{◌≡◌, ℕ, zero, suc, ◌+◌, ◌<◌, min, true, eqb, ◌^◌, List, [], ◌∷◌, Option, Some, None, Ok, get_or, refl, sym, ap, ap₂, subst, ◌∙◌, arith, add-one}
+use Rattle.std.proofs.Common.{◌≡◌, ℕ, suc, ◌+◌, ◌<◌, true, eqb, ◌^◌, List, [], ◌∷◌, Option, Some, None, Ok, get_or, refl, sym, ap, ap₂, subst, ◌∙◌, arith, add-one}
 use Rattle.rationals.specs.declared.Op.TheVariants.{Add}
 use Rattle.rationals.specs.Rational.{ℚ, zero_ℚ, one_ℚ, ◌+ℚ◌, ◌*ℚ◌, by_eqs, terms, zero_add_ℚ, add_zero_ℚ}
 use Rattle.rationals.specs.Ring.Eqs.{done, by_eq}
@@ -11,10 +11,10 @@ use Rattle.rationals.proofs.WalkLaws.{step_value, walk_laws}
 use Rattle.scen_defs.specs.declared.program.Column.{Column}
 use Rattle.scen_defs.specs.declared.report.Kind.{Kind}
 use Rattle.scen_defs.specs.declared.report.Kind.TheVariants.{Cost}
-use Rattle.scen_defs.specs.Lists.{Each, places, passes_at}
+use Rattle.scen_defs.specs.Lists.{places, passes_at}
 use Rattle.scen_defs.specs.Values.{at}
 use Rattle.scen_defs.specs.Program.{Node, Program, view_of, is_live, node_at, total}
-use Rattle.scen_defs.specs.Flat.{node_cost, cost}
+use Rattle.scen_defs.specs.Flat.{node_cost}
 use Rattle.scen_defs.specs.Valid.{Lives, IsProgram}
 use Rattle.scen_defs.proofs.SumLaws.{each-map, sum-same}
 use Rattle.scen_defs.proofs.Costs.{cost-by_nodes}
@@ -24,8 +24,8 @@ use Rattle.edit_defs.proofs.Lists.{passes-within}
 use Rattle.dual_assemble.specs.Values.{point_entries}
 use Rattle.run_ends.specs.declared.last.Last.{Last}
 use Rattle.run_ends.specs.Lasts.{last_at, last_point, joined_points}
-use Rattle.run_ends.specs.Costs.{part, node_number, node_costs_from, joined_cost}
-use Rattle.policy_laws.specs.Points.{MeetsAt, AllMeet, point_at}
+use Rattle.run_ends.specs.Costs.{part, node_number, node_costs_from}
+use Rattle.policy_laws.specs.Points.{MeetsAt, point_at}
 use Rattle.policy_laws.specs.Laws.{JoinedCosts}
 use Rattle.policy_laws.proofs.Joined.{joined_number}
 use Rattle.policy_laws.proofs.Places.{tree_in, few_nodes}

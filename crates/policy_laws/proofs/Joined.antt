@@ -11,7 +11,7 @@ use Rattle.dual_assemble.specs.Walks.{form_at, empties}
 use Rattle.dual_assemble.specs.Values.{is_place, number_at, node_values, numbers_by_node, point_entries}
 use Rattle.dual_assemble.proofs.Numbers.{values_are_numbers}
 use Rattle.run_ends.specs.declared.last.Last.{Last}
-use Rattle.run_ends.specs.Lasts.{last_at, last_point, joined_points}
+use Rattle.run_ends.specs.Lasts.{last_point, joined_points}
 use Rattle.policy_laws.specs.Points.{point_at}
 
 -- ---- lists of numbers, one behind the other

@@ -1,6 +1,6 @@
 -- What the lists of a program and its frame say of the nodes and columns in the forms that runs solve.
 use Rattle.std.proofs.Common.{◌≡◌, ℕ, zero, suc, ◌<◌, ◌^◌, Bool, true, false, ◌||◌, eqb, List, [], ◌∷◌, Option, Some, None, map, slice_get, refl, sym, ap, subst, ◌∙◌, arith, eqb-true}
-use Rattle.rationals.specs.Rational.{ℚ, zero_ℚ, one_ℚ, ◌+ℚ◌, zero_add_ℚ, ne_of_gt_ℚ, zero_lt_one_ℚ}
+use Rattle.rationals.specs.Rational.{ℚ, one_ℚ, ◌+ℚ◌, zero_add_ℚ, ne_of_gt_ℚ, zero_lt_one_ℚ}
 use Rattle.rationals.specs.Sums.{sum_ℚ}
 use Rattle.rationals.specs.Sparse.{value_if}
 use Rattle.scen_defs.specs.declared.program.Column.{Column}

@@ -1,6 +1,6 @@
 -- The points of all nodes together, and numbers that cover what they cost.
-use Rattle.std.proofs.Common.{◌≡◌, ℕ, suc, List, Option, Some, None, refl, sym, ap, ap₂, subst, ◌∙◌, arith}
-use Rattle.rationals.specs.Rational.{ℚ, ◌+ℚ◌, zero_add_ℚ}
+use Rattle.std.proofs.Common.{◌≡◌, ℕ, List, Option, Some, None, sym, ap, ap₂, subst, ◌∙◌}
+use Rattle.rationals.specs.Rational.{◌+ℚ◌, zero_add_ℚ}
 use Rattle.rationals.specs.Sparse.{Entry, product, coefficient}
 use Rattle.rationals.specs.Forms.{IsForm}
 use Rattle.scen_defs.specs.declared.program.NodeRow.{NodeRow}
@@ -16,7 +16,7 @@ use Rattle.dual_assemble.specs.Values.{point_entries}
 use Rattle.run_data.specs.Frames.{frame_of, parent_in}
 use Rattle.run_ends.specs.declared.last.Last.{Last}
 use Rattle.run_ends.specs.Lasts.{last_at, last_point, along_of, trial_of, joined_points}
-use Rattle.policy_laws.specs.Points.{MeetsAt, AllMeet, point_at, CoversAt, AllCover}
+use Rattle.policy_laws.specs.Points.{MeetsAt, AllMeet, point_at, CoversAt}
 use Rattle.policy_laws.specs.Laws.{PoliciesJoin, ValuesCover}
 use Rattle.policy_laws.proofs.Along.{StandTogether, together_feasible, together_covered}
 use Rattle.policy_laws.proofs.Joined.{joined_number}
