@@ -27,7 +27,8 @@ without (e ∷ f) j h = ap₂ (λ b z. value_if b e.value +ℚ z) (ne_eqb e.colu
 pub record StandTogether (v : View) (point beside : ℕ → List Entry) (x : ℕ → ℕ → ℚ) : Type 0 where
   pub own : (n : ℕ) → IsLive v n → Each (λ (e : Entry). Once e.column (v.columns (v.stage n))) (point n)
   pub first : (n j : ℕ) → IsLive v n → v.stage n ≡ 0 → coefficient (beside n) j ≡ coefficient (point n) j
-  pub later : (n s j : ℕ) → IsLive v n → v.stage n ≡ suc s → coefficient (beside n) j ≡ coefficient (beside (v.parent n)) j +ℚ coefficient (point n) j
+  pub later : (n s j : ℕ) → IsLive v n → v.stage n ≡ suc s
+      → coefficient (beside n) j ≡ coefficient (beside (v.parent n)) j +ℚ coefficient (point n) j
   pub value : (n s j : ℕ) → IsLive v n → IsColumn v s j → x n j ≡ coefficient (point n) j
 
 module _ (v : View) (point beside : ℕ → List Entry) (x : ℕ → ℕ → ℚ) (t : IsTree v) (h : StandTogether v point beside x) where
@@ -60,7 +61,8 @@ module _ (v : View) (point beside : ℕ → List Entry) (x : ℕ → ℕ → ℚ
   at_or_after a s k = grind arith
 
   -- and the others as in the point of their node on the path
-  path_value : (s n j : ℕ) → IsLive v n → v.stage n ≡ s → v.stage_of j ≤ s → coefficient (beside n) j ≡ coefficient (point (up v (s - v.stage_of j) n)) j
+  path_value : (s n j : ℕ) → IsLive v n → v.stage n ≡ s → v.stage_of j ≤ s
+      → coefficient (beside n) j ≡ coefficient (point (up v (s - v.stage_of j) n)) j
   path_value zero n j l e k = h.first n j l e
       ∙ (let q : 0 ≡ 0 - v.stage_of j = omega arith in ap (λ (i : ℕ). coefficient (point (up v i n)) j) q)
   path_value (suc s) n j l e k = go (at_or_after (v.stage_of j) s k) (path_value s (v.parent n) j p.0 p.1)
@@ -77,7 +79,8 @@ module _ (v : View) (point beside : ℕ → List Entry) (x : ℕ → ℕ → ℚ
           ∙ ap (λ (i : ℕ). coefficient (point i) j) (sym (up-shift v (s - v.stage_of j) n) ∙ ap (λ (i : ℕ). up v i n) d)
       go (inr q) rest =
           let d : 0 ≡ suc s - v.stage_of j = omega (arith, q) in
-          h.later n s j l e ∙ ap (λ z. z +ℚ coefficient (point n) j) (none_later s (v.parent n) j p.0 p.1 (omega (arith, q))) ∙ zero_add_ℚ _
+          h.later n s j l e
+          ∙ ap (λ z. z +ℚ coefficient (point n) j) (none_later s (v.parent n) j p.0 p.1 (omega (arith, q))) ∙ zero_add_ℚ _
           ∙ ap (λ (i : ℕ). coefficient (point (up v i n)) j) d
 
   -- an entry of a node's row meets the number along its path
@@ -86,8 +89,10 @@ module _ (v : View) (point beside : ℕ → List Entry) (x : ℕ → ℕ → ℚ
       path_value (v.stage n) n e.column l refl i.reached
       ∙ sym (h.value (home v n e.column) (v.stage_of e.column) e.column (home-live v t n l e.column i.reached).0 i.column)
 
-  row_value : (n : ℕ) (f : List Entry) → IsLive v n → Each (IsEntry v (v.stage n)) f → product f (coefficient (beside n)) ≡ product f (along v x n)
-  row_value n f l i = sum-same _ _ f (each-map {Q = λ (e : Entry). e.value *ℚ coefficient (beside n) e.column ≡ e.value *ℚ along v x n e.column}
+  row_value : (n : ℕ) (f : List Entry) → IsLive v n → Each (IsEntry v (v.stage n)) f
+      → product f (coefficient (beside n)) ≡ product f (along v x n)
+  row_value n f l i = sum-same _ _ f
+      (each-map {Q = λ (e : Entry). e.value *ℚ coefficient (beside n) e.column ≡ e.value *ℚ along v x n e.column}
       (λ e k. ap (λ z. e.value *ℚ z) (entry_value n e l k)) f i)
 
   -- points that meet their rows and bounds are feasible together
@@ -112,14 +117,21 @@ module _ (v : View) (point beside : ℕ → List Entry) (x : ℕ → ℕ → ℚ
   raised : (c s w a : ℚ) → a ≡ c +ℚ w → s ≤ℚ w → c +ℚ s ≤ℚ a
   raised c s w a e k = by_linear (c ∷ s ∷ w ∷ a ∷ []) (equal e (fact k nothing)) (search terms depth 40) tt
 
-  -- numbers that are what the points cost and, by their shares, no less than the children's
+  -- the numbers of node n's children, by their shares
+  abbrev shared : (ℕ → ℚ) → ℕ → ℚ
+  shared f n = sum_ℚ (λ m. share v m *ℚ f m) (children v n)
+
+  shared_below : (f g : ℕ → ℚ) (n : ℕ) → IsLive v n → Each (λ m. f m ≤ℚ g m) (children v n) → shared f n ≤ℚ shared g n
+  shared_below f g n l h = sum-below (λ m. share v m *ℚ f m) (λ m. share v m *ℚ g m) (children v n)
+      (each-both {R = λ m. share v m *ℚ f m ≤ℚ share v m *ℚ g m} (λ m s b. mul_mono_ℚ s b) (children v n)
+      (each-child v t n (λ m. zero_ℚ ≤ℚ share v m) (λ m k e. share-nonneg v t n m l k e)) h)
+
+  -- numbers that are what the points cost and, by their shares, what is no less than the children's numbers
   pub together_covered : (value_of : ℕ → ℚ) (child_cost : (n : ℕ) → IsLive v n → ℕ → ℚ)
-      → ((n : ℕ) (l : IsLive v n) → value_of n ≡ product (v.cost n) (coefficient (point n)) +ℚ sum_ℚ (λ m. share v m *ℚ child_cost n l m) (children v n))
+      → ((n : ℕ) (l : IsLive v n) → value_of n ≡ product (v.cost n) (coefficient (point n)) +ℚ shared (child_cost n l) n)
       → ((n : ℕ) (l : IsLive v n) → Each (λ m. value_of m ≤ℚ child_cost n l m) (children v n))
       → CoversCosts v x value_of
-  together_covered value_of child_cost is below =
-      each-map {Q = λ n. node_cost v x n +ℚ sum_ℚ (λ m. share v m *ℚ value_of m) (children v n) ≤ℚ value_of n} (λ n i.
-      raised (node_cost v x n) (sum_ℚ (λ m. share v m *ℚ value_of m) (children v n)) (sum_ℚ (λ m. share v m *ℚ child_cost n i.live m) (children v n)) (value_of n)
-      (is n i.live ∙ ap (λ z. z +ℚ sum_ℚ (λ m. share v m *ℚ child_cost n i.live m) (children v n)) (sym (point_cost n i.live)))
-      (sum-below _ _ (children v n) (each-both {R = λ m. share v m *ℚ value_of m ≤ℚ share v m *ℚ child_cost n i.live m} (λ m s b. mul_mono_ℚ s b) (children v n)
-      (each-child v t n (λ m. zero_ℚ ≤ℚ share v m) (λ m k e. share-nonneg v t n m i.live k e)) (below n i.live)))) v.live t.nodes
+  together_covered value_of child_cost is below = each-map {Q = λ n. node_cost v x n +ℚ shared value_of n ≤ℚ value_of n}
+      (λ n i. raised (node_cost v x n) (shared value_of n) (shared (child_cost n i.live) n) (value_of n)
+      (is n i.live ∙ ap (λ z. z +ℚ shared (child_cost n i.live) n) (sym (point_cost n i.live)))
+      (shared_below value_of (child_cost n i.live) n i.live (below n i.live))) v.live t.nodes

@@ -1,5 +1,6 @@
 -- The number at a node and a column of forms by node, of which only that of the node need be a form.
-use Rattle.std.proofs.Common.{◌≡◌, ℕ, zero, suc, ◌+◌, ◌<◌, Bool, true, false, ◌&&◌, eqb, List, [], ◌∷◌, ◌++◌, Option, map, refl, sym, ap, subst, ◌∙◌, arith}
+use Rattle.std.proofs.Common.{◌≡◌, ℕ, zero, suc, ◌+◌, ◌<◌, Bool, true, false, ◌&&◌, eqb, List, [], ◌∷◌, ◌++◌, Option, map, refl}
+use Rattle.std.proofs.Common.{sym, ap, subst, ◌∙◌, arith}
 use Rattle.std.proofs.lemmas.Bool.{ne_eqb}
 use Rattle.rationals.specs.Rational.{ℚ, zero_ℚ}
 use Rattle.rationals.specs.Sparse.{Entry, coefficient}
@@ -26,7 +27,8 @@ before n i (a ∷ xs) ys h = ap (λ (z : ℚ). pick (eqb a.node n && eqb a.index
 -- those of a node are of no other
 of_node : (m n : ℕ) (f : List Entry) → (m ≡ n → ⊥) → Each (λ (a : At). a.node ≡ n → ⊥) (node_values m f)
 of_node m n [] h = tt
-of_node m n (e ∷ f) h = each-append (λ (a : At). a.node ≡ n → ⊥) (number_at m e.column e.value) (node_values m f) (one (is_place m e.column)) (of_node m n f h)
+of_node m n (e ∷ f) h =
+    each-append (λ (a : At). a.node ≡ n → ⊥) (number_at m e.column e.value) (node_values m f) (one (is_place m e.column)) (of_node m n f h)
   where
     one : (b : Bool) → Each (λ (a : At). a.node ≡ n → ⊥) (pick b (record { node = m; index = e.column; value = e.value } ∷ []) [])
     one true = (h, tt)
@@ -42,11 +44,13 @@ abbrev alone : ℕ → List Entry → List (List Entry)
 alone k f = empties k ++ f ∷ []
 
 -- for its node the other forms don't count
-same_alone : (m k n i : ℕ) (fs : List (List Entry)) → n ≡ m + k → at (numbers_by_node m fs) n i ≡ at (numbers_by_node m (alone k (form_at fs k))) n i
+same_alone : (m k n i : ℕ) (fs : List (List Entry)) → n ≡ m + k
+    → at (numbers_by_node m fs) n i ≡ at (numbers_by_node m (alone k (form_at fs k))) n i
 same_alone m zero n i [] e = refl
 same_alone m (suc k) n i [] e = same_alone (m + 1) k n i [] (omega arith)
 same_alone m zero n i (f ∷ fs) e =
-    before n i (node_values m f) (numbers_by_node (m + 1) fs) (none_earlier (m + 1) n i fs (omega arith)) ∙ sym (before n i (node_values m f) [] refl)
+    before n i (node_values m f) (numbers_by_node (m + 1) fs) (none_earlier (m + 1) n i fs (omega arith))
+    ∙ sym (before n i (node_values m f) [] refl)
 same_alone m (suc k) n i (f ∷ fs) e =
     behind n i (node_values m f) (numbers_by_node (m + 1) fs) (of_node m n f (λ q. omega arith)) ∙ same_alone (m + 1) k n i fs (omega arith)
 

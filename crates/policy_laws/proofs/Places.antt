@@ -1,5 +1,6 @@
 -- What the lists of a program and its frame say of the nodes and columns in the forms that runs solve.
-use Rattle.std.proofs.Common.{◌≡◌, ℕ, zero, suc, ◌<◌, ◌^◌, Bool, true, false, ◌||◌, eqb, List, [], ◌∷◌, Option, Some, None, map, slice_get, refl, sym, ap, subst, ◌∙◌, arith, eqb-true}
+use Rattle.std.proofs.Common.{◌≡◌, ℕ, zero, suc, ◌<◌, ◌^◌, Bool, true, false, ◌||◌, eqb, List, [], ◌∷◌, Option, Some, None, map}
+use Rattle.std.proofs.Common.{slice_get, refl, sym, ap, subst, ◌∙◌, arith, eqb-true}
 use Rattle.rationals.specs.Rational.{ℚ, one_ℚ, ◌+ℚ◌, zero_add_ℚ, ne_of_gt_ℚ, zero_lt_one_ℚ}
 use Rattle.rationals.specs.Sums.{sum_ℚ}
 use Rattle.rationals.specs.Sparse.{value_if}
@@ -19,7 +20,8 @@ use Rattle.edit_defs.proofs.EditLaws.{scripts_make_books}
 use Rattle.run_data.specs.Frames.{parent_of, frame_of, parent_in}
 
 -- ---- parents in the frame
-parent_there : (nodes : List (Option Node)) (n : ℕ) → passes_at is_live n nodes ≡ true → slice_get (map parent_of nodes) n ≡ Some (or_root (node_at nodes n).parent)
+parent_there : (nodes : List (Option Node)) (n : ℕ) → passes_at is_live n nodes ≡ true
+    → slice_get (map parent_of nodes) n ≡ Some (or_root (node_at nodes n).parent)
 parent_there [] n h = absurd (no refl h)
 parent_there (None ∷ nodes) zero h = absurd (no refl h)
 parent_there (Some node ∷ nodes) zero h = refl

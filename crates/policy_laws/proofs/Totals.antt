@@ -1,5 +1,6 @@
 -- The totals in a program's tree are the totals of its nodes.
-use Rattle.std.proofs.Common.{◌≡◌, ◌∙◌, ap, sym, subst, refl, ℕ, zero, suc, ◌+◌, ◌<◌, true, List, [], ◌∷◌, ◌++◌, length, get_or, map, Option, Some, None, Result, Ok, length-append, arith}
+use Rattle.std.proofs.Common.{◌≡◌, ◌∙◌, ap, sym, subst, refl, ℕ, zero, suc, ◌+◌, ◌<◌, true, List, [], ◌∷◌, ◌++◌, length, get_or}
+use Rattle.std.proofs.Common.{map, Option, Some, None, Result, Ok, length-append, arith}
 use Rattle.std.proofs.lemmas.List.{get_or_append_left, get_or-append-add}
 use Rattle.rationals.specs.Rational.{ℚ, zero_ℚ, zero_add_ℚ}
 use Rattle.rationals.specs.Passes.{Operation, then_walk}
@@ -42,7 +43,8 @@ sum_there ss k j built values [] b e l = absurd (no refl l)
 sum_there ss k zero built values (None ∷ nodes) b e l = absurd (no refl l)
 sum_there ss k zero built values (Some node ∷ nodes) b e l =
     let rest : List Sum = live_sums_from (suc k) (map position_of nodes) ss in
-    let one = ended (live_sum (position_by node.parent) (total_from k zero_ℚ ss)) (λ value. gathered_from (built ++ value ∷ []) rest) values e in
+    let one = ended (live_sum (position_by node.parent) (total_from k zero_ℚ ss))
+    (λ value. gathered_from (built ++ value ∷ []) rest) values e in
     let more : suc k ≡ length (built ++ one.result ∷ []) = one_more built k one.result b in
     let there : get_or values k zero_ℚ ≡ one.result =
     still_there (built ++ one.result ∷ []) rest values k one.next_is (omega (arith, more)) ∙ last_there built k one.result b in
@@ -60,21 +62,23 @@ sum_there ss k (suc j) built values (place ∷ nodes) b e l =
 same_ok : {X : Type 0} (a b : X) → (let r : Result X Operation = Ok a in r) ≡ Ok b → a ≡ b
 same_ok a b e = cc
 
+abbrev both : List ℚ → List ℚ → Chances
+both totals shares = record { totals = totals; shares = shares }
+
 -- the walk over a tree begins with its totals
-totals_walked : (p : Program) (tree : Tree) → tree_walk p ≡ Ok tree → totals_walk (map position_of p.nodes) p.scenarios ≡ Ok tree.chances.totals
+totals_walked : (p : Program) (tree : Tree) → tree_walk p ≡ Ok tree
+    → totals_walk (map position_of p.nodes) p.scenarios ≡ Ok tree.chances.totals
 totals_walked p tree e =
     let positions : List Position = map position_of p.nodes in
     let all = ended (chances_walk positions p.scenarios) (λ chances. Ok (tree_by positions chances)) tree e in
-    let made : tree_by positions all.result ≡ tree = same_ok _ _ all.next_is in
     let first = ended (totals_walk positions p.scenarios)
-    (λ totals. then_walk (shares_walk totals positions) (λ shares. let c : Chances = record { totals = totals; shares = shares } in Ok c)) all.result all.first_is in
-    let next = ended (shares_walk first.result positions) (λ shares. let c : Chances = record { totals = first.result; shares = shares } in Ok c)
-    all.result first.next_is in
-    first.first_is
-    ∙ ap (λ (c : Chances). Ok c.totals) (same_ok (let c : Chances = record { totals = first.result; shares = next.result } in c) all.result next.next_is)
-    ∙ ap (λ (t : Tree). Ok t.chances.totals) made
+    (λ totals. then_walk (shares_walk totals positions) (λ shares. Ok (both totals shares))) all.result all.first_is in
+    let next = ended (shares_walk first.result positions) (λ shares. Ok (both first.result shares)) all.result first.next_is in
+    first.first_is ∙ ap (λ (c : Chances). Ok c.totals) (same_ok (both first.result next.result) all.result next.next_is)
+    ∙ ap (λ (t : Tree). Ok t.chances.totals) (same_ok (tree_by positions all.result) tree all.next_is)
 
-pub tree_total : (p : Program) (tree : Tree) (n : ℕ) → tree_walk p ≡ Ok tree → Lives p n → get_or tree.chances.totals n zero_ℚ ≡ total (view_of p) n
+pub tree_total : (p : Program) (tree : Tree) (n : ℕ) → tree_walk p ≡ Ok tree → Lives p n
+    → get_or tree.chances.totals n zero_ℚ ≡ total (view_of p) n
 tree_total p tree n e l =
     total_from-ends n zero_ℚ p.scenarios (get_or tree.chances.totals n zero_ℚ)
     (let d : 0 + n ≡ n = omega arith in

@@ -29,7 +29,7 @@ pub record MeetsAt (kind : Kind) (p : Program) (lasts : List (Option Last)) (n :
   pub bounds : Each (λ j. Between ((view_in kind p).lower j) ((view_in kind p).upper j) (coefficient last.point j))
       ((view_in kind p).columns ((view_in kind p).stage n))
 
--- so do the last solves of all nodes
+-- so do the last solves of all live nodes
 abbrev pub AllMeet : Kind → Program → List (Option Last) → Type 0
 AllMeet kind p lasts = (n : ℕ) → Lives p n → MeetsAt kind p lasts n
 
@@ -44,6 +44,6 @@ pub record CoversAt (kind : Kind) (p : Program) (lasts : List (Option Last)) (va
       +ℚ sum_ℚ (λ m. share (view_in kind p) m *ℚ child_cost m) (children (view_in kind p) n)
   pub below : Each (λ m. value_of m ≤ℚ child_cost m) (children (view_in kind p) n)
 
--- so do the numbers of all nodes
+-- so do the numbers of all live nodes
 abbrev pub AllCover : Kind → Program → List (Option Last) → (ℕ → ℚ) → Type 0
 AllCover kind p lasts value_of = (n : ℕ) → Lives p n → CoversAt kind p lasts value_of n
