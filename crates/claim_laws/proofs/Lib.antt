@@ -1,0 +1,4 @@
+pub mod Directions
+pub mod Passing
+pub mod Tests
+pub mod Claims
