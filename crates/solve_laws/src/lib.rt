@@ -1,0 +1,6 @@
+//! What the answer of the solve of a node says of the program, and what an offer leaves of pools. No code that runs.
+#![tactic(auto)]
+
+mod laws;
+
+pub use laws::{offers_hold, points_meet, values_are_costs};
