@@ -11,7 +11,7 @@ use Rattle.scen_defs.specs.Flat.{children}
 use Rattle.scen_defs.proofs.SumLaws.{sum-ext}
 use Rattle.cut_defs.specs.declared.datum.Share.{Share}
 use Rattle.cut_defs.specs.declared.kinds.CutKind.{CutKind}
-use Rattle.cut_defs.specs.declared.kinds.CutKind.TheVariants.{Bound, Ray}
+use Rattle.cut_defs.specs.declared.kinds.CutKind.TheVariants.{Ray}
 use Rattle.cut_defs.specs.Data.{SharesRise, share_of}
 use Rattle.cut_defs.specs.Stored.{Stored, source_of, constant_of, form_of}
 use Rattle.node_lp.specs.declared.task.ChildCuts.{ChildCuts}
@@ -80,9 +80,10 @@ are_costs cost costs k (c ∷ cs) [] e h = absurd (let no : ◌≡◌ {A = List 
 are_costs cost costs k (c ∷ cs) (s ∷ ss) e h =
     let both : ◌≡◌ {A = List ℕ} (c.child ∷ map (λ (c : ChildCuts). c.child) cs) (s.child ∷ map (λ (s : Share). s.child) ss) = e in
     let same : c.child ≡ s.child = cc in
-    let rest : map (λ (c : ChildCuts). c.child) cs ≡ map (λ (s : Share). s.child) ss = cc in
-    (ap cost same ∙ subst (λ i. cost s.child ≡ cost_of costs i) (omega arith) (h zero s.child refl),
-    are_costs cost costs (suc k) cs ss rest (λ i m f. subst (λ j. cost m ≡ cost_of costs j) (omega arith) (h (suc i) m f)))
+    let rest : map (λ (c : ChildCuts). c.child) cs ≡ map (λ (s : Share). s.child) ss = cc in (
+      ap cost same ∙ subst (λ i. cost s.child ≡ cost_of costs i) (omega arith) (h zero s.child refl),
+      are_costs cost costs (suc k) cs ss rest (λ i m f. subst (λ j. cost m ≡ cost_of costs j) (omega arith) (h (suc i) m f)),
+    )
 
 ray_taken : (priced : Bool) → is_taken priced Ray ≡ true
 ray_taken true = refl
@@ -97,35 +98,33 @@ module _ (p : Problem) (x along : List Entry) (costs : List ℚ)
       → value_at_trial cut along ≤ℚ limit_of (source_of cut).kind costs k
   below k cut h = subst (λ z. constant_of cut +ℚ z ≤ℚ limit_of (source_of cut).kind costs k) (together (form_of cut)) h
 
-  bounds_below : (k : ℕ) (cuts : List Stored) → Each Below (taken_of true k cuts)
-      → Each (λ (cut : Stored). (source_of cut).kind ≡ Bound → value_at_trial cut along ≤ℚ cost_of costs k) cuts
+  bounds_below : (k : ℕ) (cuts : List Stored) → Each Below (taken_of true k cuts) → BoundsBelow along (cost_of costs k) cuts
   bounds_below k [] h = tt
   bounds_below k (c ∷ cs) h =
       (λ e. subst (λ (kind : CutKind). value_at_trial c along ≤ℚ limit_of kind costs k) e (below k c h.0), bounds_below k cs h.1)
 
-  -- of these cuts each Ray cut is at most 0
-  abbrev AreBelow : List Stored → Type 0
-  AreBelow cuts = Each (λ (cut : Stored). (source_of cut).kind ≡ Ray → value_at_trial cut along ≤ℚ zero_ℚ) cuts
-
-  rays_below : (priced : Bool) (k : ℕ) (cuts : List Stored) → Each Below (taken_of priced k cuts) → AreBelow cuts
+  rays_below : (priced : Bool) (k : ℕ) (cuts : List Stored) → Each Below (taken_of priced k cuts) → RaysBelow along cuts
   rays_below priced k [] h = tt
   rays_below priced k (c ∷ cs) h = go (is_taken priced (source_of c).kind) refl h (λ i. rays_below priced k cs i)
     where
       go : (b : Bool) → is_taken priced (source_of c).kind ≡ b
           → Each Below (pick b (record { child = k; cut = held c } ∷ taken_of priced k cs) (taken_of priced k cs))
-          → (Each Below (taken_of priced k cs) → AreBelow cs) → AreBelow (c ∷ cs)
+          → (Each Below (taken_of priced k cs) → RaysBelow along cs) → RaysBelow along (c ∷ cs)
       go true q i rest = (λ e. subst (λ (kind : CutKind). value_at_trial c along ≤ℚ limit_of kind costs k) e (below k c i.0), rest i.1)
       go false q i rest = (λ e. absurd (let no : true ≡ false = sym (ray_taken priced) ∙ ap (is_taken priced) (sym e) ∙ q in cc), rest i)
 
   all_bounds_below : (cost : ℕ → ℚ) (k : ℕ) (cs : List ChildCuts) → AreCosts cost costs k cs → Each Below (taken true k cs)
-      → Each (λ (c : ChildCuts). BoundsBelow along (cost c.child) c) cs
+      → Each (λ (c : ChildCuts). BoundsBelow along (cost c.child) c.cuts.items) cs
   all_bounds_below cost k [] a h = tt
   all_bounds_below cost k (c ∷ cs) a h =
       let parts : Each Below (taken_of true k c.cuts.items) × Each Below (taken true (suc k) cs)
       = each_split Below (taken_of true k c.cuts.items) (taken true (suc k) cs) h in
-      (subst (λ z. BoundsBelow along z c) (sym a.0) (bounds_below k c.cuts.items parts.0), all_bounds_below cost (suc k) cs a.1 parts.1)
+      let first : BoundsBelow along (cost c.child) c.cuts.items
+      = subst (λ z. BoundsBelow along z c.cuts.items) (sym a.0) (bounds_below k c.cuts.items parts.0) in
+      (first, all_bounds_below cost (suc k) cs a.1 parts.1)
 
-  all_rays_below : (priced : Bool) (k : ℕ) (cs : List ChildCuts) → Each Below (taken priced k cs) → Each (RaysBelow along) cs
+  all_rays_below : (priced : Bool) (k : ℕ) (cs : List ChildCuts) → Each Below (taken priced k cs)
+      → Each (λ (c : ChildCuts). RaysBelow along c.cuts.items) cs
   all_rays_below priced k [] h = tt
   all_rays_below priced k (c ∷ cs) h =
       let parts : Each Below (taken_of priced k c.cuts.items) × Each Below (taken priced (suc k) cs)
@@ -136,7 +135,7 @@ children_of_shares : (v : View) (ms : List ℕ) → map (λ (s : Share). s.child
 children_of_shares v [] = refl
 children_of_shares v (m ∷ ms) = ap (λ ns. m ∷ ns) (children_of_shares v ms)
 
-costs_at : (v : View) (n : ℕ) (t : Task) (x along : List Entry) (value : ℚ) (cut : Option Stored) → IsDatumIn v n t.datum
+pub costs_at : (v : View) (n : ℕ) (t : Task) (x along : List Entry) (value : ℚ) (cut : Option Stored) → IsDatumIn v n t.datum
     → IsProblem (problem_of t) → map (λ (c : ChildCuts). c.child) t.children.items ≡ children v n → PointAnswer t x value cut
     → AddsUp t.trial x along → CostsAt v n t x along value
 costs_at v n t x along value cut d fits own a adds =
@@ -147,8 +146,8 @@ costs_at v n t x along value cut d fits own a adds =
     = λ k m e. cost_at_place 0 k m t.datum.shares costs fits.shares_rise e in
     let together : (f : List Entry) → form_at p x f ≡ product f (coefficient along)
     = λ f. sum-ext (λ (e : Entry). e.value *ℚ (coefficient x e.column +ℚ coefficient t.trial e.column))
-      (λ (e : Entry). e.value *ℚ coefficient along e.column)
-      (λ e. ap (λ z. e.value *ℚ z) (add_comm_ℚ (coefficient x e.column) (coefficient t.trial e.column) ∙ sym (adds e.column))) f in
+    (λ (e : Entry). e.value *ℚ coefficient along e.column)
+    (λ e. ap (λ z. e.value *ℚ z) (add_comm_ℚ (coefficient x e.column) (coefficient t.trial e.column) ∙ sym (adds e.column))) f in
     let same : map (λ (c : ChildCuts). c.child) t.children.items ≡ map (λ (s : Share). s.child) t.datum.shares
     = own ∙ sym (ap (map (λ (s : Share). s.child)) d.shares ∙ children_of_shares v (children v n)) in
     record {

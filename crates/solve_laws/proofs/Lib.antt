@@ -1,3 +1,4 @@
 pub mod Offers
 pub mod Points
 pub mod Costs
+pub mod PoolCosts

@@ -1,16 +1,21 @@
-//! What answers and offers leave to be told.
+//! What answers of solves and offers to pools show.
 ghost use Rattle.solve_laws.specs.Offers.{OffersHold};
 ghost use Rattle.solve_laws.specs.Points.{PointsMeet};
-ghost use Rattle.solve_laws.specs.Costs.{ValuesAreCosts};
+ghost use Rattle.solve_laws.specs.Costs.{ValuesAreCosts, ValuesCoverPools};
 
 /// The point of an answer meets the rows and bounds of its node beside the trial.
 pub fn points_meet()
     ensures { PointsMeet }
 {}
 
-/// Its value is what the point costs with costs of the children, which their cuts don't exceed.
+/// Its value is what the point costs there, and with their shares costs of the children, which their cuts don't exceed.
 pub fn values_are_costs()
     ensures { ValuesAreCosts }
+{}
+
+/// Nor do the cuts of the pools of which they were read.
+pub fn values_cover_pools()
+    ensures { ValuesCoverPools }
 {}
 
 /// Behind an offer the pool holds as much as was offered, and nothing is lost.

@@ -3,4 +3,4 @@
 
 mod laws;
 
-pub use laws::{offers_hold, points_meet, values_are_costs};
+pub use laws::{offers_hold, points_meet, values_are_costs, values_cover_pools};
