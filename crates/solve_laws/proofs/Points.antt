@@ -15,7 +15,7 @@ use Rattle.node_lp.specs.declared.task.Task.{Task}
 use Rattle.node_lp.specs.Problem.{problem_of}
 use Rattle.node_lp.specs.Records.{form_at}
 use Rattle.node_lp.specs.Answers.{PointAnswer}
-use Rattle.solve_laws.specs.Points.{IsDatumIn, MeetsAt, PointsMeet}
+use Rattle.solve_laws.specs.Points.{IsDatumIn, PointMeets, PointsMeet}
 
 -- what holds of each column holds of an own one
 own_holds : (v : View) (P : ℕ → Type 0) (j : ℕ) (js : List ℕ) → is_own (map (bounds_of v) js) j ≡ true → Each P js → P j
@@ -27,7 +27,7 @@ own_holds v P j (i ∷ js) e h = go (eqb i j) refl e (λ f. own_holds v P j js f
     go false q e rest = rest e
 
 points_at : (v : View) (n : ℕ) (t : Task) (x : List Entry) (value : ℚ) (cut : Option Stored) → IsTree v → IsDatumIn v n t.datum
-    → PointAnswer t x value cut → MeetsAt v n t.trial x
+    → PointAnswer t x value cut → PointMeets v n t.trial x
 points_at v n t x value cut tree d a =
     let js : List ℕ = v.columns (v.stage n) in
     let once : Each (λ j. Once j js) js = each-map {Q = λ j. Once j js} (λ j c. c.once) js (tree.columns (v.stage n)) in

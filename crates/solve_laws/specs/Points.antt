@@ -21,7 +21,7 @@ pub record IsDatumIn (v : View) (n : ℕ) (d : Datum) : Type 0 where
   pub shares : d.shares ≡ map (share_of v) (children v n)
 
 -- values x of columns of the node's stage, in rising order, meet its rows beside those of the trial, and the bounds of its columns
-pub record MeetsAt (v : View) (n : ℕ) (trial x : List Entry) : Type 0 where
+pub record PointMeets (v : View) (n : ℕ) (trial x : List Entry) : Type 0 where
   pub form : IsForm x
   pub columns : Each (λ (e : Entry). Once e.column (v.columns (v.stage n))) x
   pub rows : Each (λ (r : NodeRow). Between r.low r.high (product r.entries (λ j. coefficient x j +ℚ coefficient trial j))) (v.rows n)
@@ -30,4 +30,4 @@ pub record MeetsAt (v : View) (n : ℕ) (trial x : List Entry) : Type 0 where
 -- so does the point of every answer to a task with the node's datum
 abbrev pub PointsMeet : Type 0
 PointsMeet = (v : View) (n : ℕ) (t : Task) (x : List Entry) (value : ℚ) (cut : Option Stored) → IsTree v → IsDatumIn v n t.datum
-    → PointAnswer t x value cut → MeetsAt v n t.trial x
+    → PointAnswer t x value cut → PointMeets v n t.trial x
