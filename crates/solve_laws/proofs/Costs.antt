@@ -24,12 +24,12 @@ use Rattle.solve_laws.specs.Points.{IsDatumIn}
 use Rattle.solve_laws.specs.Costs.{AddsUp, BoundsBelow, RaysBelow, CostsAt, ValuesAreCosts}
 
 -- ---- costs by place as costs by child
-abbrev cost_by : List Share → List ℚ → ℕ → ℚ
+abbrev pub cost_by : List Share → List ℚ → ℕ → ℚ
 cost_by [] costs m = zero_ℚ
 cost_by (s ∷ ss) [] m = zero_ℚ
 cost_by (s ∷ ss) (c ∷ cs) m = pick (eqb s.child m) c (cost_by ss cs m)
 
-from_on : (n k m : ℕ) (ss : List Share) → SharesRise n ss → child_at ss k ≡ Some m → n ≤ m
+pub from_on : (n k m : ℕ) (ss : List Share) → SharesRise n ss → child_at ss k ≡ Some m → n ≤ m
 from_on n k m [] h e = absurd (let no : ◌≡◌ {A = Option ℕ} None (Some m) = e in cc)
 from_on n zero m (s ∷ ss) h e =
     let same : s.child ≡ m = (let some : ◌≡◌ {A = Option ℕ} (Some s.child) (Some m) = e in cc) in
@@ -40,7 +40,7 @@ from_on n (suc k) m (s ∷ ss) h e =
     let low : n ≤ s.child = h.0 in
     omega arith
 
-cost_at_place : (n k m : ℕ) (ss : List Share) (costs : List ℚ) → SharesRise n ss → child_at ss k ≡ Some m
+pub cost_at_place : (n k m : ℕ) (ss : List Share) (costs : List ℚ) → SharesRise n ss → child_at ss k ≡ Some m
     → cost_by ss costs m ≡ cost_of costs k
 cost_at_place n k m [] costs h e = absurd (let no : ◌≡◌ {A = Option ℕ} None (Some m) = e in cc)
 cost_at_place n k m (s ∷ ss) [] h e = refl
@@ -57,7 +57,7 @@ no_costs : (ss : List Share) → shared_cost ss [] ≡ zero_ℚ
 no_costs [] = refl
 no_costs (s ∷ ss) = refl
 
-shared_is : (cost : ℕ → ℚ) (ss : List Share) (costs : List ℚ) → ((k m : ℕ) → child_at ss k ≡ Some m → cost m ≡ cost_of costs k)
+pub shared_is : (cost : ℕ → ℚ) (ss : List Share) (costs : List ℚ) → ((k m : ℕ) → child_at ss k ≡ Some m → cost m ≡ cost_of costs k)
     → shared_cost ss costs ≡ sum_ℚ (λ (s : Share). s.share *ℚ cost s.child) ss
 shared_is cost [] costs h = refl
 shared_is cost (s ∷ ss) [] h =

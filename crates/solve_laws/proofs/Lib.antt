@@ -2,3 +2,4 @@ pub mod Offers
 pub mod Points
 pub mod Costs
 pub mod PoolCosts
+pub mod Bounds

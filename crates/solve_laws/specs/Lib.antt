@@ -1,3 +1,4 @@
 pub mod Points
 pub mod Costs
 pub mod Offers
+pub mod Bounds

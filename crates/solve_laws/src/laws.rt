@@ -2,6 +2,7 @@
 ghost use Rattle.solve_laws.specs.Offers.{OffersHold};
 ghost use Rattle.solve_laws.specs.Points.{PointsMeet};
 ghost use Rattle.solve_laws.specs.Costs.{ValuesAreCosts, ValuesCoverPools};
+ghost use Rattle.solve_laws.specs.Bounds.{BoundsHoldAtPoints};
 
 /// The point of an answer meets the rows and bounds of its node beside the trial.
 pub fn points_meet()
@@ -21,4 +22,9 @@ pub fn values_cover_pools()
 /// Behind an offer the pool holds as much as was offered, and nothing is lost.
 pub fn offers_hold()
     ensures { OffersHold }
+{}
+
+/// No point of a node's program costs less than a Bound cut at the trial that is made of the task's cuts.
+pub fn bounds_hold_at_points()
+    ensures { BoundsHoldAtPoints }
 {}

@@ -3,4 +3,6 @@
 
 mod laws;
 
-pub use laws::{offers_hold, points_meet, values_are_costs, values_cover_pools};
+pub use laws::{
+    bounds_hold_at_points, offers_hold, points_meet, values_are_costs, values_cover_pools,
+};
