@@ -3,12 +3,13 @@ use Rattle.std.proofs.Common.{◌≡◌, ◌∙◌, ℕ, zero, suc, ◌<◌, ◌
 use Rattle.std.proofs.Common.{Option, Some, None, map, length, get_or, refl, sym, ap, ap₂, subst, arith, eqb-true}
 use Rattle.std.proofs.lemmas.Bool.{eq-eqb, ne_eqb, eqb-false}
 use Rattle.std.specs.List.{Contains}
-use Rattle.rationals.specs.Rational.{ℚ, zero_ℚ, ◌+ℚ◌, ◌-ℚ◌, ◌*ℚ◌, ◌≤ℚ◌, ◌<ℚ◌, by_ring, by_linear, terms}
-use Rattle.rationals.specs.Rational.{lt_le_ℚ, mul_mono_ℚ, mul_zero_ℚ, zero_mul_ℚ, add_comm_ℚ}
+use Rattle.rationals.specs.Rational.{ℚ, zero_ℚ, ◌+ℚ◌, ◌-ℚ◌, ◌*ℚ◌, ◌≤ℚ◌, ◌<ℚ◌, by_ring, by_linear, by_facts, terms}
+use Rattle.rationals.specs.Rational.{one_ℚ, zero_lt_one_ℚ, not_le_of_lt_ℚ, lt_le_ℚ, mul_mono_ℚ, mul_zero_ℚ, zero_mul_ℚ, add_comm_ℚ}
 use Rattle.rationals.specs.Ring.Given.{nothing, fact, equal}
+use Rattle.rationals.specs.Ring.Facts.{end, by_le}
 use Rattle.rationals.specs.Sums.{sum_ℚ, sum-map, sum-add, sum-zero}
 use Rattle.rationals.specs.Sparse.{Entry, coefficient, product, value_if, product-along}
-use Rattle.scen_defs.specs.Lists.{Each, Absent, Once, pick}
+use Rattle.scen_defs.specs.Lists.{Each, Absent, Once}
 use Rattle.scen_defs.specs.Ends.{Between, IsGoodAt, worth}
 use Rattle.scen_defs.specs.declared.program.NodeRow.{NodeRow}
 use Rattle.scen_defs.proofs.SumLaws.{each-map, each-both, sum-ext, sum-same, sum-below, sum-pick, product-over}
@@ -22,15 +23,16 @@ use Rattle.cut_defs.specs.Data.{Datum, BoundsRise, SharesRise, is_own}
 use Rattle.cut_defs.specs.Stored.{Source, Stored, StoredUses, source_of, constant_of, form_of, form_sum, constant_sum, slope_of}
 use Rattle.cut_defs.specs.Stored.{cost_of as datum_cost, reduced_of, weight_on, WeightsFit, IsEarlier}
 use Rattle.cut_defs.specs.Stored.StoredUses.{No_stored, Use_stored}
-use Rattle.interval_form.specs.Own.{place_from}
 use Rattle.node_lp.specs.declared.task.ChildCuts.{ChildCuts}
 use Rattle.node_lp.specs.declared.task.Task.{Task}
 use Rattle.node_lp.specs.Places.{OfColumns}
 use Rattle.node_lp.specs.Problem.{held, PlacedCut, is_priced, taken_of, taken, problem_of, child_at, IsCut, IsOther, IsProblem}
 use Rattle.node_lp.specs.Records.{shared_cost, limit_of, Meets, cost_at}
+use Rattle.node_lp.specs.Answers.{LooseAnswer}
 use Rattle.node_lp.proofs.Columns.{each_split}
+use Rattle.node_lp.proofs.CutAnswers.{none_earlier}
 use Rattle.node_lp.proofs.Pairing.{product_add, product_sub, product_times, product_none, product_ext, pairing}
-use Rattle.solve_laws.specs.Bounds.{StandsAmong, UsesAmong, IsBoundOf, BoundsHoldAtPoints}
+use Rattle.solve_laws.specs.Bounds.{StandsAmong, UsesAmong, IsBoundOf, BoundsHoldAtPoints, NeverLoose}
 use Rattle.solve_laws.proofs.Costs.{cost_by, from_on, cost_at_place, shared_is}
 
 -- ---- what holds of each member
@@ -54,7 +56,8 @@ once_own : (n j : ℕ) (bs : List ColumnBounds) → BoundsRise n bs → is_own b
 once_own n j [] r e = absurd (let no : false ≡ true = e in cc)
 once_own n j (b ∷ bs) r e = go (eqb b.column j) refl e (λ f. once_own (suc b.column) j bs r.1 f)
   where
-    go : (t : Bool) → eqb b.column j ≡ t → (t || is_own bs j) ≡ true → (is_own bs j ≡ true → Once j (map (λ (b : ColumnBounds). b.column) bs))
+    go : (t : Bool) → eqb b.column j ≡ t → (t || is_own bs j) ≡ true
+        → (is_own bs j ≡ true → Once j (map (λ (b : ColumnBounds). b.column) bs))
         → Once j (map (λ (b : ColumnBounds). b.column) (b ∷ bs))
     go true q e rest =
         let same : b.column ≡ j = eqb-true b.column j q in inl (same, later_columns (suc b.column) j bs r.1 (omega (arith, same)))
@@ -198,15 +201,6 @@ limit_same ss costs rise Bound k m e = sym (cost_at_place 0 k m ss costs rise e)
 limit_same ss costs rise Ray k m e = refl
 
 -- ---- the trial has no value in an own column
-none_earlier : (k : ℕ) (bs : List ColumnBounds) (j : ℕ) → place_from k bs j ≡ None → IsEarlier bs j
-none_earlier k [] j e = tt
-none_earlier k (b ∷ bs) j e = go (eqb b.column j) refl e (λ q. none_earlier (suc k) bs j q)
-  where
-    go : (t : Bool) → eqb b.column j ≡ t → pick t (Some k) (place_from (suc k) bs j) ≡ None
-        → (place_from (suc k) bs j ≡ None → IsEarlier bs j) → (b.column ≡ j → ⊥) × IsEarlier bs j
-    go true q p h = absurd (let no : ◌≡◌ {A = Option ℕ} (Some k) None = p in cc)
-    go false q p h = (eqb-false b.column j q, h p)
-
 at_earlier : (bs : List ColumnBounds) (f : List Entry) (y : ℕ → ℚ) (g : List Entry)
     → ((j : ℕ) → IsEarlier bs j → coefficient f j ≡ y j) → Each (IsOther bs) g → product g (coefficient f) ≡ product g y
 at_earlier bs f y [] h o = refl
@@ -330,3 +324,20 @@ module _ (t : Task) (x : List Entry) (costs : List ℚ) (fits : IsProblem (probl
 pub bounds_hold_at_points : BoundsHoldAtPoints
 bounds_hold_at_points t s uses constant form x costs fits priced b own meets =
     bound_below t x costs fits priced own meets s uses constant form b
+
+-- ---- so there is a least cost
+too_low : (bound least : ℚ) → bound ≤ℚ least → least ≤ℚ bound -ℚ one_ℚ → one_ℚ ≤ℚ zero_ℚ
+too_low bound least h k = by_facts (bound ∷ least ∷ []) (by_le 1 h (by_le 1 k end)) (search terms depth 40) tt
+
+never : (t : Task) (s : Source) (uses : StoredUses) (constant : ℚ) (form : List Entry) → IsProblem (problem_of t)
+    → is_priced t.kind ≡ true → IsBoundOf t s uses constant form → LooseAnswer t → ⊥
+never t s uses constant form fits priced b loose =
+    let bound : ℚ = constant +ℚ product form (coefficient t.trial) in
+    let low : (x : List Entry) × (costs : List ℚ) × OfColumns t.datum.bounds x × Meets (problem_of t) x costs
+    × (cost_at (problem_of t) x costs ≤ℚ bound -ℚ one_ℚ)
+    = loose.no_least.below (bound -ℚ one_ℚ) in
+    not_le_of_lt_ℚ zero_lt_one_ℚ (too_low bound (cost_at (problem_of t) low.0 low.1)
+    (bounds_hold_at_points t s uses constant form low.0 low.1 fits priced b low.2 low.3) low.4)
+
+pub never_loose : NeverLoose
+never_loose = record { priced = never; costless = λ t priced none loose. loose.costs priced none }

@@ -1,5 +1,5 @@
 -- A Bound cut that is made of cuts of a task bounds what the points of the task's program cost: so there is a least cost.
-use Rattle.std.specs.Prelude.{◌≡◌, true, List}
+use Rattle.std.specs.Prelude.{◌≡◌, true, false, List, []}
 use Rattle.std.specs.List.{Contains}
 use Rattle.rationals.specs.Rational.{ℚ, zero_ℚ, ◌+ℚ◌, ◌≤ℚ◌, ◌<ℚ◌}
 use Rattle.rationals.specs.Sparse.{Entry, coefficient, product}
@@ -11,6 +11,7 @@ use Rattle.node_lp.specs.declared.task.Task.{Task}
 use Rattle.node_lp.specs.Places.{OfColumns}
 use Rattle.node_lp.specs.Problem.{is_priced, IsProblem, problem_of}
 use Rattle.node_lp.specs.Records.{Meets, cost_at}
+use Rattle.node_lp.specs.Answers.{LooseAnswer}
 
 -- the cut is one of those about one of the children
 pub record StandsAmong (children : List ChildCuts) (cut : Stored) : Type 0 where
@@ -34,3 +35,10 @@ abbrev pub BoundsHoldAtPoints : Type 0
 BoundsHoldAtPoints = (t : Task) (s : Source) (uses : StoredUses) (constant : ℚ) (form x : List Entry) (costs : List ℚ)
     → IsProblem (problem_of t) → is_priced t.kind ≡ true → IsBoundOf t s uses constant form → OfColumns t.datum.bounds x
     → Meets (problem_of t) x costs → constant +ℚ product form (coefficient t.trial) ≤ℚ cost_at (problem_of t) x costs
+
+-- so the program of a task that has such a cut is never told to have no least cost; nor is it where the children aren't priced and
+-- the node has no costs
+pub record NeverLoose : Type 0 where
+  pub priced : (t : Task) (s : Source) (uses : StoredUses) (constant : ℚ) (form : List Entry) → IsProblem (problem_of t)
+      → is_priced t.kind ≡ true → IsBoundOf t s uses constant form → LooseAnswer t → ⊥
+  pub costless : (t : Task) → is_priced t.kind ≡ false → t.datum.cost ≡ [] → LooseAnswer t → ⊥

@@ -2,7 +2,7 @@
 ghost use Rattle.solve_laws.specs.Offers.{OffersHold};
 ghost use Rattle.solve_laws.specs.Points.{PointsMeet};
 ghost use Rattle.solve_laws.specs.Costs.{ValuesAreCosts, ValuesCoverPools};
-ghost use Rattle.solve_laws.specs.Bounds.{BoundsHoldAtPoints};
+ghost use Rattle.solve_laws.specs.Bounds.{BoundsHoldAtPoints, NeverLoose};
 
 /// The point of an answer meets the rows and bounds of its node beside the trial.
 pub fn points_meet()
@@ -27,4 +27,9 @@ pub fn offers_hold()
 /// No point of a node's program costs less than a Bound cut at the trial that is made of the task's cuts.
 pub fn bounds_hold_at_points()
     ensures { BoundsHoldAtPoints }
+{}
+
+/// So it is never told to have no least cost.
+pub fn never_loose()
+    ensures { NeverLoose }
 {}
