@@ -3,3 +3,4 @@ pub mod Points
 pub mod Costs
 pub mod PoolCosts
 pub mod Bounds
+pub mod Grounds

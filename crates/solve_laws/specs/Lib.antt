@@ -2,3 +2,4 @@ pub mod Points
 pub mod Costs
 pub mod Offers
 pub mod Bounds
+pub mod Grounds

@@ -3,6 +3,7 @@ ghost use Rattle.solve_laws.specs.Offers.{OffersHold};
 ghost use Rattle.solve_laws.specs.Points.{PointsMeet};
 ghost use Rattle.solve_laws.specs.Costs.{ValuesAreCosts, ValuesCoverPools};
 ghost use Rattle.solve_laws.specs.Bounds.{BoundsHoldAtPoints, NeverLoose};
+ghost use Rattle.solve_laws.specs.Grounds.{GroundsAreMade};
 
 /// The point of an answer meets the rows and bounds of its node beside the trial.
 pub fn points_meet()
@@ -32,4 +33,9 @@ pub fn bounds_hold_at_points()
 /// So it is never told to have no least cost.
 pub fn never_loose()
     ensures { NeverLoose }
+{}
+
+/// A ground cut is such a cut where its task has the cuts that it is made of.
+pub fn grounds_are_made()
+    ensures { GroundsAreMade }
 {}

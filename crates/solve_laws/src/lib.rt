@@ -4,6 +4,6 @@
 mod laws;
 
 pub use laws::{
-    bounds_hold_at_points, never_loose, offers_hold, points_meet, values_are_costs,
-    values_cover_pools,
+    bounds_hold_at_points, grounds_are_made, never_loose, offers_hold, points_meet,
+    values_are_costs, values_cover_pools,
 };
