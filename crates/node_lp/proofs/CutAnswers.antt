@@ -107,7 +107,7 @@ constants_same (w ∷ ws) (c ∷ cs) (d ∷ ds) s = go (is_zero w) refl (constan
     go true z h = h ∙ sym (ap (λ q. q *ℚ c.cut.constant +ℚ weighed_constant ws cs) (test_zero w z) ∙ ap (λ q. q +ℚ weighed_constant ws cs) (zero_mul_ℚ c.cut.constant) ∙ zero_add_ℚ _)
     go false z h = ap₂ (λ q r. w *ℚ q +ℚ r) (ap (λ (k : HeldCut). k.constant) s.0) h
 
-none_earlier : (k : ℕ) (bs : List ColumnBounds) (j : ℕ) → place_from k bs j ≡ None → IsEarlier bs j
+pub none_earlier : (k : ℕ) (bs : List ColumnBounds) (j : ℕ) → place_from k bs j ≡ None → IsEarlier bs j
 none_earlier k [] j e = tt
 none_earlier k (b ∷ bs) j e = go (eqb b.column j) refl e (λ q. none_earlier (suc k) bs j q)
   where

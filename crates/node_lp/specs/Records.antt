@@ -13,6 +13,7 @@ use Rattle.cut_defs.specs.declared.kinds.CutKind.{CutKind}
 use Rattle.cut_defs.specs.declared.kinds.CutKind.TheVariants as cut_kind
 use Rattle.cut_defs.specs.Cuts.{is_bound}
 use Rattle.node_lp.specs.Problem.{PlacedCut, Problem}
+use Rattle.node_lp.specs.Places.{OfColumns}
 
 -- ---- sums over the cuts, one weight for each
 
@@ -129,6 +130,6 @@ pub record ShowsNoPoint (p : Problem) (y : List Entry) (ws : List ℚ) : Type 0 
   pub good : IsRecord p cut_kind.Ray y ws
   pub above : zero_ℚ <ℚ value_at p cut_kind.Ray y ws
 
--- points below every limit
+-- points over the own columns below every limit
 pub record HasNoLeast (p : Problem) : Type 0 where
-  pub below : (limit : ℚ) → (x : List Entry) × (costs : List ℚ) × Meets p x costs × (cost_at p x costs ≤ℚ limit)
+  pub below : (limit : ℚ) → (x : List Entry) × (costs : List ℚ) × OfColumns p.bounds x × Meets p x costs × (cost_at p x costs ≤ℚ limit)

@@ -1,0 +1,12 @@
+pub mod Standing
+pub mod Same
+pub mod Turned
+pub mod Places
+pub mod Moved
+pub mod Policies
+pub mod Offered
+pub mod Ends
+pub mod Solved
+pub mod Begun
+pub mod Kept
+pub mod Meeting

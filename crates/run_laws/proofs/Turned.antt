@@ -1,0 +1,66 @@
+-- The machine behind a turn that leaves a last solve.
+use Rattle.std.proofs.Common.{◌≡◌, ℕ, ◌+◌, ◌<◌, ◌≤◌, Bool, true, false, List, refl, sym, ap, subst, ◌∙◌, arith}
+use Rattle.scen_defs.specs.Lists.{pick}
+use Rattle.pass_table.specs.Machine.{IsAbove, Last, Flight, Machine, IsMade, IsValid, IsNext, begun, with_at, committed, raised}
+use Rattle.pass_table.proofs.Stale.{same_at, other_at}
+use Rattle.one_worker.specs.Turn.{IsIdle, first_flight, read_by_each, read_each}
+use Rattle.one_worker.proofs.Turning.{AreReads, node_read, turn_reads}
+use Rattle.pass_core.specs.Tabled.{committed_with}
+
+-- node n has another last solve, of the commit that comes next, and no other node has
+pub record IsTurned (m k : Machine) (n : ℕ) (point : Bool) : Type 0 where
+  pub live : k.live ≡ m.live
+  pub parent : k.parent ≡ m.parent
+  pub commit : (k.last n).commit ≡ m.commits + 1
+  pub has_point : (k.last n).point ≡ point
+  pub others : (j : ℕ) → (j ≡ n → ⊥) → k.last j ≡ m.last j
+
+-- a commit, with the rise of a pool's number or without it
+committed_turns : (m : Machine) (f : Flight) (point added : Bool) (n : ℕ) → f.node ≡ n → IsTurned m (committed_with m f point added) n point
+committed_turns m f point true n e = record {
+  live = refl;
+  parent = refl;
+  commit = ap (λ (l : Last). l.commit) (same_at m.last f.node _ n (sym e));
+  has_point = ap (λ (l : Last). l.point) (same_at m.last f.node _ n (sym e));
+  others = λ j ne. other_at m.last f.node _ j (λ q. ne (q ∙ e));
+}
+committed_turns m f point false n e = record {
+  live = refl;
+  parent = refl;
+  commit = ap (λ (l : Last). l.commit) (same_at m.last f.node _ n (sym e));
+  has_point = ap (λ (l : Last). l.point) (same_at m.last f.node _ n (sym e));
+  others = λ j ne. other_at m.last f.node _ j (λ q. ne (q ∙ e));
+}
+
+-- behind the Reads of a turn
+pub turned : (m k : Machine) (n : ℕ) (cs : List ℕ) (point added : Bool) → IsValid m → IsIdle m → IsNext m n
+    → k ≡ committed_with (read_each (begun m 0 n) (first_flight m n) cs) (read_by_each m.number (first_flight m n) cs) point added
+    → IsTurned m k n point
+turned m k n cs point added valid idle next e =
+    let reads = turn_reads m n cs valid idle next in
+    let c = committed_turns (read_each (begun m 0 n) (first_flight m n) cs) (read_by_each m.number (first_flight m n) cs) point added n
+        (node_read m.number (first_flight m n) cs) in
+    subst (λ (k : Machine). IsTurned m k n point) (sym e) (record {
+      live = c.live ∙ reads.live;
+      parent = c.parent ∙ reads.parent;
+      commit = c.commit ∙ ap (λ (x : ℕ). x + 1) reads.commits;
+      has_point = c.has_point;
+      others = λ j ne. c.others j ne ∙ ap (λ (l : ℕ → Last). l j) reads.last;
+    })
+
+-- what is made behind the turn doesn't stand below the node, and was made before
+pub made_before : (m k : Machine) (n j : ℕ) (point : Bool) → IsValid m → IsTurned m k n point → (j ≡ n → ⊥) → IsMade k j
+    → IsMade m j × (IsAbove m.parent n j → ⊥)
+made_before m k n j point valid turn ne made = (record {
+  solved = subst (λ (l : Last). 0 < l.commit) (turn.others j ne) made.solved;
+  above = λ a up. go a up;
+}, below)
+  where
+    seen : (a : ℕ) → IsAbove m.parent a j → (k.last a).commit ≡ (m.last j).above a
+    seen a up = made.above a (subst (λ (p : ℕ → ℕ). IsAbove p a j) (sym turn.parent) up) ∙ ap (λ (l : Last). l.above a) (turn.others j ne)
+
+    below : IsAbove m.parent n j → ⊥
+    below up = omega (arith, seen n up, turn.commit, valid.seen j n)
+
+    go : (a : ℕ) → IsAbove m.parent a j → (m.last a).commit ≡ (m.last j).above a
+    go a up = ap (λ (l : Last). l.commit) (sym (turn.others a (λ e. below (subst (λ (x : ℕ). IsAbove m.parent x j) e up)))) ∙ seen a up

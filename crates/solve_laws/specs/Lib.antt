@@ -1,0 +1,5 @@
+pub mod Points
+pub mod Costs
+pub mod Offers
+pub mod Bounds
+pub mod Grounds
