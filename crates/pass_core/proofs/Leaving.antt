@@ -114,7 +114,7 @@ answer_banks (offer.Stale node part seen known) s = refl
 answer_banks (offer.Passed o) s = refl
 
 -- the pool that gave the answer
-answering : (answer : Held → Offer) (found : Option Held) (o : Offer) → Some o ≡ option_map answer found
+pub answering : (answer : Held → Offer) (found : Option Held) (o : Offer) → Some o ≡ option_map answer found
     → (pool : Held) × ((found ≡ Some pool) × (answer pool ≡ o))
 answering answer None o e = absurd (cc)
 answering answer (Some pool) o e = (pool, (refl, let same : answer pool ≡ o = cc in same))

@@ -10,6 +10,7 @@ pub mod Tabling
 pub mod CutNodes
 pub mod Leaving
 pub mod Solving
+pub mod Progressing
 pub mod Making
 pub mod MadeAfterEdits
 pub mod Assembling

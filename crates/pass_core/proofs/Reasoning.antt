@@ -1,16 +1,27 @@
 -- Which reasons the parts of a step add.
-use Rattle.std.proofs.Common.{◌≡◌, ◌⊎◌, inl, inr, ℕ, Option, Some, None, refl, sym, ap, subst, ◌∙◌}
+use Rattle.std.proofs.Common.{◌≡◌, ◌⊎◌, inl, inr, ℕ, zero, suc, ◌<◌, List, Option, Some, None, Result, Ok, Err, OnOk, refl, sym, ap, subst, ◌∙◌, arith}
+use Rattle.std.specs.Option.{option_map}
+use Rattle.rationals.specs.Sparse.{Entry}
+use Rattle.scen_defs.specs.declared.report.Kind.{Kind}
 use Rattle.scen_defs.specs.declared.report.Place.TheVariants.{Cut, Cost}
 use Rattle.node_lp.specs.declared.solved.Solved.{Solved}
 use Rattle.node_lp.specs.declared.solved.Solved.TheVariants as solved
 use Rattle.cut_pool.specs.declared.offer.Offer.{Offer}
 use Rattle.cut_pool.specs.declared.offer.Offer.TheVariants as offer
+use Rattle.cut_defs.specs.Stored.{Stored, source_of}
+use Rattle.cut_pool.specs.Held.{Held}
+use Rattle.cut_pool.specs.Pool.{offer_of}
+use Rattle.cut_banks.specs.declared.banks.Banks.{Banks}
+use Rattle.cut_banks.specs.Banks.{pools_of}
+use Rattle.cut_banks.specs.Pools.{may_take, pool_if}
 use Rattle.proved_report.specs.declared.open.Open.{Open}
 use Rattle.proved_report.specs.declared.open.Open.TheVariants as reason
+use Rattle.pass_core.specs.declared.budget.Budget.{Budget}
 use Rattle.pass_core.specs.declared.state.Counts.{Counts}
 use Rattle.pass_core.specs.declared.state.State.{State}
 use Rattle.pass_core.specs.Counting.{first_stop, first_or, after_answer}
-use Rattle.pass_core.specs.Reasons.{HasReason, IsOfSolve, IsOfOpening, IsLasting, GainsReasons}
+use Rattle.pass_core.specs.Reasons.{HasReason, IsStale, IsRefused, by_none, by_pool, RefusesCut, IsOfSolve, IsOfOpening, IsLasting, GainsReasons}
+use Rattle.pass_core.proofs.Leaving.{answering}
 
 -- nothing stops the method that didn't before
 pub same_reasons : (Is : Open → Type 0) (a b : State) → b.counts ≡ a.counts → b.stop ≡ a.stop → b.lasting ≡ a.lasting → GainsReasons Is a b
@@ -65,26 +76,94 @@ run_reasons Is a b w c s l i k = record {
   lasting = λ why h. first_of_two (λ (o : Open). Is o × IsLasting o) a.lasting w why (sym l ∙ h) (i, k);
 }
 
--- a pool's answer
-pub answered_reasons : (all : Solved) (o : Offer) (s : State) → GainsReasons (IsOfSolve s.counts.all all) s (after_answer o s)
-answered_reasons all offer.Added s = same_reasons (IsOfSolve s.counts.all all) s s refl refl refl
-answered_reasons all (offer.NotNeeded value) s = same_reasons (IsOfSolve s.counts.all all) s s refl refl refl
-answered_reasons all (offer.Stale node part seen known) s =
-    stopped_reasons (IsOfSolve s.counts.all all) s (after_answer (offer.Stale node part seen known) s) (reason.Solves s.budget.solves) refl refl refl tt
-answered_reasons all (offer.Passed o) s =
-    run_reasons (IsOfSolve s.counts.all all) s (after_answer (offer.Passed o) s) (reason.Passed (Cut s.counts.all) o) refl refl refl refl (inl (s.counts.all, refl))
+-- the same where more is told of each reason that is gained
+pub wider_reasons : (Is Js : Open → Type 0) (a b : State) → ((why : Open) → Is why → Js why) → GainsReasons Is a b → GainsReasons Js a b
+wider_reasons Is Js a b f g = record {
+  counts = g.counts;
+  stop = λ why h. elim (g.stop why h) [ inl e ↦ inl e | inr i ↦ inr (f why i) ];
+  lasting = λ why h. elim (g.lasting why h) [ inl e ↦ inl e | inr i ↦ inr (f why i.0, i.1) ];
+}
 
--- behind a change that keeps the counts, of a solve that is counted as before
-pub solve_reasons : (all : Solved) (a b c : State) → GainsReasons (IsOfSolve a.counts.all all) a b → GainsReasons (IsOfSolve b.counts.all all) b c
-    → GainsReasons (IsOfSolve a.counts.all all) a c
-solve_reasons all a b c x y =
-    then_reasons (IsOfSolve a.counts.all all) a b c x
-    (subst (λ (k : Counts). GainsReasons (IsOfSolve k.all all) b c) x.counts y)
+-- another case in which the method is stuck
+wider_solve : (A B : Type 0) (k allowed : ℕ) (all : Solved) → (A → B) → (why : Open) → IsOfSolve k allowed all A why → IsOfSolve k allowed all B why
+wider_solve A B k allowed all f (reason.Solves n) h = (h.0, f h.1)
+wider_solve A B k allowed all f (reason.Pivots j) h = h
+wider_solve A B k allowed all f (reason.Passed place o) h = h
+
+pub stuck_wider : (A B : Type 0) (k allowed : ℕ) (all : Solved) (a b : State) → (A → B) → GainsReasons (IsOfSolve k allowed all A) a b
+    → GainsReasons (IsOfSolve k allowed all B) a b
+stuck_wider A B k allowed all a b f g =
+    wider_reasons (IsOfSolve k allowed all A) (IsOfSolve k allowed all B) a b (wider_solve A B k allowed all f) g
+
+pub wider_opening : (A B : Type 0) (allowed : ℕ) → (A → B) → (why : Open) → IsOfOpening allowed A why → IsOfOpening allowed B why
+wider_opening A B allowed f (reason.Solves n) h = (h.0, f h.1)
+wider_opening A B allowed f (reason.Pivots j) h = h
+wider_opening A B allowed f (reason.Passed place o) h = h
+
+-- a pool's answer
+pub answered_reasons : (all : Solved) (o : Offer) (s : State)
+    → GainsReasons (IsOfSolve s.counts.all s.budget.solves all (IsStale o)) s (after_answer o s)
+answered_reasons all offer.Added s = same_reasons (IsOfSolve s.counts.all s.budget.solves all ⊥) s s refl refl refl
+answered_reasons all (offer.NotNeeded value) s = same_reasons (IsOfSolve s.counts.all s.budget.solves all ⊥) s s refl refl refl
+answered_reasons all (offer.Stale node part seen known) s =
+    stopped_reasons (IsOfSolve s.counts.all s.budget.solves all (Unit {0})) s (after_answer (offer.Stale node part seen known) s)
+    (reason.Solves s.budget.solves) refl refl refl (refl, tt)
+answered_reasons all (offer.Passed o) s =
+    run_reasons (IsOfSolve s.counts.all s.budget.solves all ⊥) s (after_answer (offer.Passed o) s) (reason.Passed (Cut s.counts.all) o)
+    refl refl refl refl (inl (s.counts.all, refl))
+
+-- behind a change that keeps the counts and the budget, of a solve that is counted as before
+pub solve_reasons : (A : Type 0) (all : Solved) (a b c : State) → b.budget ≡ a.budget
+    → GainsReasons (IsOfSolve a.counts.all a.budget.solves all A) a b
+    → GainsReasons (IsOfSolve b.counts.all b.budget.solves all A) b c
+    → GainsReasons (IsOfSolve a.counts.all a.budget.solves all A) a c
+solve_reasons A all a b c e x y =
+    then_reasons (IsOfSolve a.counts.all a.budget.solves all A) a b c x
+    (subst (λ (k : Counts). GainsReasons (IsOfSolve k.all a.budget.solves all A) b c) x.counts
+    (subst (λ (n : Budget). GainsReasons (IsOfSolve b.counts.all n.solves all A) b c) e y))
+
+-- behind a change that keeps the budget, where a run doesn't open
+pub opening_reasons : (A B : Type 0) (a b c : State) → b.budget ≡ a.budget → (A → B) → GainsReasons (IsOfOpening a.budget.solves A) a b
+    → GainsReasons (IsOfOpening b.budget.solves B) b c → GainsReasons (IsOfOpening a.budget.solves B) a c
+opening_reasons A B a b c e f x y =
+    then_reasons (IsOfOpening a.budget.solves B) a b c
+    (wider_reasons (IsOfOpening a.budget.solves A) (IsOfOpening a.budget.solves B) a b (wider_opening A B a.budget.solves f) x)
+    (subst (λ (n : Budget). GainsReasons (IsOfOpening n.solves B) b c) e y)
+
+-- ---- where a cut is refused
+-- the cut of a node above the root
+pub refused_above : (kind : Kind) (banks : Banks) (n : ℕ) (trial : List Entry) (o : Option Stored) (cut : Stored) → 0 < n → o ≡ Some cut
+    → IsRefused (pools_of kind banks) trial cut → RefusesCut kind banks n trial o
+refused_above kind banks zero trial o cut low e h = absurd (omega (arith, low))
+refused_above kind banks (suc n) trial o cut low e h = subst (λ (x : Option Stored). RefusesCut kind banks (suc n) trial x) (sym e) h
+
+-- the same where the kind and the banks are given otherwise
+pub refused_as : (a b : State) (n : ℕ) (trial : List Entry) (o : Option Stored) → b.kind ≡ a.kind → b.banks ≡ a.banks
+    → RefusesCut b.kind b.banks n trial o → RefusesCut a.kind a.banks n trial o
+refused_as a b n trial o k e h =
+    subst (λ (x : Kind). RefusesCut x a.banks n trial o) k (subst (λ (x : Banks). RefusesCut b.kind x n trial o) e h)
+
+-- no pool may take it
+pub unanswered_refused : (pools : List Held) (trial : List Entry) (cut : Stored)
+    → None ≡ option_map (λ p. offer_of p cut trial) (pool_if (may_take cut) (source_of cut).node pools) → IsRefused pools trial cut
+unanswered_refused pools trial cut e = by_none (go (pool_if (may_take cut) (source_of cut).node pools) e)
+  where
+    go : (found : Option Held) → None ≡ option_map (λ p. offer_of p cut trial) found → found ≡ None
+    go None e = refl
+    go (Some pool) e = absurd (cc)
+
+-- or one finds it stale
+pub stale_refused : (pools : List Held) (trial : List Entry) (cut : Stored) (o : Offer)
+    → Some o ≡ option_map (λ p. offer_of p cut trial) (pool_if (may_take cut) (source_of cut).node pools) → IsStale o
+    → IsRefused pools trial cut
+stale_refused pools trial cut o e h =
+    let found = answering (λ p. offer_of p cut trial) (pool_if (may_take cut) (source_of cut).node pools) o e in
+    by_pool found.0 found.1.0 (subst IsStale (sym found.1.1) h)
 
 -- a state that changes in nothing else than these parts
 pub by_same : (Is : Open → Type 0) (a b c : State) → b ≡ c → GainsReasons Is a c → GainsReasons Is a b
 by_same Is a b c e h = subst (GainsReasons Is a) (sym e) h
 
 -- there are places for last solves, and something is done from now on
-pub ready_gains : (a b : State) → b ≡ record a { lasts = b.lasts; is_begun = b.is_begun } → GainsReasons IsOfOpening a b
-ready_gains a b e = same_reasons IsOfOpening a b (ap (λ (x : State). x.counts) e) (ap (λ (x : State). x.stop) e) (ap (λ (x : State). x.lasting) e)
+pub ready_gains : (Is : Open → Type 0) (a b : State) → b ≡ record a { lasts = b.lasts; is_begun = b.is_begun } → GainsReasons Is a b
+ready_gains Is a b e = same_reasons Is a b (ap (λ (x : State). x.counts) e) (ap (λ (x : State). x.stop) e) (ap (λ (x : State). x.lasting) e)

@@ -14,7 +14,7 @@ use Rattle.pass_table.specs.Machine.{Machine}
 use Rattle.pass_core.specs.declared.state.Counts.{Counts}
 use Rattle.pass_core.specs.declared.state.State.{State}
 use Rattle.pass_core.specs.Counting.{with_commit}
-use Rattle.pass_core.specs.Reasons.{IsOfSolve, GainsReasons}
+use Rattle.pass_core.specs.Reasons.{IsStuck, IsOfSolve, GainsReasons}
 use Rattle.pass_core.specs.Tabled.{EndsSolve, IsBegunBy}
 use Rattle.pass_core.specs.Turns.{PointsStand, KeepsPoints, IsTaskOf, EndsBy, SolvesNode, AreReady, MakesStep}
 use Rattle.pass_core.specs.Turns.MakesStep.{solves}
@@ -35,7 +35,7 @@ pub solved_by : (p : Program) (tree : Tree) (s : State) (counts : Counts) (m : M
     → IsAnswer t all
     → OnOk r (EndsSolve (EndsBy t.trial all) (record s { counts = counts }) new (read_machine p (record s { counts = counts }) m n i frame b)
     (begun_flight p (record s { counts = counts }) m n i frame b)) → OnOk r (KeepsPoints p (record s { counts = counts }) new)
-    → OnOk r (GainsReasons (IsOfSolve counts.all all) (record s { counts = counts }) new)
+    → OnOk r (GainsReasons (IsOfSolve counts.all s.budget.solves all (IsStuck s.kind s.banks n t.trial all)) (record s { counts = counts }) new)
     → OnOk r (StaysInRun (record s { counts = counts }) new)
     → OnOk r (new.stop ≡ None → LeavesBy p tree n t.trial all (record s { counts = counts }) new) → OnOk r (SolvesNode p s m n new)
 solved_by p tree s counts m n i walk frame b t all new r raised task problem stand exact answer ends points reasons stays leaves =
@@ -43,7 +43,7 @@ solved_by p tree s counts m n i walk frame b t all new r raised task problem sta
     let rm = read_machine p counted m n i frame b in
     let bf = begun_flight p counted m n i frame b in
     on_five r (EndsSolve (EndsBy t.trial all) counted new rm bf) (KeepsPoints p counted new)
-    (GainsReasons (IsOfSolve counts.all all) counted new) (StaysInRun counted new)
+    (GainsReasons (IsOfSolve counts.all s.budget.solves all (IsStuck s.kind s.banks n t.trial all)) counted new) (StaysInRun counted new)
     (new.stop ≡ None → LeavesBy p tree n t.trial all counted new)
     (SolvesNode p s m n new)
     (λ e k g y l. record {
@@ -52,8 +52,9 @@ solved_by p tree s counts m n i walk frame b t all new r raised task problem sta
       fits = problem;
       ends = solve_ends p counted m n i frame b (EndsBy t.trial (node_solved t)) new (told_ends t.trial (node_solved t) all counted new rm bf (sym exact) e);
       points = k stand;
-      reasons = subst (λ (c : Counts). GainsReasons (IsOfSolve c.all (node_solved t)) (record s { counts = c }) new) raised
-          (subst (λ (x : Solved). GainsReasons (IsOfSolve counts.all x) counted new) exact g);
+      reasons = subst (λ (c : Counts). GainsReasons (IsOfSolve c.all s.budget.solves (node_solved t)
+          (IsStuck s.kind s.banks n t.trial (node_solved t))) (record s { counts = c }) new) raised
+          (subst (λ (x : Solved). GainsReasons (IsOfSolve counts.all s.budget.solves x (IsStuck s.kind s.banks n t.trial x)) counted new) exact g);
       stays = record { kind = y.kind; frame = y.frame; budget = y.budget; versions = y.versions };
       answer = subst (IsAnswer t) exact answer;
       leaves = λ other w stop.
@@ -96,8 +97,9 @@ step_solved p old s m n new e ready h = solves s.lasts n ready (record {
   ends = h.ends;
   points = h.points;
   reasons =
-      let k = subst (λ (x : State). GainsReasons (IsOfSolve (with_commit x.counts).all (node_solved h.task)) (record x { counts = with_commit x.counts }) new)
-      e h.reasons in
+      let all = node_solved h.task in
+      let k = subst (λ (x : State). GainsReasons (IsOfSolve (with_commit x.counts).all x.budget.solves all (IsStuck x.kind x.banks n h.task.trial all))
+      (record x { counts = with_commit x.counts }) new) e h.reasons in
       record { counts = k.counts; stop = k.stop; lasting = k.lasting };
   stays = let k = subst (λ (x : State). StaysInRun x new) e h.stays in
       record { kind = k.kind; frame = k.frame; budget = k.budget; versions = k.versions };

@@ -32,7 +32,8 @@ use Rattle.pass_core.specs.declared.state.State.{State}
 use Rattle.pass_core.specs.Counting.{after_answer}
 use Rattle.pass_core.specs.Explained.{point_found}
 use Rattle.pass_core.specs.Left.{places_in}
-use Rattle.pass_core.specs.Turns.{AreUpTo, PointsStand, KeepsPoints, datum_in, PassesInJoin, AreReady}
+use Rattle.pass_core.specs.Reasons.{PassesInJoin}
+use Rattle.pass_core.specs.Turns.{AreUpTo, PointsStand, KeepsPoints, datum_in, AreReady}
 
 -- ---- the columns of a sum
 -- P holds of each column

@@ -1,8 +1,20 @@
--- Which solve a reason that a state keeps is told of.
-use Rattle.std.specs.Prelude.{◌≡◌, ◌⊎◌, ℕ, false, true, Option, Some, ⊤}
+-- Which solve a reason that a state keeps is told of, and where the method is stuck.
+use Rattle.std.specs.Prelude.{◌≡◌, ◌⊎◌, ℕ, zero, suc, false, true, List, Option, Some, None, Err}
+use Rattle.rationals.specs.Rational.{one_ℚ}
 use Rattle.rationals.specs.Passes.{Operation}
+use Rattle.rationals.specs.Forms.{add_scaled_walk}
+use Rattle.rationals.specs.Sparse.{Entry}
+use Rattle.scen_defs.specs.declared.report.Kind.{Kind}
 use Rattle.scen_defs.specs.declared.report.Place.{Place}
 use Rattle.scen_defs.specs.declared.report.Place.TheVariants.{Solve, Cut, Cost, Ground, Dual, Check}
+use Rattle.cut_defs.specs.Stored.{Stored, source_of}
+use Rattle.cut_pool.specs.declared.offer.Offer.{Offer}
+use Rattle.cut_pool.specs.declared.offer.Offer.TheVariants.{Added, NotNeeded, Stale, Passed as PassedOffer}
+use Rattle.cut_pool.specs.Held.{Held}
+use Rattle.cut_pool.specs.Pool.{offer_of}
+use Rattle.cut_banks.specs.declared.banks.Banks.{Banks}
+use Rattle.cut_banks.specs.Banks.{pools_of}
+use Rattle.cut_banks.specs.Pools.{may_take, pool_if}
 use Rattle.node_lp.specs.declared.solved.Solved.{Solved}
 use Rattle.node_lp.specs.declared.solved.Solved.TheVariants as solved
 use Rattle.proved_report.specs.declared.open.Open.{Open}
@@ -22,17 +34,52 @@ IsAtSolve k all o Ground = ⊥
 IsAtSolve k all o Dual = ⊥
 IsAtSolve k all o Check = ⊥
 
--- told of that solve; or the method is stuck
-abbrev pub IsOfSolve : ℕ → Solved → Open → Type 0
-IsOfSolve k all (reason.Solves n) = ⊤
-IsOfSolve k all (reason.Pivots j) = (j ≡ k) × (all ≡ solved.PivotsEnded)
-IsOfSolve k all (reason.Passed place o) = IsAtSolve k all o place
+-- ---- where the method is stuck behind a solve
+-- the point can't be kept beside the values of the columns before it, since an operation passes
+abbrev pub PassesInJoin : List Entry → List Entry → Type 0
+PassesInJoin trial point = (o : Operation) × (add_scaled_walk trial one_ℚ point ≡ Err o)
 
--- told where a run doesn't open; or the method is stuck
-abbrev pub IsOfOpening : Open → Type 0
-IsOfOpening (reason.Solves n) = ⊤
-IsOfOpening (reason.Pivots j) = ⊥
-IsOfOpening (reason.Passed place o) = place ≡ Ground
+-- the pool knows a later version of what the cut rests on
+abbrev pub IsStale : Offer → Type 0
+IsStale Added = ⊥
+IsStale (NotNeeded value) = ⊥
+IsStale (Stale node part seen known) = Unit {0}
+IsStale (PassedOffer p) = ⊥
+
+-- no pool may take the cut; or the one that may finds it stale
+pub data IsRefused (pools : List Held) (trial : List Entry) (cut : Stored) : Type 0 where
+  by_none : pool_if (may_take cut) (source_of cut).node pools ≡ None → IsRefused pools trial cut
+  by_pool : (pool : Held) → pool_if (may_take cut) (source_of cut).node pools ≡ Some pool → IsStale (offer_of pool cut trial)
+      → IsRefused pools trial cut
+
+-- the cut of a node is offered and refused; the root's is offered to none
+abbrev pub RefusesCut : Kind → Banks → ℕ → List Entry → Option Stored → Type 0
+RefusesCut kind banks zero trial cut = ⊥
+RefusesCut kind banks (suc n) trial None = ⊥
+RefusesCut kind banks (suc n) trial (Some cut) = IsRefused (pools_of kind banks) trial cut
+
+-- the method is stuck behind a solve of node n at this trial that came to this: to nothing that could be used; to a point that can't be
+-- kept; or to a cut that is refused
+abbrev pub IsStuck : Kind → Banks → ℕ → List Entry → Solved → Type 0
+IsStuck kind banks n trial (solved.Point x value cut) = PassesInJoin trial x ⊎ RefusesCut kind banks n trial cut
+IsStuck kind banks n trial (solved.NoPoint cut) = RefusesCut kind banks n trial (Some cut)
+IsStuck kind banks n trial solved.Loose = Unit {0}
+IsStuck kind banks n trial solved.PivotsEnded = ⊥
+IsStuck kind banks n trial (solved.Passed in_cut o) = ⊥
+IsStuck kind banks n trial solved.NotGood = Unit {0}
+
+-- ---- what a reason is told of
+-- told of that solve; or this is where the method is stuck, and so many solves are told as are allowed
+abbrev pub IsOfSolve : ℕ → ℕ → Solved → Type 0 → Open → Type 0
+IsOfSolve k allowed all Stuck (reason.Solves n) = (n ≡ allowed) × Stuck
+IsOfSolve k allowed all Stuck (reason.Pivots j) = (j ≡ k) × (all ≡ solved.PivotsEnded)
+IsOfSolve k allowed all Stuck (reason.Passed place o) = IsAtSolve k all o place
+
+-- told where a run doesn't open; or this is where the method is stuck, and so many solves are told as are allowed
+abbrev pub IsOfOpening : ℕ → Type 0 → Open → Type 0
+IsOfOpening allowed Stuck (reason.Solves n) = (n ≡ allowed) × Stuck
+IsOfOpening allowed Stuck (reason.Pivots j) = ⊥
+IsOfOpening allowed Stuck (reason.Passed place o) = place ≡ Ground
 
 -- one that lasts for a run is told of a cut or of a cost
 abbrev pub IsLasting : Open → Type 0

@@ -1,14 +1,12 @@
 -- What a turn solves: the program of its node in the present run; and how the turn ends by what is told of it.
-use Rattle.std.specs.Prelude.{◌≡◌, ◌⊎◌, ℕ, Bool, true, false, leb, List, map, replicate, Option, None, Ok, Err, IfSome, ⊤}
-use Rattle.rationals.specs.Rational.{one_ℚ}
-use Rattle.rationals.specs.Passes.{Operation}
-use Rattle.rationals.specs.Forms.{add_scaled_walk}
+use Rattle.std.specs.Prelude.{◌≡◌, ◌⊎◌, ℕ, Bool, true, false, leb, List, map, replicate, Option, None, Ok, IfSome, IsSome, ⊤}
 use Rattle.rationals.specs.Sparse.{Entry}
 use Rattle.scen_defs.specs.Lists.{Each, passes_at}
 use Rattle.scen_defs.specs.Program.{Program, View, node_at}
 use Rattle.scen_defs.specs.Flat.{children}
 use Rattle.scen_defs.specs.declared.program.Column.{Column}
 use Rattle.scen_defs.specs.declared.report.Kind.{Kind}
+use Rattle.scen_defs.specs.declared.report.Kind.TheVariants.{Cost}
 use Rattle.scen_tree.specs.Trees.{Tree, tree_walk}
 use Rattle.cut_defs.specs.Data.{Datum, bounds_of, share_of}
 use Rattle.edit_defs.specs.Data.{view_in}
@@ -30,9 +28,9 @@ use Rattle.run_ends.specs.Lasts.{last_at, trial_of}
 use Rattle.pass_core.specs.declared.state.Counts.{Counts}
 use Rattle.pass_core.specs.declared.state.State.{State}
 use Rattle.pass_core.specs.Counting.{with_commit}
-use Rattle.pass_core.specs.Reasons.{IsOfSolve, IsOfOpening, GainsReasons}
+use Rattle.pass_core.specs.Reasons.{PassesInJoin, IsStuck, IsOfSolve, IsOfOpening, GainsReasons}
 use Rattle.pass_core.specs.Tabled.{HasRoom, IsTabledBy, committed_with, EndsBegun, Opens}
-use Rattle.pass_core.specs.Left.{StaysInRun, LeavesBy, places_in, OpensRun}
+use Rattle.pass_core.specs.Left.{StaysInRun, LeavesBy, places_in, next_kind, OpensRun}
 
 -- ---- points
 -- each value is of a column of this stage or of an earlier one
@@ -70,10 +68,6 @@ pub record IsTaskOf (p : Program) (s : State) (n : ℕ) (t : Task) : Type 0 wher
   pub pivots : t.pivots ≡ s.budget.pivots
 
 -- ---- ends
--- the point can't be kept beside the values of the columns before it, since an operation passes
-abbrev pub PassesInJoin : List Entry → List Entry → Type 0
-PassesInJoin trial point = (o : Operation) × (add_scaled_walk trial one_ℚ point ≡ Err o)
-
 -- no last solve is left, and no pool changes
 abbrev pub EndsWithout : Machine → Flight → Bool → Machine → Type 0
 EndsWithout m f added k = (added ≡ false) × (k ≡ dropped m 0)
@@ -102,7 +96,8 @@ pub record SolvesNode (p : Program) (old : State) (m : Machine) (n : ℕ) (new :
   pub ends : EndsBegun (EndsBy task.trial (node_solved task)) p m n new
   pub points : PointsStand p new.lasts.nodes.items
   pub reasons : let counts : Counts = with_commit old.counts in
-      GainsReasons (IsOfSolve counts.all (node_solved task)) (record old { counts = counts }) new
+      GainsReasons (IsOfSolve counts.all old.budget.solves (node_solved task) (IsStuck old.kind old.banks n task.trial (node_solved task)))
+      (record old { counts = counts }) new
   pub stays : StaysInRun old new
   pub answer : IsAnswer task (node_solved task)
   pub leaves : (tree : Tree) → tree_walk p ≡ Ok tree → new.stop ≡ None → LeavesBy p tree n task.trial (node_solved task) old new
@@ -127,7 +122,25 @@ pub record StaysReady (p : Program) (old : State) (m : Machine) (new : State) : 
 -- solved, which alone is counted
 pub data MakesStep (p : Program) (old : State) (m : Machine) (new : State) : Bool → Type 0 where
   begins_none : (HasRoom m → (n : ℕ) → MayBegin m n → ⊥) → PointsStand p new.lasts.nodes.items
-      → GainsReasons IsOfOpening old new → StaysReady p old m new → MakesStep p old m new false
-  opens_run : IsClosed m → Opens p m new → PointsStand p new.lasts.nodes.items → GainsReasons IsOfOpening old new
+      → GainsReasons (IsOfOpening old.budget.solves ⊤) old new → StaysReady p old m new → MakesStep p old m new false
+  opens_run : IsClosed m → Opens p m new → PointsStand p new.lasts.nodes.items → GainsReasons (IsOfOpening old.budget.solves ⊤) old new
       → (new.stop ≡ None → OpensRun old new) → MakesStep p old m new true
   solves : (lasts : Lasts) (n : ℕ) → AreReady old lasts → SolvesNode p (record old { lasts = lasts }) m n new → MakesStep p old m new true
+
+-- no solve was counted, and something stops the method, or the run behind one that isn't a Cost run is open
+pub record OpensOrStops (old new : State) : Type 0 where
+  pub counts : new.counts ≡ old.counts
+  pub way : IsSome new.stop ⊎ ((old.kind ≡ Cost → ⊥) × (new.kind ≡ next_kind old.kind))
+
+-- a step did something: one more solve is counted, or it is so
+pub record Progresses (old new : State) : Type 0 where
+  pub budget : new.budget ≡ old.budget
+  pub way : (new.counts ≡ with_commit old.counts) ⊎ OpensOrStops old new
+
+-- a step did nothing
+pub record Rests (old new : State) : Type 0 where
+  pub counts : new.counts ≡ old.counts
+  pub stop : new.stop ≡ old.stop
+  pub kind : new.kind ≡ old.kind
+  pub ends : new.ends ≡ old.ends
+  pub budget : new.budget ≡ old.budget

@@ -7,7 +7,8 @@ ghost use Rattle.scen_tree.specs.Trees.{Tree as TreeOf};
 ghost use Rattle.cut_defs.specs.Stored.{source_of, IsMadeFor};
 ghost use Rattle.node_lp.specs.declared.solved.Solved.{Solved as SolvedOf};
 ghost use Rattle.node_lp.specs.Told.{node_solved};
-ghost use Rattle.pass_core.specs.Reasons.{IsOfSolve, GainsReasons};
+ghost use Rattle.cut_banks.specs.Banks.{pools_of};
+ghost use Rattle.pass_core.specs.Reasons.{PassesInJoin, IsRefused, RefusesCut, IsStuck, IsOfSolve, GainsReasons};
 ghost use Rattle.pass_table.specs.Machine.{Machine, Flight};
 ghost use Rattle.pass_table.specs.Fits.{Fits};
 ghost use Rattle.run_ends.specs.Lasts.{kept, joined_points};
@@ -63,7 +64,8 @@ impl State {
             → IfSome (point_found solved) (AreUpTo p (node_at p.nodes node).stage) → OnOk result (KeepsPoints p self.old self.new) }
         ensures made { (b : BankBooks) → IfSome (cut_given solved) (IsMadeAbout (run_book self.old.kind b) node)
             → OnOk result (KeepsMade b self.old self.new) }
-        ensures reasons { OnOk result (GainsReasons (IsOfSolve self.old.counts.all solved) self.old self.new) }
+        ensures reasons { let stuck = IsStuck self.old.kind self.old.banks node begun.now.task.trial solved in
+            OnOk result (GainsReasons (IsOfSolve self.old.counts.all self.old.budget.solves solved stuck) self.old self.new) }
         ensures stays { OnOk result (StaysInRun self.old self.new) }
         ensures left { (m : Machine) (f : Flight) → IsSolving self.old m f begun.now.readings.items
             → ((k : ℕ) → m.number k ≡ pool_number self.old k) → f.node ≡ node → IsAbout node solved → OnOk result (self.new.stop ≡ None
@@ -131,7 +133,8 @@ impl State {
             → AreUpTo p (node_at p.nodes node).stage point → OnOk result (KeepsPoints p self.old self.new) }
         ensures made { (b : BankBooks) → IfSome cut (IsMadeAbout (run_book self.old.kind b) node)
             → OnOk result (KeepsMade b self.old self.new) }
-        ensures reasons { (all : SolvedOf) → OnOk result (GainsReasons (IsOfSolve self.old.counts.all all) self.old self.new) }
+        ensures reasons { (all : SolvedOf) → let stuck = IsStuck self.old.kind self.old.banks node begun.now.task.trial (Solved.Point point value cut) in
+            OnOk result (GainsReasons (IsOfSolve self.old.counts.all self.old.budget.solves all stuck) self.old self.new) }
         ensures stays { OnOk result (StaysInRun self.old self.new) }
         ensures left { OnOk result (self.new.stop ≡ None → TakesPoint node begun.now.task.trial point value cut self.old self.new) }
     {
@@ -159,7 +162,8 @@ impl State {
             → OnOk result (KeepsMade b self.old self.new) }
         ensures lasts { OnOk result (self.new.lasts ≡ self.old.lasts) }
         ensures low { IfOk result (λ told. told ≡ true → 0 < node) }
-        ensures reasons { (all : SolvedOf) → OnOk result (GainsReasons (IsOfSolve self.old.counts.all all) self.old self.new) }
+        ensures reasons { (all : SolvedOf) → let stuck = RefusesCut self.old.kind self.old.banks node trial.now cut in
+            OnOk result (GainsReasons (IsOfSolve self.old.counts.all self.old.budget.solves all stuck) self.old self.new) }
         ensures stays { OnOk result (StaysInRun self.old self.new) }
         ensures offers { OnOk result (self.new.stop ≡ None
             → OffersCut self.old.kind node cut trial.now self.old.banks self.new.banks) }
@@ -185,7 +189,8 @@ impl State {
             → OnOk result (EndsSolve (EndsBy begun.now.task.trial (Solved.NoPoint cut)) self.old self.new m f) }
         ensures points { (p : ProgramOf) → OnOk result (KeepsPoints p self.old self.new) }
         ensures made { (b : BankBooks) → IsMadeAbout (run_book self.old.kind b) node cut → OnOk result (KeepsMade b self.old self.new) }
-        ensures reasons { (all : SolvedOf) → OnOk result (GainsReasons (IsOfSolve self.old.counts.all all) self.old self.new) }
+        ensures reasons { (all : SolvedOf) → let stuck = IsStuck self.old.kind self.old.banks node begun.now.task.trial (Solved.NoPoint cut) in
+            OnOk result (GainsReasons (IsOfSolve self.old.counts.all self.old.budget.solves all stuck) self.old self.new) }
         ensures stays { OnOk result (StaysInRun self.old self.new) }
         ensures left { OnOk result (self.new.stop ≡ None → LeavesNone node begun.now.task.trial cut self.old self.new) }
     {
@@ -204,7 +209,8 @@ impl State {
         ensures made { (b : BankBooks) → IsMadeAbout (run_book self.old.kind b) node cut → OnOk result (KeepsMade b self.old self.new) }
         ensures lasts { OnOk result (self.new.lasts ≡ self.old.lasts) }
         ensures low { IfOk result (λ told. told ≡ true → 0 < node) }
-        ensures reasons { (all : SolvedOf) → OnOk result (GainsReasons (IsOfSolve self.old.counts.all all) self.old self.new) }
+        ensures reasons { (all : SolvedOf) → let stuck = RefusesCut self.old.kind self.old.banks node trial.now (Some cut) in
+            OnOk result (GainsReasons (IsOfSolve self.old.counts.all self.old.budget.solves all stuck) self.old self.new) }
         ensures stays { OnOk result (StaysInRun self.old self.new) }
         ensures offers { OnOk result (self.new.stop ≡ None
             → OffersCut self.old.kind node (Some cut) trial.now self.old.banks self.new.banks) }
@@ -230,7 +236,8 @@ impl State {
             → OnOk result (KeepsExplained p tree self.old self.new) }
         ensures err { OnErr result (self.new ≡ self.old) }
         ensures drops { result ≡ Ok false → Drops self.old.table self.new.table }
-        ensures reasons { (all : SolvedOf) → OnOk result (GainsReasons (IsOfSolve self.old.counts.all all) self.old self.new) }
+        ensures reasons { (all : SolvedOf) → let stuck = PassesInJoin trial.now point in
+            OnOk result (GainsReasons (IsOfSolve self.old.counts.all self.old.budget.solves all stuck) self.old self.new) }
     {
         match self.lasts.keep(node, trial, point) {
             Ok(()) => Ok(true),
@@ -277,7 +284,8 @@ impl State {
         ensures raises { IfOk result (λ told. RaisesPool told (source_of cut).node self.old self.new) }
         ensures made { (b : BankBooks) → IsMadeFor (run_book self.old.kind b) cut → OnOk result (KeepsMade b self.old self.new) }
         ensures lasts { OnOk result (self.new.lasts ≡ self.old.lasts) }
-        ensures reasons { (all : SolvedOf) → OnOk result (GainsReasons (IsOfSolve self.old.counts.all all) self.old self.new) }
+        ensures reasons { (all : SolvedOf) → let stuck = IsRefused (pools_of self.old.kind self.old.banks) trial.now cut in
+            OnOk result (GainsReasons (IsOfSolve self.old.counts.all self.old.budget.solves all stuck) self.old self.new) }
         ensures stays { OnOk result (StaysInRun self.old self.new) }
         ensures offered { OnOk result (self.new.stop ≡ None → IsOffered self.old.kind cut trial.now self.old.banks self.new.banks) }
         ensures ends { OnOk result (self.new.ends ≡ self.old.ends) }
@@ -329,7 +337,9 @@ impl State {
         ensures pools { OnOk result (KeepsPools self.old self.new) }
         ensures made { (b : BankBooks) → OnOk result (KeepsMade b self.old self.new) }
         ensures lasts { OnOk result (self.new.lasts ≡ self.old.lasts) }
-        ensures reasons { (all : SolvedOf) → OnOk result (GainsReasons (IsOfSolve self.old.counts.all all) self.old self.new) }
+        // behind a point that was kept and a cut that was offered the method isn't stuck
+        ensures reasons { (all : SolvedOf)
+            → OnOk result (GainsReasons (IsOfSolve self.old.counts.all self.old.budget.solves all ⊥) self.old self.new) }
         ensures stays { OnOk result (StaysInRun self.old self.new) }
         ensures banks { OnOk result (self.new.banks ≡ self.old.banks) }
         ensures left { (m : Machine) → Fits self.old.table m → OnOk result (self.new.stop ≡ None → (self.old.stop ≡ None)

@@ -1,6 +1,6 @@
 //! The opening of the next run: each pool gets a cut that holds for every dual of the run before.
 
-ghost use Rattle.std.specs.Prelude.{◌≡◌, ◌+◌, ◌<◌, ◌^◌, ℕ, true, None, Ok, length, replicate, IfErr, IfOk, IfSome, OnOk};
+ghost use Rattle.std.specs.Prelude.{◌≡◌, ◌+◌, ◌<◌, ◌^◌, ℕ, true, None, Ok, length, replicate, IfErr, IfOk, IfSome, OnOk, ⊤};
 ghost use Rattle.scen_defs.specs.Lists.{Each, passes_at};
 ghost use Rattle.scen_defs.specs.Program.{content, is_live, Program as ProgramOf};
 ghost use Rattle.scen_defs.specs.Valid.{IsProgram, Lives};
@@ -13,7 +13,7 @@ ghost use Rattle.pass_core.specs.Explained.{AreExplained, FailsToOpen, IsCutOfSo
 ghost use Rattle.pass_core.specs.Made.{BankBooks, run_book, AreBooksOf, CutsAreMade, KeepsMade, IsGroundOf, HasGrounds, cuts_there};
 ghost use Rattle.pass_core.specs.Tabled.{IsTabledBy, KeepsTable, KeepsPools, Opens};
 ghost use Rattle.pass_core.specs.Reasons.{IsOfOpening, GainsReasons};
-ghost use Rattle.pass_core.specs.Turns.{KeepsPoints};
+ghost use Rattle.pass_core.specs.Turns.{KeepsPoints, Progresses};
 ghost use Rattle.pass_core.specs.Left.{next_kind, OpensRun};
 
 use crate::state::State;
@@ -100,8 +100,10 @@ impl State {
         ensures made { let p = content program.now in (b : BankBooks) → IsProgram p → tree_walk p ≡ Ok tree.now
             → self.old.frame ≡ frame_of p → AreBooksOf p self.old.versions b → CutsAreMade b self.old
             → OnOk result (CutsAreMade b self.new) }
-        ensures reasons { OnOk result (GainsReasons IsOfOpening self.old self.new) }
+        ensures reasons { OnOk result (GainsReasons (IsOfOpening self.old.budget.solves ⊤) self.old self.new) }
         ensures opened { OnOk result (self.new.stop ≡ None → OpensRun self.old self.new) }
+        // behind a run that isn't a Cost run it opens the next one, or stops the method
+        ensures progress { (self.old.kind ≡ Kind.Cost → ⊥) → OnOk result (Progresses self.old self.new) }
     {
         let kind = next(self.kind);
         match self.first_cuts(alloc, program, tree, kind) {
@@ -117,8 +119,9 @@ impl State {
         ensures pools { OnOk result (KeepsPools self.old self.new) }
         ensures made { (b : BankBooks) → OnOk result (KeepsMade b self.old self.new) }
         ensures points { (p : ProgramOf) → OnOk result (KeepsPoints p self.old self.new) }
-        ensures reasons { OnOk result (GainsReasons IsOfOpening self.old self.new) }
+        ensures reasons { OnOk result (GainsReasons (IsOfOpening self.old.budget.solves ⊤) self.old self.new) }
         ensures stops { OnOk result (self.new.stop ≡ None → ⊥) }
+        ensures budget { OnOk result (self.new.budget ≡ self.old.budget) }
     {
         match fault {
             CutFault::Passed(passed) => {
@@ -229,7 +232,7 @@ impl State {
         ensures points { (p : ProgramOf) → OnOk result (KeepsPoints p self.old self.new) }
         ensures made { (b : BankBooks) → Each (λ place. IfSome place (IsMadeFor (run_book kind b))) cuts.items → CutsAreMade b self.old
             → OnOk result (CutsAreMade b self.new) }
-        ensures reasons { OnOk result (GainsReasons IsOfOpening self.old self.new) }
+        ensures reasons { OnOk result (GainsReasons (IsOfOpening self.old.budget.solves ⊤) self.old self.new) }
         ensures opened { kind ≡ next_kind self.old.kind → OnOk result (OpensRun self.old self.new) }
     {
         self.put_all(kind, &cuts)?;
@@ -247,7 +250,7 @@ impl State {
         ensures kept { OnOk result (KeepsTable self.old self.new) }
         ensures made { (b : BankBooks) → Each (λ place. IfSome place (IsMadeFor (run_book kind b))) cuts.now
             → OnOk result (KeepsMade b self.old self.new) }
-        ensures reasons { OnOk result (GainsReasons IsOfOpening self.old self.new) }
+        ensures reasons { OnOk result (GainsReasons (IsOfOpening self.old.budget.solves ⊤) self.old self.new) }
         ensures others { OnOk result (self.new ≡ record self.old { banks = self.new.banks; stop = self.new.stop }) }
     {
         for place in cuts {
@@ -261,7 +264,7 @@ impl State {
         ensures explained { (p : ProgramOf) (tree : TreeOf) → OnOk result (KeepsExplained p tree self.old self.new) }
         ensures kept { OnOk result (KeepsTable self.old self.new) }
         ensures made { (b : BankBooks) → IfSome place.now (IsMadeFor (run_book kind b)) → OnOk result (KeepsMade b self.old self.new) }
-        ensures reasons { OnOk result (GainsReasons IsOfOpening self.old self.new) }
+        ensures reasons { OnOk result (GainsReasons (IsOfOpening self.old.budget.solves ⊤) self.old self.new) }
         ensures others { OnOk result (self.new ≡ record self.old { banks = self.new.banks; stop = self.new.stop }) }
     {
         let Some(cut) = place else {

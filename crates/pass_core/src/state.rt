@@ -1,5 +1,5 @@
 //! What is known of a program, and the next step.
-ghost use Rattle.std.specs.Prelude.{◌≡◌, ◌⊎◌, ◌<◌, ℕ, Ok, length, true, IfOk, IfSome, IsSome, IsSomeAnd, OnOk};
+ghost use Rattle.std.specs.Prelude.{◌≡◌, ◌⊎◌, ◌<◌, ℕ, Ok, length, true, false, IfOk, IfSome, IsSome, IsSomeAnd, OnOk};
 ghost use Rattle.scen_defs.specs.Program.{content, Program as ProgramOf};
 ghost use Rattle.scen_tree.specs.Trees.{Tree as TreeOf, tree_walk};
 ghost use Rattle.scen_defs.specs.Valid.{IsSmall, IsProgram, Lives};
@@ -14,7 +14,7 @@ ghost use Rattle.pass_core.specs.Beginning.{IsBeginning, StartsOver};
 ghost use Rattle.pass_core.specs.Explained.{IsDatumOf, KeepsExplained};
 ghost use Rattle.pass_core.specs.Made.{BankBooks, AreBooksOf, CutsAreMade};
 ghost use Rattle.pass_core.specs.Tabled.{IsTabled, IsTabledBy, StepsTo, IsBegunBy, EndsBegun};
-ghost use Rattle.pass_core.specs.Turns.{PointsStand, KeepsPoints, IsTaskOf, EndsAnyhow, SolvesNode, AreReady, MakesStep};
+ghost use Rattle.pass_core.specs.Turns.{PointsStand, KeepsPoints, IsTaskOf, EndsAnyhow, SolvesNode, AreReady, MakesStep, Progresses, Rests};
 
 use crate::budget::Budget;
 use cut_banks::Banks;
@@ -157,6 +157,9 @@ impl State {
         ensures solves { let p = content program.now in (m : Machine) → IsProgram p → tree_walk p ≡ Ok tree.now
             → self.old.frame ≡ frame_of p → IsTabledBy p self.old m → PointsStand p self.old.lasts.nodes.items
             → IfOk result (λ told. MakesStep p self.old m self.new told) }
+        // where something is told to be done, a solve is counted, something stops the method, or the next run is open; else nothing is done
+        ensures progress { IfOk result (λ told. told ≡ true → Progresses self.old self.new) }
+        ensures rests { IfOk result (λ told. told ≡ false → Rests self.old self.new) }
         // where books are right of the program, and all cuts are made for them, they are so afterwards
         ensures made { let p = content program.now in (b : BankBooks) → IsProgram p → tree_walk p ≡ Ok tree.now
             → self.old.frame ≡ frame_of p → AreBooksOf p self.old.versions b → CutsAreMade b self.old
@@ -210,6 +213,8 @@ impl State {
         ensures solves { let p = content program.now in (m : Machine) → IsProgram p → tree_walk p ≡ Ok tree.now
             → self.old.frame ≡ frame_of p → IsBegunBy p self.old m node → PointsStand p self.old.lasts.nodes.items
             → OnOk result (SolvesNode p self.old m node self.new) }
+        // a solve is counted, or something stops the method
+        ensures progress { OnOk result (Progresses self.old self.new) }
         ensures made { let p = content program.now in (b : BankBooks) → IsProgram p → tree_walk p ≡ Ok tree.now
             → self.old.frame ≡ frame_of p → AreBooksOf p self.old.versions b → CutsAreMade b self.old
             → OnOk result (CutsAreMade b self.new) }

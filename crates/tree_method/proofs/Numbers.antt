@@ -4,6 +4,7 @@ use Rattle.rationals.specs.Passes.{Operation}
 use Rattle.scen_defs.specs.Program.{Program}
 use Rattle.scen_defs.specs.declared.report.Place.{Place}
 use Rattle.scen_defs.specs.declared.report.Place.TheVariants.{Solve, Cut, Cost, Ground, Dual, Check}
+use Rattle.node_lp.specs.declared.task.Task.{Task}
 use Rattle.node_lp.specs.declared.solved.Solved.{Solved}
 use Rattle.node_lp.specs.declared.solved.Solved.TheVariants as solved
 use Rattle.node_lp.specs.Told.{node_solved}
@@ -16,7 +17,7 @@ use Rattle.pass_core.specs.declared.state.State.{State}
 use Rattle.pass_core.specs.Beginning.{IsBeginning, StartsOver}
 use Rattle.pass_core.specs.Counting.{with_commit, after_report}
 use Rattle.pass_core.specs.Explained.{IsUnstopped}
-use Rattle.pass_core.specs.Reasons.{HasReason, IsAtSolve, IsOfSolve, IsOfOpening, IsLasting, GainsReasons}
+use Rattle.pass_core.specs.Reasons.{HasReason, IsAtSolve, IsStuck, IsOfSolve, IsOfOpening, IsLasting, GainsReasons}
 use Rattle.pass_core.specs.Turns.{SolvesNode, AreReady, MakesStep, begins_none, opens_run, solves}
 use Rattle.edit_defs.specs.declared.edit.Edit.{Edit}
 use Rattle.edit_defs.specs.After.{after}
@@ -84,10 +85,15 @@ module _ (p : Program) (old : State) where
   longer (Passed place o) mid new x h = place_longer o place mid new x h
 
   -- a run that doesn't open
-  at_opening : (why : Open) (new : State) → IsOfOpening why → Arises p old new why
-  at_opening (Solves n) new h = tt
-  at_opening (Pivots k) new h = absurd h
-  at_opening (Passed place o) new h = subst (ArisesAt p old new o) (sym h) tt
+  at_opening : (why : Open) (new : State) (allowed : ℕ) (Stuck : Type 0) → IsOfOpening allowed Stuck why → Arises p old new why
+  at_opening (Solves n) new allowed Stuck h = tt
+  at_opening (Pivots k) new allowed Stuck h = absurd h
+  at_opening (Passed place o) new allowed Stuck h = subst (ArisesAt p old new o) (sym h) tt
+
+  -- a reason is told of the solve of this task
+  abbrev IsOfThis : State → ℕ → Task → Open → Type 0
+  IsOfThis mid n task = IsOfSolve (with_commit mid.counts).all mid.budget.solves (node_solved task)
+      (IsStuck mid.kind mid.banks n task.trial (node_solved task))
 
   -- the last solve
   module _ (mid : State) (m : Machine) (lasts : Lasts) (n : ℕ) (new : State) (before : SolvesNodes p old mid) (ready : AreReady mid lasts)
@@ -115,7 +121,7 @@ module _ (p : Program) (old : State) where
     place_here o Dual h = h
     place_here o Check h = h
 
-    at_solve : (why : Open) → IsOfSolve (with_commit mid.counts).all (node_solved node.task) why → Arises p old new why
+    at_solve : (why : Open) → IsOfThis mid n node.task why → Arises p old new why
     at_solve (Solves k) h = tt
     at_solve (Pivots k) h = here k solved.PivotsEnded h.0 h.1
     at_solve (Passed place o) h = place_here o place h
@@ -128,15 +134,17 @@ module _ (p : Program) (old : State) where
       kept (inl x) = inl x
       kept (inr a) = inr (longer why mid new tail a)
 
-      opened : HasReason mid why ⊎ IsOfOpening why → HasReason old why ⊎ Arises p old new why
-      opened (inl x) = kept (rest x)
-      opened (inr i) = inr (at_opening why new i)
+      opened : (allowed : ℕ) (Stuck : Type 0) → HasReason mid why ⊎ IsOfOpening allowed Stuck why → HasReason old why ⊎ Arises p old new why
+      opened allowed Stuck (inl x) = kept (rest x)
+      opened allowed Stuck (inr i) = inr (at_opening why new allowed Stuck i)
 
       go : (b : Bool) → MakesStep p mid m new b → HasReason old why ⊎ Arises p old new why
-      go b (begins_none rests points reasons ready) = opened (gained IsOfOpening mid new why reasons h)
-      go b (opens_run closed opens points reasons run) = opened (gained IsOfOpening mid new why reasons h)
+      go b (begins_none rests points reasons ready) =
+          opened mid.budget.solves (Unit {0}) (gained (IsOfOpening mid.budget.solves (Unit {0})) mid new why reasons h)
+      go b (opens_run closed opens points reasons run) =
+          opened mid.budget.solves (Unit {0}) (gained (IsOfOpening mid.budget.solves (Unit {0})) mid new why reasons h)
       go b (solves lasts n ready node) =
-          elim (gained (IsOfSolve (with_commit mid.counts).all (node_solved node.task)) (record mid { lasts = lasts; counts = with_commit mid.counts }) new why node.reasons h) [
+          elim (gained (IsOfThis mid n node.task) (record mid { lasts = lasts; counts = with_commit mid.counts }) new why node.reasons h) [
             | inl x ↦ kept (rest x)
             | inr i ↦ inr (at_solve mid m lasts n new before ready node why i)
           ]
@@ -157,9 +165,9 @@ module _ (p : Program) (old : State) where
       by Is (inr i) = i.1
 
       go : (b : Bool) → MakesStep p mid m new b → IsLasting why
-      go b (begins_none rests points reasons ready) = by IsOfOpening (reasons.lasting why e)
-      go b (opens_run closed opens points reasons run) = by IsOfOpening (reasons.lasting why e)
-      go b (solves lasts n ready node) = by (IsOfSolve (with_commit mid.counts).all (node_solved node.task)) (node.reasons.lasting why e)
+      go b (begins_none rests points reasons ready) = by (IsOfOpening mid.budget.solves (Unit {0})) (reasons.lasting why e)
+      go b (opens_run closed opens points reasons run) = by (IsOfOpening mid.budget.solves (Unit {0})) (reasons.lasting why e)
+      go b (solves lasts n ready node) = by (IsOfThis mid n node.task) (node.reasons.lasting why e)
 
   -- what lasts for a run is told of a cut or of a cost
   still_lasts : (new : State) → SolvesNodes p old new → ((why : Open) → old.lasting ≡ Some why → IsLasting why) → (why : Open) → new.lasting ≡ Some why

@@ -1,4 +1,4 @@
-use Rattle.std.proofs.Common.{◌≡◌, None, IfSome, refl, sym, ap, subst, ◌∙◌}
+use Rattle.std.proofs.Common.{◌≡◌, None, IfSome, OnOk, refl, sym, ap, subst, ◌∙◌}
 use Rattle.scen_defs.specs.Program.{content, node_at}
 use Rattle.scen_defs.specs.declared.report.Place.{Place}
 use Rattle.node_lp.specs.declared.solved.Solved.{Solved}
@@ -13,8 +13,8 @@ use Rattle.pass_core.proofs.Tabling.{ends_then, told_ends, neither_ends, left_en
 use Rattle.pass_core.proofs.Explaining.{then_kept, left_kept, point_gives, point_finds, at_place, on_ok}
 use Rattle.pass_core.specs.Made.{run_book, IsMadeAbout, KeepsMade}
 use Rattle.pass_core.proofs.Making.{then_made}
-use Rattle.pass_core.specs.Reasons.{IsOfSolve, GainsReasons}
-use Rattle.pass_core.proofs.Reasoning.{solve_reasons}
+use Rattle.pass_core.specs.Reasons.{IsStuck, IsOfSolve, GainsReasons}
+use Rattle.pass_core.proofs.Reasoning.{solve_reasons, stopped_reasons, stuck_wider}
 use Rattle.pass_core.specs.Left.{StaysInRun, LeavesNone, LeavesBy}
 use Rattle.pass_core.proofs.Leaving.{stays_then, stopped_stays, not_stopped, left_by, point_completed}
 use Rattle.pass_core.proofs.state.State.commit.Goals as goal
@@ -129,13 +129,30 @@ returns-in_ok-point-in-Point-clause-made c = λ b h.
 pub returns-in_ok-point-in-Point-clause-reasons : goal.returns-in_ok-point-in-Point-clause-reasons
 returns-in_ok-point-in-Point-clause-reasons c =
     let old = c.args.self.now in
+    let mid = c.point.new.self in
+    let new = c.complete.new.self in
     let all = c.args.solved in
-    on_ok c.complete.result (GainsReasons (IsOfSolve c.point.new.self.counts.all all) c.point.new.self c.complete.new.self)
-    (GainsReasons (IsOfSolve old.counts.all all) old c.complete.new.self)
-    (solve_reasons all old c.point.new.self c.complete.new.self (c.in_ok-point-in-Point.ensures.reasons all)) (c.complete.ensures.reasons all)
+    let n = c.args.node in
+    let trial = c.args.begun.now.task.trial in
+    let stuck : Type 0 = IsStuck old.kind old.banks n trial all in
+    let point = c.in_ok-point-in-Point.ensures in
+    on_ok c.complete.result (GainsReasons (IsOfSolve mid.counts.all mid.budget.solves all ⊥) mid new)
+    (GainsReasons (IsOfSolve old.counts.all old.budget.solves all stuck) old new)
+    (λ g. solve_reasons stuck all old mid new point.stays.budget
+    (subst (λ (x : Solved). GainsReasons (IsOfSolve old.counts.all old.budget.solves all (IsStuck old.kind old.banks n trial x)) old mid)
+    (sym c.in-Point.is) (point.reasons all))
+    (stuck_wider ⊥ stuck mid.counts.all mid.budget.solves all mid new (λ h. absurd h) g)) (c.complete.ensures.reasons all)
 
 pub returns-in-NoPoint-clause-reasons : goal.returns-in-NoPoint-clause-reasons
-returns-in-NoPoint-clause-reasons c = c.no_point.ensures.reasons c.args.solved
+returns-in-NoPoint-clause-reasons c =
+    let old = c.args.self.now in
+    let new = c.no_point.new.self in
+    let all = c.args.solved in
+    let n = c.args.node in
+    let trial = c.args.begun.now.task.trial in
+    subst (λ (x : Solved). OnOk c.no_point.result
+    (GainsReasons (IsOfSolve old.counts.all old.budget.solves all (IsStuck old.kind old.banks n trial x)) old new))
+    (sym c.in-NoPoint.is) (c.no_point.ensures.reasons all)
 
 pub returns-in_ok-point-in-Point-clause-stays : goal.returns-in_ok-point-in-Point-clause-stays
 returns-in_ok-point-in-Point-clause-stays c =

@@ -11,10 +11,10 @@ use Rattle.cut_pool.specs.Pool.{offer_of, after_offer}
 use Rattle.cut_defs.specs.Stored.{IsMadeFor}
 use Rattle.pass_core.specs.Made.{run_book, KeepsMade}
 use Rattle.pass_core.proofs.Making.{offered_have, bank_changed, banks_made, answered_made, then_made, same_made}
-use Rattle.pass_core.specs.Reasons.{IsOfSolve, GainsReasons}
+use Rattle.pass_core.specs.Reasons.{IsStale, IsRefused, IsOfSolve, GainsReasons}
 use Rattle.proved_report.specs.declared.open.Open.{Open}
 use Rattle.proved_report.specs.declared.open.Open.TheVariants.{Solves}
-use Rattle.pass_core.proofs.Reasoning.{same_reasons, stopped_reasons, then_reasons, answered_reasons}
+use Rattle.pass_core.proofs.Reasoning.{same_reasons, stopped_reasons, then_reasons, stuck_wider, answered_reasons, unanswered_refused, stale_refused}
 use Rattle.pass_core.proofs.Leaving.{stays_as, answer_stays, answer_ends, not_stopped, offered_taken}
 use Rattle.pass_core.proofs.state.State.offer.Goals as goal
 
@@ -67,18 +67,26 @@ pub returns-in-Some-clause-reasons : goal.returns-in-Some-clause-reasons
 returns-in-Some-clause-reasons c = λ all.
     let old = c.args.self.now in
     let s : State = record old { banks = c.offer.new.self } in
-    subst (GainsReasons (IsOfSolve old.counts.all all) old) (sym c.judged.ensures.state)
-    (then_reasons (IsOfSolve old.counts.all all) old s (after_answer c.in-Some.offer s) (same_reasons (IsOfSolve old.counts.all all) old s refl refl refl)
-    (answered_reasons all c.in-Some.offer s))
+    let o = c.in-Some.offer in
+    let pools = pools_of old.kind old.banks in
+    let stuck : Type 0 = IsRefused pools c.args.trial.now c.args.cut in
+    let is : Open → Type 0 = IsOfSolve old.counts.all old.budget.solves all stuck in
+    subst (GainsReasons is old) (sym c.judged.ensures.state)
+    (then_reasons is old s (after_answer o s) (same_reasons is old s refl refl refl)
+    (stuck_wider (IsStale o) stuck old.counts.all old.budget.solves all s (after_answer o s)
+    (stale_refused pools c.args.trial.now c.args.cut o (sym c.in-Some.is ∙ c.in_ok-offer.ensures.answer)) (answered_reasons all o s)))
 
 pub returns-in-None-clause-reasons : goal.returns-in-None-clause-reasons
 returns-in-None-clause-reasons c = λ all.
     let old = c.args.self.now in
     let s : State = record old { banks = c.offer.new.self } in
     let e = c.stuck.ensures in
-    let is : Open → Type 0 = IsOfSolve old.counts.all all in
+    let pools = pools_of old.kind old.banks in
+    let is : Open → Type 0 = IsOfSolve old.counts.all old.budget.solves all (IsRefused pools c.args.trial.now c.args.cut) in
     then_reasons is old s c.stuck.new.self (same_reasons is old s refl refl refl)
-    (stopped_reasons is s c.stuck.new.self (Solves old.budget.solves) (ap (λ (x : State). x.counts) e) (ap (λ (x : State). x.stop) e) (ap (λ (x : State). x.lasting) e) tt)
+    (stopped_reasons is s c.stuck.new.self (Solves old.budget.solves) (ap (λ (x : State). x.counts) e) (ap (λ (x : State). x.stop) e)
+    (ap (λ (x : State). x.lasting) e)
+    (refl, unanswered_refused pools c.args.trial.now c.args.cut (sym c.in-None.is ∙ c.in_ok-offer.ensures.answer)))
 
 pub returns-in-Some-clause-stays : goal.returns-in-Some-clause-stays
 returns-in-Some-clause-stays c =

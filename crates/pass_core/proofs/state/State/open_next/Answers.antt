@@ -4,6 +4,8 @@ use Rattle.pass_core.proofs.Explaining.{on_ok, both_ok}
 use Rattle.std.proofs.Common.{◌≡◌, None}
 use Rattle.pass_core.specs.Left.{OpensRun}
 use Rattle.pass_core.proofs.Tabling.{still_tabled}
+use Rattle.pass_core.specs.Reasons.{IsOfOpening}
+use Rattle.pass_core.proofs.Progressing.{opened_progresses, stopped_progresses}
 use Rattle.pass_core.specs.Made.{KeepsMade, CutsAreMade}
 use Rattle.pass_core.proofs.state.State.open_next.Goals as goal
 
@@ -43,3 +45,15 @@ returns-in-Err-clause-opened c =
     let new = c.not_opened.new.self in
     on_ok c.not_opened.result (new.stop ≡ None → ⊥) (new.stop ≡ None → OpensRun old new) (λ h stop. absurd (h stop))
     c.not_opened.ensures.stops
+
+pub returns-in-Ok-clause-progress : goal.returns-in-Ok-clause-progress
+returns-in-Ok-clause-progress c = λ unlike.
+    let old = c.args.self.now in
+    opened_progresses c.open.result (IsOfOpening old.budget.solves (Unit {0})) old c.open.new.self unlike c.open.ensures.reasons
+    (c.open.ensures.opened c.next-kind.ensures.kind)
+
+pub returns-in-Err-clause-progress : goal.returns-in-Err-clause-progress
+returns-in-Err-clause-progress c = λ unlike.
+    let old = c.args.self.now in
+    stopped_progresses c.not_opened.result (IsOfOpening old.budget.solves (Unit {0})) old c.not_opened.new.self c.not_opened.ensures.reasons
+    c.not_opened.ensures.stops c.not_opened.ensures.budget

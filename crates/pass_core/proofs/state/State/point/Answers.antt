@@ -7,9 +7,9 @@ use Rattle.pass_core.proofs.Tabling.{left_ends, lasts_keeps, offered_ends, not_t
 use Rattle.pass_core.proofs.Explaining.{then_kept, table_kept, still_given}
 use Rattle.pass_core.specs.Made.{KeepsMade}
 use Rattle.pass_core.proofs.Making.{same_made, then_made, still_made}
-use Rattle.pass_core.specs.Reasons.{IsOfSolve}
+use Rattle.pass_core.specs.Reasons.{PassesInJoin, RefusesCut, IsStuck, IsOfSolve}
 use Rattle.proved_report.specs.declared.open.Open.{Open}
-use Rattle.pass_core.proofs.Reasoning.{same_reasons, then_reasons, solve_reasons}
+use Rattle.pass_core.proofs.Reasoning.{same_reasons, then_reasons, solve_reasons, stuck_wider, refused_as}
 use Rattle.proved_report.specs.declared.open.Open.TheVariants.{Solves}
 use Rattle.pass_core.proofs.Leaving.{stays_then, stopped_stays, lasts_stays, table_stays, not_stopped, point_taken}
 use Rattle.pass_core.proofs.state.State.point.Goals as goal
@@ -69,14 +69,34 @@ returns-clause-made c = λ b h.
     (c.in_ok-is_raised.ensures.made b (still_made b c.args.self.now c.keep.new.self c.args.node c.args.cut k h))
     (same_made b c.take_bound.new.self c.commit_last.new.self (ap (λ (s : State). s.banks) f) (ap (λ (s : State). s.kind) f) (ap (λ (s : State). s.ends) f)))
 
+pub returns-then-not-branch-clause-reasons : goal.returns-then-not-branch-clause-reasons
+returns-then-not-branch-clause-reasons c = λ all.
+    let old = c.args.self.now in
+    let trial = c.args.begun.now.task.trial in
+    stuck_wider (PassesInJoin trial c.args.point)
+    (IsStuck old.kind old.banks c.args.node trial (solved.Point c.args.point c.args.value c.args.cut)) old.counts.all old.budget.solves all
+    old c.keep.new.self (λ h. inl h) (c.in_ok-keep.ensures.reasons all)
+
 pub returns-clause-reasons : goal.returns-clause-reasons
 returns-clause-reasons c = λ all.
+    let q : c.in_ok-keep.field-0 ≡ true = first_of (cc, search (rules, not_false, c.if-not-branch.false)) in
     let old = c.args.self.now in
-    let e = c.commit_last.ensures.others in
-    let is : Open → Type 0 = IsOfSolve old.counts.all all in
-    then_reasons is old c.take_bound.new.self c.commit_last.new.self
-    (solve_reasons all old c.keep.new.self c.take_bound.new.self (c.in_ok-keep.ensures.reasons all) (c.in_ok-is_raised.ensures.reasons all))
-    (same_reasons is c.take_bound.new.self c.commit_last.new.self (ap (λ (x : State). x.counts) e) (ap (λ (x : State). x.stop) e) (ap (λ (x : State). x.lasting) e))
+    let mid = c.keep.new.self in
+    let bound = c.take_bound.new.self in
+    let new = c.commit_last.new.self in
+    let n = c.args.node in
+    let trial = c.args.begun.now.task.trial in
+    let e = c.in_ok-keep.ensures.others (ap (λ (b : Bool). Ok b) q) in
+    let f = c.commit_last.ensures.others in
+    let stuck : Type 0 = IsStuck old.kind old.banks n trial (solved.Point c.args.point c.args.value c.args.cut) in
+    let is : Open → Type 0 = IsOfSolve old.counts.all old.budget.solves all stuck in
+    then_reasons is old bound new
+    (solve_reasons stuck all old mid bound (ap (λ (x : State). x.budget) e)
+    (same_reasons is old mid (ap (λ (x : State). x.counts) e) (ap (λ (x : State). x.stop) e) (ap (λ (x : State). x.lasting) e))
+    (stuck_wider (RefusesCut mid.kind mid.banks n trial c.args.cut) stuck mid.counts.all mid.budget.solves all mid bound
+    (λ h. inr (refused_as old mid n trial c.args.cut (ap (λ (x : State). x.kind) e) (ap (λ (x : State). x.banks) e) h))
+    (c.in_ok-is_raised.ensures.reasons all)))
+    (same_reasons is bound new (ap (λ (x : State). x.counts) f) (ap (λ (x : State). x.stop) f) (ap (λ (x : State). x.lasting) f))
 
 pub returns-then-not-branch-clause-stays : goal.returns-then-not-branch-clause-stays
 returns-then-not-branch-clause-stays c =

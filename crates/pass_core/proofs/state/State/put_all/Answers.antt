@@ -1,10 +1,10 @@
-use Rattle.std.proofs.Common.{Option, IfSome}
+use Rattle.std.proofs.Common.{Option, IfSome, ap}
 use Rattle.cut_defs.specs.Stored.{Stored, IsMadeFor}
 use Rattle.pass_core.specs.Made.{run_book}
 use Rattle.pass_core.proofs.Explaining.{then_kept}
 use Rattle.pass_core.proofs.Tabling.{table_then}
-use Rattle.pass_core.specs.Reasons.{IsOfOpening}
-use Rattle.pass_core.proofs.Reasoning.{then_reasons}
+use Rattle.pass_core.specs.declared.state.State.{State}
+use Rattle.pass_core.proofs.Reasoning.{opening_reasons}
 use Rattle.pass_core.proofs.Making.{then_made, each_at}
 use Rattle.pass_core.proofs.Leaving.{others_then}
 use Rattle.pass_core.proofs.state.State.put_all.Goals as goal
@@ -16,5 +16,6 @@ loop-place-preserved c = record {
       (each_at (λ (place : Option Stored). IfSome place (IsMadeFor (run_book c.args.kind b))) c.args.cuts.now c.loop-place.place-index c.place-item.result all c.loop-place-test.true c.place-item.is));
   kept = table_then c.args.self.now c.loop-place.self c.put.new.self c.loop-place.invariant.kept c.in_ok-put.ensures.kept;
   others = others_then c.args.self.now c.loop-place.self c.put.new.self c.loop-place.invariant.others c.in_ok-put.ensures.others;
-  reasons = then_reasons IsOfOpening c.args.self.now c.loop-place.self c.put.new.self c.loop-place.invariant.reasons c.in_ok-put.ensures.reasons;
+  reasons = opening_reasons (Unit {0}) (Unit {0}) c.args.self.now c.loop-place.self c.put.new.self (ap (λ (x : State). x.budget) c.loop-place.invariant.others) (λ h. h)
+      c.loop-place.invariant.reasons c.in_ok-put.ensures.reasons;
 }

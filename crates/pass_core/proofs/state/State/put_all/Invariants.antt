@@ -15,5 +15,5 @@ invariant-loop-place l = record {
   made : (b : BankBooks) → Each (λ place. IfSome place (IsMadeFor (run_book l.kind b))) l.cuts → KeepsMade b l.initial.self l.self;
   kept : KeepsTable l.initial.self l.self;
   others : l.self ≡ record l.initial.self { banks = l.self.banks; stop = l.self.stop };
-  reasons : GainsReasons IsOfOpening l.initial.self l.self;
+  reasons : GainsReasons (IsOfOpening l.initial.self.budget.solves (Unit {0})) l.initial.self l.self;
 }

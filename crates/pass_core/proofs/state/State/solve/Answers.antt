@@ -10,6 +10,9 @@ use Rattle.pass_core.specs.Turns.{AreUpTo, IsTaskOf, EndsBy, EndsAnyhow}
 use Rattle.pass_core.proofs.Standing.{found_stands}
 use Rattle.pass_core.proofs.TaskFits.{task_trial, task_fits}
 use Rattle.pass_core.proofs.Solving.{solved_by}
+use Rattle.pass_core.specs.Reasons.{IsStuck, IsOfSolve}
+use Rattle.proved_report.specs.declared.open.Open.TheVariants.{Solves}
+use Rattle.pass_core.proofs.Progressing.{stuck_progresses, counted_progresses}
 use Rattle.scen_defs.specs.Program.{content}
 use Rattle.cut_banks.specs.Banks.{pools_of}
 use Rattle.cut_banks.specs.Pools.{numbers_read}
@@ -137,3 +140,22 @@ returns-clause-made c = λ b i walk frame right h.
     (answer_made p s n t b i lives right task
     (read_have (IsMadeFor (run_book s.kind b)) (pools_of s.kind s.banks) (children_in s.frame n) t.children.items task.cuts (pools_made s.kind b s.banks h.0))
     c.in_ok-solved.solved (sym c.in_ok-solved.ensures.exact) c.in_ok-solved.ensures.answer))
+
+pub returns-in_default-clause-progress : goal.returns-in_default-clause-progress
+returns-in_default-clause-progress c =
+    let s = c.args.self.now in
+    stuck_progresses s c.left_stuck.new.self (Solves s.budget.solves) _ c.left_stuck.ensures.others
+
+pub returns-then-not-fits-clause-progress : goal.returns-then-not-fits-clause-progress
+returns-then-not-fits-clause-progress c =
+    let s = c.args.self.now in
+    stuck_progresses s c.left_stuck-then-not-fits.new.self (Solves s.budget.solves) _ c.left_stuck-then-not-fits.ensures.others
+
+pub returns-clause-progress : goal.returns-clause-progress
+returns-clause-progress c =
+    let s = c.args.self.now in
+    let all = c.in_ok-solved.solved in
+    let counts = c.raise.new.self in
+    counted_progresses c.commit.result
+    (IsOfSolve counts.all s.budget.solves all (IsStuck s.kind s.banks c.args.node c.in-Some.begun.task.trial all)) s c.commit.new.self counts
+    c.raise.ensures c.commit.ensures.reasons c.commit.ensures.stays

@@ -7,6 +7,9 @@ use Rattle.pass_core.specs.Made.{run_book, IsMadeAbout, KeepsMade}
 use Rattle.pass_core.proofs.Making.{ends_made, root_made}
 use Rattle.pass_core.specs.declared.state.State.{State}
 use Rattle.pass_core.specs.Left.{IsOffered, OffersCut, ends_behind}
+use Rattle.pass_core.specs.Reasons.{IsRefused, RefusesCut, IsOfSolve, GainsReasons}
+use Rattle.cut_banks.specs.Banks.{pools_of}
+use Rattle.pass_core.proofs.Reasoning.{same_reasons, stuck_wider, refused_above}
 use Rattle.pass_core.proofs.Explaining.{on_ok}
 use Rattle.pass_core.proofs.Leaving.{ends_stays, offers_above, root_offers, none_offers, behind_above, behind_root, behind_none}
 use Rattle.pass_core.proofs.state.State.take_bound.Goals as goal
@@ -72,3 +75,17 @@ pub returns-in-None-clause-ends : goal.returns-in-None-clause-ends
 returns-in-None-clause-ends c =
     let old = c.args.self.now in
     sym (behind_none old.kind c.args.node c.args.value c.args.cut old.ends c.in-None.is)
+
+pub returns-in-Some-clause-reasons : goal.returns-in-Some-clause-reasons
+returns-in-Some-clause-reasons c = λ all.
+    let old = c.args.self.now in
+    let new = c.offer.new.self in
+    let n = c.args.node in
+    let trial = c.args.trial.now in
+    let low : 0 < n = omega (arith, c.if-node-gt0.true) in
+    let refused : Type 0 = IsRefused (pools_of old.kind old.banks) trial c.in-Some.cut in
+    let stuck : Type 0 = RefusesCut old.kind old.banks n trial c.args.cut in
+    on_ok c.offer.result (GainsReasons (IsOfSolve old.counts.all old.budget.solves all refused) old new)
+    (GainsReasons (IsOfSolve old.counts.all old.budget.solves all stuck) old new)
+    (stuck_wider refused stuck old.counts.all old.budget.solves all old new
+    (refused_above old.kind old.banks n trial c.args.cut c.in-Some.cut low c.in-Some.is)) (c.offer.ensures.reasons all)

@@ -1,5 +1,8 @@
 use Rattle.std.proofs.Common.{◌≡◌, ◌<◌, None, Some, refl, sym, arith, ◌∙◌}
 use Rattle.pass_core.specs.Left.{IsOffered, OffersCut, ends_without}
+use Rattle.pass_core.specs.Reasons.{IsRefused, RefusesCut, IsOfSolve, GainsReasons}
+use Rattle.cut_banks.specs.Banks.{pools_of}
+use Rattle.pass_core.proofs.Reasoning.{stuck_wider, refused_above}
 use Rattle.pass_core.proofs.Explaining.{on_ok}
 use Rattle.pass_core.proofs.Leaving.{offers_above, root_offers, without_above, without_root}
 use Rattle.pass_core.proofs.state.State.take_ray.Goals as goal
@@ -39,3 +42,17 @@ pub returns-clause-ends : goal.returns-clause-ends
 returns-clause-ends c =
     let z : c.args.node ≡ 0 = omega (arith, c.if-node-gt0.false) in
     sym (without_root c.args.node c.args.cut c.args.self.now.ends z)
+
+pub returns-then-node-gt0-clause-reasons : goal.returns-then-node-gt0-clause-reasons
+returns-then-node-gt0-clause-reasons c = λ all.
+    let old = c.args.self.now in
+    let new = c.offer.new.self in
+    let n = c.args.node in
+    let trial = c.args.trial.now in
+    let low : 0 < n = omega (arith, c.if-node-gt0.true) in
+    let refused : Type 0 = IsRefused (pools_of old.kind old.banks) trial c.args.cut in
+    let stuck : Type 0 = RefusesCut old.kind old.banks n trial (Some c.args.cut) in
+    on_ok c.offer.result (GainsReasons (IsOfSolve old.counts.all old.budget.solves all refused) old new)
+    (GainsReasons (IsOfSolve old.counts.all old.budget.solves all stuck) old new)
+    (stuck_wider refused stuck old.counts.all old.budget.solves all old new
+    (refused_above old.kind old.banks n trial (Some c.args.cut) c.args.cut low refl)) (c.offer.ensures.reasons all)
