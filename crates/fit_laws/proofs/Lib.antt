@@ -1,0 +1,4 @@
+pub mod Lists
+pub mod Points
+pub mod Rows
+pub mod Multipliers
