@@ -19,7 +19,7 @@ use Rattle.dual_assemble.specs.Laws.{flat_of}
 use Rattle.run_ends.specs.declared.last.Last.{Last}
 use Rattle.run_ends.specs.Lasts.{last_at, joined_points}
 use Rattle.policy_laws.specs.Points.{AllMeet}
-use Rattle.fit_laws.specs.Rows.{IsOnRows}
+use Rattle.fit_laws.specs.Rows.{IsOnRows, HasForms}
 
 -- the points of all nodes together fit, where no node that isn't live has one
 abbrev pub PoliciesFit : Type 0
@@ -34,6 +34,10 @@ MadeAreOnRows = (kind : Kind) (p : Program) (cut : Stored) → IsMadeFor (book k
 abbrev pub CurrentAreOnRows : Type 0
 CurrentAreOnRows = (h : History) (book : Book) (k : ℕ) (cut : Stored) → IsBook h book → IsMadeFor book cut → IsCurrent h k cut
     → IsOnRows (h.after k) cut
+
+-- where the multipliers of a cut's records are forms, those by node are
+abbrev pub FormsAssemble : Type 0
+FormsAssemble = (cut : Stored) (fs : List (List Entry)) → HasForms cut → flat_from [] one_ℚ cut ≡ Ok fs → Each IsForm fs
 
 -- the multipliers by node of a cut on the rows of a program fit, and as a list they are what they are as forms
 abbrev pub MultipliersFit : Type 0

@@ -1,6 +1,7 @@
--- Cuts whose multipliers are of rows of a program.
+-- Cuts whose multipliers are of rows of a program, and cuts whose multipliers are forms.
 use Rattle.std.specs.Prelude.{◌≡◌, ℕ, true, List, map}
 use Rattle.rationals.specs.Sparse.{Entry}
+use Rattle.rationals.specs.Forms.{IsForm}
 use Rattle.scen_defs.specs.declared.program.NodeRow.{NodeRow}
 use Rattle.scen_defs.specs.Lists.{Each, is_in}
 use Rattle.scen_defs.specs.Program.{View}
@@ -21,3 +22,12 @@ abbrev mutual
   pub AreOnRows : View → StoredUses → Type 0
   AreOnRows v No_stored = Unit {0}
   AreOnRows v (Use_stored weight cut uses) = IsOnRows v cut × AreOnRows v uses
+
+-- the multipliers of the cut's record, and of the records below it, are forms
+abbrev mutual
+  pub HasForms : Stored → Type 0
+  HasForms (Stored_of s uses constant form) = IsForm s.multipliers × AllHaveForms uses
+
+  pub AllHaveForms : StoredUses → Type 0
+  AllHaveForms No_stored = Unit {0}
+  AllHaveForms (Use_stored weight cut uses) = HasForms cut × AllHaveForms uses

@@ -1,5 +1,5 @@
 //! Which lists fit.
-ghost use Rattle.fit_laws.specs.Laws.{PoliciesFit, MadeAreOnRows, CurrentAreOnRows, MultipliersFit};
+ghost use Rattle.fit_laws.specs.Laws.{PoliciesFit, MadeAreOnRows, CurrentAreOnRows, FormsAssemble, MultipliersFit};
 
 /// The points of all nodes together are of live nodes and of columns of their stages, where no node that was dropped has a point.
 pub fn policies_fit()
@@ -14,6 +14,11 @@ pub fn made_are_on_rows()
 /// So are those of a cut that is made of the data of a script, wherever they are those of the present program.
 pub fn current_are_on_rows()
     ensures { CurrentAreOnRows }
+{}
+
+/// The multipliers by node of a cut are forms, where those of its records are.
+pub fn forms_assemble()
+    ensures { FormsAssemble }
 {}
 
 /// Multipliers of rows of a program, by node, are of live nodes and of rows of their stages, and their list says the same as their forms.

@@ -4,4 +4,6 @@
 
 mod laws;
 
-pub use laws::{current_are_on_rows, made_are_on_rows, multipliers_fit, policies_fit};
+pub use laws::{
+    current_are_on_rows, forms_assemble, made_are_on_rows, multipliers_fit, policies_fit,
+};
