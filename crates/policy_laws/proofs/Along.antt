@@ -19,7 +19,7 @@ use Rattle.cut_defs.proofs.CutLaws.{each-child}
 use Rattle.cut_defs.proofs.Closure.{share-nonneg}
 
 -- a form without the column
-without : (f : List Entry) (j : ℕ) → Each (λ (e : Entry). e.column ≡ j → ⊥) f → coefficient f j ≡ zero_ℚ
+pub without : (f : List Entry) (j : ℕ) → Each (λ (e : Entry). e.column ≡ j → ⊥) f → coefficient f j ≡ zero_ℚ
 without [] j h = refl
 without (e ∷ f) j h = ap₂ (λ b z. value_if b e.value +ℚ z) (ne_eqb e.column j h.0) (without f j h.1) ∙ zero_add_ℚ zero_ℚ
 

@@ -70,7 +70,7 @@ form_number n i fs h a b =
     ∙ ap (λ (f : List Entry). coefficient f i) (alone_at n (form_at fs n))
 
 -- ---- the points of last solves
-points_at : (lasts : List (Option Last)) (n : ℕ) → form_at (map point_entries (map last_point lasts)) n ≡ point_at lasts n
+pub points_at : (lasts : List (Option Last)) (n : ℕ) → form_at (map point_entries (map last_point lasts)) n ≡ point_at lasts n
 points_at [] n = refl
 points_at (last ∷ lasts) zero = refl
 points_at (last ∷ lasts) (suc n) = points_at lasts n

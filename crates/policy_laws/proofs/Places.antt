@@ -75,12 +75,13 @@ root_in Feasible p i = let r = (programs_are_trees p i).1 in record { above = r.
 root_in Recession p i = let r = (programs_are_trees p i).1 in record { above = r.above; certain = r.certain }
 root_in Cost p i = (programs_are_trees p i).1
 
-on_path : (v : View) (n : ℕ) (path : List ℕ) → Each (IsLive v) path → is_in n path ≡ true → IsLive v n
-on_path v n [] h e = absurd (no refl e)
-on_path v n (m ∷ path) h e = go (eqb m n) refl e (on_path v n path h.1)
+-- what holds of each member holds of one that is in the list
+pub in_each : (P : ℕ → Type 0) (n : ℕ) (xs : List ℕ) → Each P xs → is_in n xs ≡ true → P n
+in_each P n [] h e = absurd (no refl e)
+in_each P n (x ∷ xs) h e = go (eqb x n) refl e (in_each P n xs h.1)
   where
-    go : (b : Bool) → eqb m n ≡ b → (b || is_in n path) ≡ true → (is_in n path ≡ true → IsLive v n) → IsLive v n
-    go true q e rest = subst (IsLive v) (eqb-true m n q) h.0
+    go : (b : Bool) → eqb x n ≡ b → (b || is_in n xs) ≡ true → (is_in n xs ≡ true → P n) → P n
+    go true q e rest = subst P (eqb-true x n q) h.0
     go false q e rest = rest e
 
 -- a node that all scenarios go through is live
@@ -93,5 +94,5 @@ root_is_live v n (s ∷ ss) h e = go (is_in n s.path) refl e (root_is_live v n s
     more = sum_ℚ (λ (s : Scenario). value_if (is_in n s.path) s.probability) ss
 
     go : (b : Bool) → is_in n s.path ≡ b → value_if b s.probability +ℚ more ≡ one_ℚ → (more ≡ one_ℚ → IsLive v n) → IsLive v n
-    go true q e rest = on_path v n s.path h.0.live q
+    go true q e rest = in_each (IsLive v) n s.path h.0.live q
     go false q e rest = rest (sym (zero_add_ℚ more) ∙ e)

@@ -1,0 +1,5 @@
+pub mod Lists
+pub mod Points
+pub mod Rows
+pub mod Multipliers
+pub mod Forms
