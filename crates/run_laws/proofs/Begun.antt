@@ -4,7 +4,9 @@ use Rattle.std.proofs.lemmas.List.{length-map, length-replicate}
 use Rattle.scen_defs.specs.Lists.{passes_at}
 use Rattle.scen_defs.specs.Program.{Program, is_live}
 use Rattle.scen_defs.specs.Valid.{IsProgram, Lives}
+use Rattle.scen_defs.specs.declared.report.Kind.TheVariants.{Feasible}
 use Rattle.scen_tree.specs.Trees.{Tree}
+use Rattle.run_ends.specs.declared.ends.Priced.{Priced}
 use Rattle.edit_defs.proofs.Lists.{passes-within}
 use Rattle.pass_table.specs.Machine.{Machine, unsolved, IsLive, IsGood, IsComplete, IsValid}
 use Rattle.pass_table.specs.Fits.{IsStart, Fits, lists_of}
@@ -24,8 +26,10 @@ abbrev pub IsUnsolved : Machine → Type 0
 IsUnsolved m = (n : ℕ) → (m.last n).commit ≡ 0
 
 pub unsolved_stands : (p : Program) (tree : Tree) (w : Known) (m : Machine) → IsProgram p → IsUnsolved m
-    → ((n : ℕ) → m.live n ≡ passes_at is_live n p.nodes) → EndsHold p w.ends → StandsBy p tree w m
-unsolved_stands p tree w m i none live ends = record {
+    → ((n : ℕ) → m.live n ≡ passes_at is_live n p.nodes) → EndsHold p w.ends
+    → ((w.kind ≡ Feasible → ⊥) → (u : Priced) × (w.ends.upper ≡ Some u)) → StandsBy p tree w m
+unsolved_stands p tree w m i none live ends policy = record {
+  policy = policy;
   lasts = λ n l c h. let z : (m.last n).commit ≡ 0 = none n in absurd (omega (arith, c, z));
   nones = λ n l c h. let z : (m.last n).commit ≡ 0 = none n in absurd (omega (arith, c, z));
   ends = ends;
@@ -88,6 +92,7 @@ ready_stands p tree s lasts m i few frame table stands long ready = go s.is_begu
       long = ap (λ (l : Lasts). length l.nodes.items) (ready.same e) ∙ long e;
     }
     go false e = record {
-      stands = unsolved_stands p tree (known_of (record s { lasts = lasts })) m i (unused_unsolved p s m i frame table e) table.machine.live stands.ends;
+      stands = unsolved_stands p tree (known_of (record s { lasts = lasts })) m i (unused_unsolved p s m i frame table e) table.machine.live stands.ends
+          stands.policy;
       long = ap length (ready.none e) ∙ length-replicate (places_in s.frame) None ∙ ap places_in frame ∙ places_of p few;
     }

@@ -9,7 +9,7 @@ use Rattle.scen_defs.specs.Valid.{IsProgram, Lives}
 use Rattle.scen_defs.specs.declared.report.Kind.{Kind}
 use Rattle.scen_defs.specs.declared.report.Kind.TheVariants as run_kind
 use Rattle.scen_tree.specs.Trees.{Tree, tree_walk}
-use Rattle.pass_table.specs.Machine.{Machine, opened}
+use Rattle.pass_table.specs.Machine.{Machine, IsOpen, IsClosed, IsComplete, opened}
 use Rattle.pass_table.specs.Marks.{nothing}
 use Rattle.proved_report.specs.declared.open.Open.{Open}
 use Rattle.run_data.specs.Frames.{Frame, frame_of}
@@ -17,6 +17,7 @@ use Rattle.run_data.specs.declared.versions.Version.{Version}
 use Rattle.run_data.specs.Counts.{untouched}
 use Rattle.run_ends.specs.declared.last.Last.{Last}
 use Rattle.run_ends.specs.declared.last.Lasts.{Lasts}
+use Rattle.run_ends.specs.declared.ends.Priced.{Priced}
 use Rattle.run_ends.specs.declared.ends.Ends.{Ends}
 use Rattle.run_ends.specs.declared.settled.Settled.{Settled}
 use Rattle.run_ends.specs.Ends.{no_ends}
@@ -46,8 +47,12 @@ pub record IsStanding (p : Program) (tree : Tree) (s : State) : Type 0 where
   pub long : s.is_begun ≡ true → length s.lasts.nodes.items ≡ length p.nodes
   pub stands : (m : Machine) → IsTabledBy p s m → StandsBy p tree (known_of s) m
 
+-- a closed run is complete
+pub closed_complete : (m : Machine) → IsClosed m → IsComplete m
+closed_complete m c n l = let o : IsOpen m n = c n l in (o.0.made, o.1)
+
 -- where a state isn't settled nothing stops it
-unstopped : (s : State) → settled_in s ≡ None → s.stop ≡ None
+pub unstopped : (s : State) → settled_in s ≡ None → s.stop ≡ None
 unstopped s e = go s.stop refl
   where
     go : (o : Option Open) → s.stop ≡ o → s.stop ≡ None
@@ -70,7 +75,7 @@ module _ (p : Program) (tree : Tree) (i : IsProgram p) (few : length p.nodes < n
     frame = b.frame;
     long = λ e. let q : true ≡ false = sym e ∙ b.is_begun in absurd (cc);
     stands = λ m table. unsolved_stands p tree (known_of s) m i (unused_unsolved p s m i b.frame table b.is_begun) table.machine.live
-        (subst (EndsHold p) (sym b.ends) none_hold);
+        (subst (EndsHold p) (sym b.ends) none_hold) (λ ne. absurd (ne b.kind));
   }
 
   -- places for last solves don't touch the table
@@ -106,6 +111,18 @@ module _ (p : Program) (tree : Tree) (i : IsProgram p) (few : length p.nodes < n
       o : OpensRun old new
       o = run stop
 
+      -- a Feasible run that is closed leaves a policy, and the others have one
+      go_policy : (k : Kind) → old.kind ≡ k → (u : Priced) × (new.ends.upper ≡ Some u)
+      go_policy run_kind.Feasible e =
+          let c = ((h.stands m table).complete (closed_complete m closed)).upper (λ q. let z : run_kind.Feasible ≡ run_kind.Recession = sym e ∙ q in absurd (cc)) in
+          (c.0, ap (λ (x : Ends). x.upper) o.ends ∙ c.1.0)
+      go_policy run_kind.Recession e =
+          let u = (h.stands m table).policy (λ q. let z : run_kind.Recession ≡ run_kind.Feasible = sym e ∙ q in absurd (cc)) in
+          (u.0, ap (λ (x : Ends). x.upper) o.ends ∙ u.1)
+      go_policy run_kind.Cost e =
+          let u = (h.stands m table).policy (λ q. let z : run_kind.Cost ≡ run_kind.Feasible = sym e ∙ q in absurd (cc)) in
+          (u.0, ap (λ (x : Ends). x.upper) o.ends ∙ u.1)
+
       go : Opens p m new → IsStanding p tree new
       go (not_opened stops fits) = absurd (stops stop)
       go (is_opened number fits) = record {
@@ -113,7 +130,8 @@ module _ (p : Program) (tree : Tree) (i : IsProgram p) (few : length p.nodes < n
         long = λ e. ap length o.lasts ∙ length-replicate (places_in new.frame) None ∙ ap places_in (o.frame ∙ h.frame) ∙ places_of p few;
         stands = λ k other. stands_too p tree new (opened m number) k fits other
             (unsolved_stands p tree (known_of new) (opened m number) i (λ n. refl) fits.machine.live
-            (subst (EndsHold p) (sym o.ends) (let e : EndsHold p old.ends = (h.stands m table).ends in record { upper = e.upper; lower = e.lower })));
+            (subst (EndsHold p) (sym o.ends) (let e : EndsHold p old.ends = (h.stands m table).ends in record { upper = e.upper; lower = e.lower }))
+            (λ ne. go_policy old.kind refl));
       }
   stepped old new m told h table (solves lasts n ready solve) stop =
       let r : IsReadyState p tree old lasts m = ready_stands p tree old lasts m i few h.frame table (h.stands m table) h.long ready in

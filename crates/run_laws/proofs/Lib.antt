@@ -10,3 +10,4 @@ pub mod Solved
 pub mod Begun
 pub mod Kept
 pub mod Meeting
+pub mod NoDead

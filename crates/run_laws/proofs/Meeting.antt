@@ -43,8 +43,8 @@ use Rattle.pass_core.proofs.Parentage.{root_lives}
 use Rattle.pass_core.proofs.Assembling.{root_is_worth}
 use Rattle.policy_laws.proofs.Places.{tree_in}
 use Rattle.policy_laws.proofs.Costs.{joined_points_cost}
-use Rattle.tree_method.specs.Stands.{HasFewNodes, SolvesNodes, settled_in}
-use Rattle.run_laws.specs.Laws.{ClosedRunsMeet}
+use Rattle.tree_method.specs.Stands.{settled_in}
+use Rattle.run_laws.specs.Laws.{IsReached, ClosedRunsMeet}
 use Rattle.run_laws.proofs.Standing.{Known, known_of, pools_in, HasLast, EndsHold, HasCost, StandsBy}
 use Rattle.run_laws.proofs.Kept.{IsStanding, IsMadeHere, solves_stand, solves_made}
 use Rattle.run_laws.proofs.Policies.{all_meet, complete, value_of, cost_below, root_value}
@@ -155,6 +155,6 @@ module _ (p : Program) (tree : Tree) (i : IsProgram p) (few : length p.nodes < n
       ∙ ap (λ (b : Bool). or_case (where_so b Optimal) (ended s.stop s.counts.since_report s.budget.solves)) ends_meet
 
 pub closed_runs_meet : ClosedRunsMeet
-closed_runs_meet p tree budget old new m i few t begins solves table closed costly stop =
-    is_optimal p tree i few t new m (solves_stand p tree i few t budget old new begins solves stop) (solves_made p tree i few t budget old new begins solves stop)
-    table closed costly
+closed_runs_meet p s m r table closed costly stop =
+    is_optimal p r.tree r.program r.few r.walk s m (solves_stand p r.tree r.program r.few r.walk r.budget r.first s r.begins r.solves stop)
+    (solves_made p r.tree r.program r.few r.walk r.budget r.first s r.begins r.solves stop) table closed costly

@@ -21,7 +21,7 @@ use Rattle.run_ends.specs.declared.last.Last.{Last}
 use Rattle.run_ends.specs.declared.ends.Bounded.{Bounded}
 use Rattle.run_ends.specs.declared.ends.Ends.{Ends}
 use Rattle.run_ends.specs.Lasts.{last_at, trial_of}
-use Rattle.run_laws.proofs.Standing.{Known, pools_in, HasMember, IsAtLeast, IsAbove as IsRayAbove, HasLast, HasNone}
+use Rattle.run_laws.proofs.Standing.{Known, pools_in, HasMember, IsAtLeast, IsAbove as IsRayAbove, ShowsNone, HasLast, HasNone}
 use Rattle.run_laws.proofs.Turned.{IsTurned, made_before}
 use Rattle.run_laws.proofs.Places.{trial_same, PoolsGo, member_goes, reads_same}
 
@@ -35,6 +35,10 @@ LowerGoes kind old new = kind ≡ Cost → (b : Bounded) → old.lower ≡ Some 
 
 pub lower_stays : (kind : Kind) (old new : Ends) → new.lower ≡ old.lower → LowerGoes kind old new
 lower_stays kind old new e cost b h = (b, (e ∙ h, le_refl_ℚ b.value))
+
+-- what shows that there is no point stays or is replaced by another such cut
+abbrev pub NowhereGoes : Ends → Ends → Type 0
+NowhereGoes old new = (c : Stored) → old.nowhere ≡ Some c → ShowsNone c → (d : Stored) × ((new.nowhere ≡ Some d) × ShowsNone d)
 
 module _ (p : Program) (kind : Kind) (frame : Frame) (versions : List Version) (la lb : List (Option Last)) (ba bb : Banks) (ea eb : Ends) where
   pub moved : (m k : Machine) (j : ℕ) → last_at lb j ≡ last_at la j
@@ -62,13 +66,13 @@ module _ (p : Program) (kind : Kind) (frame : Frame) (versions : List Version) (
 
   pub moved_none : (m k : Machine) (j : ℕ) → (IsMade k j → IsMade m j × (trial_of lb (parent_in frame j) ≡ trial_of la (parent_in frame j)))
       → ((P : Stored → Type 0) → HasMember (pools_of kind ba) j P → HasMember (pools_of kind bb) j P)
-      → ((c : Stored) → ea.nowhere ≡ Some c → (d : Stored) × (eb.nowhere ≡ Some d))
+      → NowhereGoes ea eb
       → HasNone p (known kind frame versions la ba ea) m j → HasNone p (known kind frame versions lb bb eb) k j
   moved_none m k j made grows nowhere h = record {
     trial = h.trial;
     made = λ q. let b = made q in h.made b.0 ∙ sym b.1;
     offered = λ low. grows (IsRayAbove h.trial) (h.offered low);
-    root = λ z. let a = h.root z in nowhere a.0 a.1;
+    root = λ z. let a = h.root z in nowhere a.0 a.1.0 a.1.1;
   }
 
   -- behind a turn of another node
@@ -80,7 +84,7 @@ module _ (p : Program) (kind : Kind) (frame : Frame) (versions : List Version) (
       (lasts : (i : ℕ) → (i ≡ n → ⊥) → last_at lb i ≡ last_at la i)
       (pools : PoolsGo (pools_of kind ba) (pools_of kind bb) n)
       (lower : (j : ℕ) → (j ≡ n → ⊥) → j ≡ 0 → LowerGoes kind ea eb)
-      (nowhere : (c : Stored) → ea.nowhere ≡ Some c → (d : Stored) × (eb.nowhere ≡ Some d)) where
+      (nowhere : NowhereGoes ea eb) where
     trial_moves : (j : ℕ) → (j ≡ n → ⊥) → IsMade k j → IsMade m j × (trial_of lb (parent_in frame j) ≡ trial_of la (parent_in frame j))
     trial_moves j ne made =
         let b = made_before m k n j point valid turn ne made in

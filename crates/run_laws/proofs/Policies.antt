@@ -1,7 +1,7 @@
 -- In a complete run the points of all nodes are a policy; in a closed one its cost is at most the root's value.
 use Rattle.std.proofs.Common.{◌≡◌, ℕ, zero, suc, ◌+◌, ◌<◌, ◌≤◌, ◌⊎◌, inl, inr, Bool, true, false, List, [], ◌∷◌, Option, Some, None, Ok, get_or, length, map, slice_get, refl, sym, ap, ap₂, subst, ◌∙◌, arith}
 use Rattle.std.specs.List.{Contains}
-use Rattle.rationals.specs.Rational.{ℚ, zero_ℚ, one_ℚ, ◌+ℚ◌, ◌*ℚ◌, ◌≤ℚ◌, le_trans_ℚ, by_linear_eq, terms}
+use Rattle.rationals.specs.Rational.{ℚ, zero_ℚ, one_ℚ, ◌+ℚ◌, ◌*ℚ◌, ◌≤ℚ◌, le_trans_ℚ, not_le_of_lt_ℚ, by_linear_eq, terms}
 use Rattle.rationals.specs.Ring.Given.{nothing, fact, equal}
 use Rattle.rationals.specs.Sums.{sum_ℚ}
 use Rattle.rationals.specs.Sparse.{Entry, coefficient, product}
@@ -23,7 +23,7 @@ use Rattle.scen_defs.specs.declared.report.Kind.TheVariants as run_kind
 use Rattle.scen_defs.proofs.SumLaws.{each-map, each-both, sum-ext}
 use Rattle.cut_defs.specs.Data.{Datum}
 use Rattle.cut_defs.specs.Stored.{Stored, source_of}
-use Rattle.cut_defs.specs.declared.kinds.CutKind.TheVariants.{Bound}
+use Rattle.cut_defs.specs.declared.kinds.CutKind.TheVariants.{Bound, Ray}
 use Rattle.cut_pool.specs.Held.{Held}
 use Rattle.cut_banks.specs.Pools.{cuts_of, cuts_read}
 use Rattle.edit_defs.specs.Data.{view_in}
@@ -47,10 +47,10 @@ use Rattle.policy_laws.specs.Points.{MeetsAt, AllMeet, point_at, CoversAt, AllCo
 use Rattle.policy_laws.proofs.Places.{IsFramed, framed_in, tree_in}
 use Rattle.policy_laws.proofs.Policies.{values_cover}
 use Rattle.solve_laws.specs.Points.{IsDatumIn, PointMeets}
-use Rattle.solve_laws.specs.Costs.{AddsUp, BoundsBelow, CostsOver}
+use Rattle.solve_laws.specs.Costs.{AddsUp, BoundsBelow, RaysBelow, CostsOver}
 use Rattle.solve_laws.proofs.Points.{points_meet}
 use Rattle.solve_laws.proofs.PoolCosts.{values_cover_pools}
-use Rattle.run_laws.proofs.Standing.{Known, pools_in, HasMember, IsAtLeast, HasLast}
+use Rattle.run_laws.proofs.Standing.{Known, pools_in, HasMember, IsAtLeast, IsAbove as IsRayAbove, HasLast}
 
 -- ---- sums
 once_one : (a b c : ℚ) → a ≡ b +ℚ one_ℚ *ℚ c → a ≡ b +ℚ c
@@ -116,25 +116,53 @@ module _ (p : Program) (i : IsProgram p) (w : Known) (m : Machine) (frame : w.fr
       let g : IsGood m n = c n (live n ∙ l) in
       meets_at n g.0 (lasts n (live n ∙ l) g.0.solved g.1)
 
-  -- ---- in a closed run
-  module _ (closed : IsClosed m) (is_costly : is_priced w.kind ≡ true) (pools : length p.nodes ≤ length (pools_in w)) where
+  -- ---- nodes that are up to date
+  module _ (pools : length p.nodes ≤ length (pools_in w)) where
     -- a live node's last solve, which is up to date
-    record UpToDate (n : ℕ) : Type 0 where
+    pub record UpToDate (n : ℕ) : Type 0 where
       pub last : HasLast p w m n
       pub open_is : IsOpen m n
 
-    found : (n : ℕ) → Lives p n → UpToDate n
+    own_same : (n : ℕ) → Lives p n → children_in w.frame n ≡ children (view_in w.kind p) n
+    own_same n l = ap (λ f. children_in f n) frame ∙ own_children p i n l ∙ sym (children_same w.kind p n)
+
+    -- its value is that of its point, and of its children costs that the cuts of their pools don't exceed
+    pub costs : (n : ℕ) → Lives p n → (u : UpToDate n) → CostsOver (view_in w.kind p) n (pools_in w) u.last.task.kind u.last.last.point u.last.last.along u.last.value
+    costs n l u =
+        let h : HasLast p w m n = u.last in
+        let same : children_in w.frame n ≡ children (view_in w.kind p) n = own_same n l in
+        let below : Each (λ c. c < length (pools_in w)) (children (view_in w.kind p) n)
+        = subst (Each (λ c. c < length (pools_in w))) (ap (λ f. children_in f n) (sym frame) ∙ same)
+            (each-map {Q = λ c. c < length (pools_in w)} (λ c h. let q = passes-within is_live c p.nodes h.0 in omega (arith, q, pools)) (children_in (frame_of p) n) (children_after p i n l)) in
+        values_cover_pools (view_in w.kind p) n (pools_in w) h.task h.last.point h.last.along h.value h.cut (datum n h) h.fits
+            (h.cuts (u.open_is.0.below) ∙ ap (cuts_read (pools_in w)) same) below h.answer (adds_up h.task.trial h.last.point h.last.along h.along)
+
+    -- no Ray cut about a child is above 0 at its point
+    pub no_ray_above : (a n : ℕ) → Lives p a → UpToDate a → Contains (children_in w.frame a) n → (trial : List Entry)
+        → trial_of w.lasts (Some a) ≡ trial → HasMember (pools_in w) n (IsRayAbove trial) → ⊥
+    no_ray_above a n l u at trial e h =
+        let c = costs a l u in
+        let b : RaysBelow u.last.last.along h.pool.cuts
+        = each_found (λ (k : ℕ). (q : Held) → slice_get (pools_in w) k ≡ Some q → RaysBelow u.last.last.along q.cuts) (children (view_in w.kind p) a) n c.rays
+            (subst (λ (cs : List ℕ). Contains cs n) (own_same a l) at) h.pool h.there in
+        let r : value_at_trial h.cut u.last.last.along ≤ℚ zero_ℚ
+        = each_found (λ (cut : Stored). (source_of cut).kind ≡ Ray → value_at_trial cut u.last.last.along ≤ℚ zero_ℚ) h.pool.cuts h.cut b h.member h.holds.0 in
+        not_le_of_lt_ℚ h.holds.1 (subst (λ (t : List Entry). value_at_trial h.cut t ≤ℚ zero_ℚ) (sym (ap along_of u.last.there) ∙ e) r)
+
+  -- ---- in a closed run
+  module _ (closed : IsClosed m) (is_costly : is_priced w.kind ≡ true) (pools : length p.nodes ≤ length (pools_in w)) where
+    found : (n : ℕ) → Lives p n → UpToDate pools n
     found n l = let o : IsOpen m n = closed n (live n ∙ l) in record { last = lasts n (live n ∙ l) o.0.made.solved o.1; open_is = o }
 
     -- of each number: that of a live node, or not
-    told : (n : ℕ) → (Lives p n → ⊥) ⊎ UpToDate n
+    told : (n : ℕ) → (Lives p n → ⊥) ⊎ UpToDate pools n
     told n = go (passes_at is_live n p.nodes) refl
       where
-        go : (b : Bool) → passes_at is_live n p.nodes ≡ b → (Lives p n → ⊥) ⊎ UpToDate n
+        go : (b : Bool) → passes_at is_live n p.nodes ≡ b → (Lives p n → ⊥) ⊎ UpToDate pools n
         go true e = inr (found n e)
         go false e = inl (λ l. let q : true ≡ false = sym l ∙ e in absurd (cc))
 
-    value_in : (n : ℕ) → (Lives p n → ⊥) ⊎ UpToDate n → ℚ
+    value_in : (n : ℕ) → (Lives p n → ⊥) ⊎ UpToDate pools n → ℚ
     value_in n (inl gone) = zero_ℚ
     value_in n (inr u) = u.last.value
 
@@ -142,19 +170,8 @@ module _ (p : Program) (i : IsProgram p) (w : Known) (m : Machine) (frame : w.fr
     pub value_of : ℕ → ℚ
     value_of n = value_in n (told n)
 
-    costs : (n : ℕ) → Lives p n → (u : UpToDate n) → CostsOver (view_in w.kind p) n (pools_in w) u.last.task.kind u.last.last.point u.last.last.along u.last.value
-    costs n l u =
-        let h : HasLast p w m n = u.last in
-        let same : children_in w.frame n ≡ children (view_in w.kind p) n
-        = ap (λ f. children_in f n) frame ∙ own_children p i n l ∙ sym (children_same w.kind p n) in
-        let below : Each (λ c. c < length (pools_in w)) (children (view_in w.kind p) n)
-        = subst (Each (λ c. c < length (pools_in w))) (ap (λ f. children_in f n) (sym frame) ∙ same)
-            (each-map {Q = λ c. c < length (pools_in w)} (λ c h. let q = passes-within is_live c p.nodes h.0 in omega (arith, q, pools)) (children_in (frame_of p) n) (children_after p i n l)) in
-        values_cover_pools (view_in w.kind p) n (pools_in w) h.task h.last.point h.last.along h.value h.cut (datum n h) h.fits
-            (h.cuts (u.open_is.0.below) ∙ ap (cuts_read (pools_in w)) same) below h.answer (adds_up h.task.trial h.last.point h.last.along h.along)
-
     -- its cut was offered
-    offered : (n : ℕ) → 0 < n → (u : UpToDate n) → HasMember (pools_in w) n (IsAtLeast u.last.task.trial u.last.value)
+    offered : (n : ℕ) → 0 < n → (u : UpToDate pools n) → HasMember (pools_in w) n (IsAtLeast u.last.task.trial u.last.value)
     offered n low u = go u.last.cut refl u.last.answer.has_cut
       where
         go : (cut : Option Stored) → u.last.cut ≡ cut → HasCut u.last.task u.last.value u.last.answer.m cut → HasMember (pools_in w) n (IsAtLeast u.last.task.trial u.last.value)
@@ -162,11 +179,11 @@ module _ (p : Program) (i : IsProgram p) (w : Known) (m : Machine) (frame : w.fr
         go (Some cut) e a = u.last.offered low cut e
 
     -- a child's trial is what its parent's point is along
-    child_trial : (n c : ℕ) → Lives p n → (u : UpToDate n) → (k : UpToDate c) → parent_in (frame_of p) c ≡ Some n → k.last.task.trial ≡ u.last.last.along
+    child_trial : (n c : ℕ) → Lives p n → (u : UpToDate pools n) → (k : UpToDate pools c) → parent_in (frame_of p) c ≡ Some n → k.last.task.trial ≡ u.last.last.along
     child_trial n c l u k e = k.last.trial k.open_is.0.made ∙ ap (λ f. trial_of w.lasts (parent_in f c)) frame ∙ ap (trial_of w.lasts) e ∙ ap along_of u.last.there
 
     -- so its value is at most what the parent's solve takes for its cost
-    below_cost : (n c : ℕ) (l : Lives p n) (u : UpToDate n) → parent_in (frame_of p) c ≡ Some n → 0 < c → (k : UpToDate c)
+    below_cost : (n c : ℕ) (l : Lives p n) (u : UpToDate pools n) → parent_in (frame_of p) c ≡ Some n → 0 < c → (k : UpToDate pools c)
         → (cost : ℚ) → ((pool : Held) → slice_get (pools_in w) c ≡ Some pool → BoundsBelow u.last.last.along cost pool.cuts) → k.last.value ≤ℚ cost
     below_cost n c l u e low k cost bounds =
         let o : HasMember (pools_in w) c (IsAtLeast k.last.task.trial k.last.value) = offered c low k in
@@ -174,7 +191,7 @@ module _ (p : Program) (i : IsProgram p) (w : Known) (m : Machine) (frame : w.fr
         = each_found (λ (cut : Stored). (source_of cut).kind ≡ Bound → value_at_trial cut u.last.last.along ≤ℚ cost) o.pool.cuts o.cut (bounds o.pool o.there) o.member o.holds.0 in
         le_trans_ℚ o.holds.1 (subst (λ (t : List Entry). value_at_trial o.cut t ≤ℚ cost) (sym (child_trial n c l u k e)) b)
 
-    cover_at : (n : ℕ) → Lives p n → (t : (Lives p n → ⊥) ⊎ UpToDate n) → told n ≡ t → CoversAt w.kind p w.lasts value_of n
+    cover_at : (n : ℕ) → Lives p n → (t : (Lives p n → ⊥) ⊎ UpToDate pools n) → told n ≡ t → CoversAt w.kind p w.lasts value_of n
     unfolding value_in value_of told
     cover_at n l (inl gone) e = absurd (gone l)
     cover_at n l (inr u) e = record {
@@ -190,7 +207,7 @@ module _ (p : Program) (i : IsProgram p) (w : Known) (m : Machine) (frame : w.fr
     }
       where
         k : CostsOver (view_in w.kind p) n (pools_in w) u.last.task.kind u.last.last.point u.last.last.along u.last.value
-        k = costs n l u
+        k = costs pools n l u
 
         framed : IsFramed p (view_in w.kind p)
         framed = framed_in w.kind p i
@@ -199,7 +216,7 @@ module _ (p : Program) (i : IsProgram p) (w : Known) (m : Machine) (frame : w.fr
         behind zero q = absurd (cc)
         behind (suc c) q = omega arith
 
-        at_most : (c : ℕ) → Lives p c → parent_in (frame_of p) c ≡ Some n → (s : (Lives p c → ⊥) ⊎ UpToDate c) → told c ≡ s
+        at_most : (c : ℕ) → Lives p c → parent_in (frame_of p) c ≡ Some n → (s : (Lives p c → ⊥) ⊎ UpToDate pools c) → told c ≡ s
             → ((pool : Held) → slice_get (pools_in w) c ≡ Some pool → BoundsBelow u.last.last.along (k.child_cost c) pool.cuts)
             → value_of c ≤ℚ k.child_cost c
         at_most c lc q (inl gone) z b = absurd (gone lc)
@@ -227,6 +244,6 @@ module _ (p : Program) (i : IsProgram p) (w : Known) (m : Machine) (frame : w.fr
     unfolding value_in value_of told
     root_value z most l = go (told 0) refl
       where
-        go : (t : (Lives p 0 → ⊥) ⊎ UpToDate 0) → told 0 ≡ t → value_of 0 ≤ℚ z
+        go : (t : (Lives p 0 → ⊥) ⊎ UpToDate pools 0) → told 0 ≡ t → value_of 0 ≤ℚ z
         go (inl gone) e = absurd (gone l)
         go (inr own) e = subst (λ x. x ≤ℚ z) (sym (ap (value_in 0) e)) (most own.last)

@@ -63,4 +63,5 @@ stands_too p tree s m k tm tk h = record {
       record { trial = b.trial; made = λ z. b.made (a.made z); offered = b.offered; root = b.root };
   ends = h.ends;
   complete = λ c. h.complete (complete_too p s m k tm tk c);
+  policy = h.policy;
 }

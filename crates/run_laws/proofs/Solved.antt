@@ -46,15 +46,16 @@ use Rattle.run_ends.specs.Ends.{cheaper, greater_end, after_root, after_policy}
 use Rattle.pass_core.specs.declared.state.State.{State}
 use Rattle.pass_core.specs.Left.{OffersCut, IsOffered, ends_behind, ends_without, TakesPolicy, TakesComplete, LeavesPoint, LeavesNone, LeavesBy}
 use Rattle.pass_core.specs.Tabled.{IsTabledBy, committed_with}
-use Rattle.pass_core.specs.Turns.{datum_in, IsTaskOf, PassesInJoin, EndsBy, SolvesNode}
+use Rattle.pass_core.specs.Reasons.{PassesInJoin}
+use Rattle.pass_core.specs.Turns.{datum_in, IsTaskOf, EndsBy, SolvesNode}
 use Rattle.pass_core.proofs.Parentage.{children_are}
 use Rattle.policy_laws.specs.Points.{AllMeet}
 use Rattle.policy_laws.proofs.Policies.{policies_join}
 use Rattle.policy_laws.proofs.Costs.{joined_points_cost}
-use Rattle.run_laws.proofs.Standing.{Known, known_of, pools_in, HasMember, IsAtLeast, IsAbove, HasLast, HasNone, EndsHold, HasCost, StandsBy}
+use Rattle.run_laws.proofs.Standing.{Known, known_of, pools_in, HasMember, IsAtLeast, IsAbove, ShowsNone, HasLast, HasNone, EndsHold, HasCost, StandsBy}
 use Rattle.run_laws.proofs.Turned.{IsTurned, turned}
 use Rattle.run_laws.proofs.Places.{last_set, last_other, last_long, trial_same, PoolsGo, member_goes, reads_same}
-use Rattle.run_laws.proofs.Moved.{known, LowerGoes, lower_stays, turns_leave, turns_leave_none}
+use Rattle.run_laws.proofs.Moved.{known, LowerGoes, NowhereGoes, lower_stays, turns_leave, turns_leave_none}
 use Rattle.run_laws.proofs.Ends.{cheaper_most, cheaper_holds, greater_most, greater_holds}
 use Rattle.run_laws.proofs.Offered.{pools_go, bound_held, ray_held}
 use Rattle.run_laws.proofs.Policies.{all_meet}
@@ -107,6 +108,13 @@ nowhere_behind run_kind.Recession zero value (Some cut) e = refl
 nowhere_behind run_kind.Cost zero value (Some cut) e = refl
 nowhere_behind kind (suc n) value cut e = refl
 
+upper_behind : (kind : Kind) (n : ℕ) (value : ℚ) (cut : Option Stored) (e : Ends) → (ends_behind kind n value cut e).upper ≡ e.upper
+upper_behind kind zero value None e = refl
+upper_behind run_kind.Feasible zero value (Some cut) e = refl
+upper_behind run_kind.Recession zero value (Some cut) e = refl
+upper_behind run_kind.Cost zero value (Some cut) e = refl
+upper_behind kind (suc n) value cut e = refl
+
 -- ---- behind a policy
 policy_lower : (kind : Kind) (e : Ends) (found : Priced) → (after_policy kind e found).lower ≡ e.lower
 policy_lower run_kind.Feasible e found = refl
@@ -117,6 +125,11 @@ policy_nowhere : (kind : Kind) (e : Ends) (found : Priced) → (after_policy kin
 policy_nowhere run_kind.Feasible e found = refl
 policy_nowhere run_kind.Recession e found = refl
 policy_nowhere run_kind.Cost e found = refl
+
+policy_stays : (kind : Kind) (e : Ends) (found u : Priced) → e.upper ≡ Some u → (v : Priced) × ((after_policy kind e found).upper ≡ Some v)
+policy_stays run_kind.Feasible e found u h = let c = cheaper_most e.upper found in (c.0, c.1.0)
+policy_stays run_kind.Recession e found u h = (u, h)
+policy_stays run_kind.Cost e found u h = let c = cheaper_most e.upper found in (c.0, c.1.0)
 
 policy_upper : (kind : Kind) (e : Ends) (found : Priced) → (kind ≡ run_kind.Recession → ⊥)
     → (u : Priced) × (((after_policy kind e found).upper ≡ Some u) × (u.cost ≤ℚ found.cost))
@@ -273,7 +286,7 @@ module _ (p : Program) (tree : Tree) (i : IsProgram p) (t : tree_walk p ≡ Ok t
         go (inl e) = subst (HasLast p (known old.kind old.frame old.versions new.lasts.nodes.items new.banks new.ends) k) (sym e) own
         go (inr ne) = turns_leave p old.kind old.frame old.versions old.lasts.nodes.items new.lasts.nodes.items old.banks new.banks old.ends new.ends
             m k n true table.valid turn table.machine.parent table.machine.number number_behind children others pools goes
-            (λ c e. (c, nowhere_same new.table.complete left.ends ∙ e)) j (ap (λ (f : ℕ → Bool). f j) (sym turn.live) ∙ l) ne
+            (λ c e z. (c, (nowhere_same new.table.complete left.ends ∙ e, z))) j (ap (λ (f : ℕ → Bool). f j) (sym turn.live) ∙ l) ne
             (stands.lasts j (ap (λ (f : ℕ → Bool). f j) (sym turn.live) ∙ l) (subst (λ z. 0 < z.commit) (turn.others j ne) c)
             (ap (λ z. z.point) (sym (turn.others j ne)) ∙ h))
 
@@ -285,7 +298,7 @@ module _ (p : Program) (tree : Tree) (i : IsProgram p) (t : tree_walk p ≡ Ok t
         go (inl e) = let q : true ≡ false = sym turn.has_point ∙ ap (λ z. (k.last z).point) (sym e) ∙ h in absurd (cc)
         go (inr ne) = turns_leave_none p old.kind old.frame old.versions old.lasts.nodes.items new.lasts.nodes.items old.banks new.banks old.ends
             new.ends m k n true table.valid turn table.machine.parent table.machine.number number_behind children others pools goes
-            (λ c e. (c, nowhere_same new.table.complete left.ends ∙ e)) j ne
+            (λ c e z. (c, (nowhere_same new.table.complete left.ends ∙ e, z))) j ne
             (stands.nones j (ap (λ (f : ℕ → Bool). f j) (sym turn.live) ∙ l) (subst (λ z. 0 < z.commit) (turn.others j ne) c)
             (ap (λ z. z.point) (sym (turn.others j ne)) ∙ h))
 
@@ -326,12 +339,21 @@ module _ (p : Program) (tree : Tree) (i : IsProgram p) (t : tree_walk p ≡ Ok t
     }
     has_cost false e c h = let q : false ≡ true = sym e ∙ behind.fits.complete.1 c in absurd (cc)
 
+    has_policy : (b : Bool) → TakesComplete b p tree old.kind new.lasts.nodes.items (ends_behind old.kind n value cut old.ends) new.ends
+        → (u : Priced) × (old.ends.upper ≡ Some u) → (u : Priced) × (new.ends.upper ≡ Some u)
+    has_policy true h u =
+        let v = policy_stays old.kind (ends_behind old.kind n value cut old.ends)
+            (record { cost = h.cost; policy = joined_points new.lasts.nodes.items }) u.0 (upper_behind old.kind n value cut old.ends ∙ u.1) in
+        (v.0, ap (λ (e : Ends). e.upper) h.ends ∙ v.1)
+    has_policy false h u = (u.0, ap (λ (e : Ends). e.upper) h ∙ upper_behind old.kind n value cut old.ends ∙ u.1)
+
     point_stands : StandsBy p tree (known_of new) k
     point_stands = subst (λ (w : Known). StandsBy p tree w k) (sym same_known) (record {
       lasts = lasts_behind;
       nones = nones_behind;
       ends = ends_hold new.table.complete refl left.ends;
       complete = λ c. has_cost new.table.complete refl c left.ends;
+      policy = λ ne. has_policy new.table.complete left.ends (stands.policy ne);
     })
 
     point_long : length new.lasts.nodes.items ≡ length p.nodes
@@ -357,12 +379,19 @@ module _ (p : Program) (tree : Tree) (i : IsProgram p) (t : tree_walk p ≡ Ok t
     without_lower zero = refl
     without_lower (suc j) = refl
 
-    without_nowhere : (j : ℕ) (c : Stored) → old.ends.nowhere ≡ Some c → (d : Stored) × ((ends_without j cut old.ends).nowhere ≡ Some d)
-    without_nowhere zero c e = (cut, refl)
-    without_nowhere (suc j) c e = (c, e)
+    shows_none : n ≡ 0 → ShowsNone cut
+    shows_none z = (
+      ap (λ (s : Source). s.kind) answer.cut_of.source,
+      subst (λ q. zero_ℚ <ℚ q) (ap (value_at_trial cut) (is_task.trial ∙ no_trial old.lasts.nodes.items old.frame n z) ∙ plain_value cut) answer.above,
+    )
 
-    nowhere_goes : (c : Stored) → old.ends.nowhere ≡ Some c → (d : Stored) × (new.ends.nowhere ≡ Some d)
-    nowhere_goes c e = let d = without_nowhere n c e in (d.0, ap (λ (e : Ends). e.nowhere) left.ends ∙ d.1)
+    without_nowhere : (j : ℕ) → n ≡ j → (c : Stored) → old.ends.nowhere ≡ Some c → ShowsNone c
+        → (d : Stored) × (((ends_without j cut old.ends).nowhere ≡ Some d) × ShowsNone d)
+    without_nowhere zero q c e z = (cut, (refl, shows_none q))
+    without_nowhere (suc j) q c e z = (c, (e, z))
+
+    nowhere_goes : NowhereGoes old.ends new.ends
+    nowhere_goes c e z = let d = without_nowhere n refl c e z in (d.0, (ap (λ (e : Ends). e.nowhere) left.ends ∙ d.1.0, d.1.1))
 
     no_goes : (j : ℕ) → (j ≡ n → ⊥) → j ≡ 0 → LowerGoes old.kind old.ends new.ends
     no_goes j ne z = lower_stays old.kind old.ends new.ends (ap (λ (e : Ends). e.lower) left.ends ∙ without_lower n)
@@ -372,7 +401,7 @@ module _ (p : Program) (tree : Tree) (i : IsProgram p) (t : tree_walk p ≡ Ok t
       trial = task.trial;
       made = λ made. is_task.trial ∙ sym (trial_same old.lasts.nodes.items new.lasts.nodes.items old.frame n n no_others not_own);
       offered = λ low. go n left.banks low cut_node;
-      root = λ z. (cut, ap (λ (e : Ends). e.nowhere) left.ends ∙ ap (λ j. (ends_without j cut old.ends).nowhere) z);
+      root = λ z. (cut, (ap (λ (e : Ends). e.nowhere) left.ends ∙ ap (λ j. (ends_without j cut old.ends).nowhere) z, shows_none z));
     }
       where
         go : (j : ℕ) → OffersCut old.kind j (Some cut) task.trial old.banks new.banks → 0 < j → (source_of cut).node ≡ j
@@ -414,6 +443,7 @@ module _ (p : Program) (tree : Tree) (i : IsProgram p) (t : tree_walk p ≡ Ok t
             (sym (without_upper n)) stands.ends.upper;
         lower = subst (λ o. IfSome o (λ (l : Bounded). (l.value ≡ constant_of l.cut) × ((source_of l.cut).kind ≡ Bound))) (sym (without_lower n)) stands.ends.lower;
       });
+      policy = λ ne. let u = stands.policy ne in (u.0, ap (λ (e : Ends). e.upper) left.ends ∙ without_upper n ∙ u.1);
       complete = λ c. let g : IsGood k n = c n (behind.machine.live n ∙ live) in
           let q : false ≡ true = sym turn.has_point ∙ g.1 in absurd (cc);
     })

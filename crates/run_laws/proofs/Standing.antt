@@ -8,7 +8,7 @@ use Rattle.scen_defs.specs.Program.{Program, view_of}
 use Rattle.scen_defs.specs.Flat.{Feasible, cost}
 use Rattle.scen_defs.specs.Values.{at}
 use Rattle.scen_defs.specs.declared.report.Kind.{Kind}
-use Rattle.scen_defs.specs.declared.report.Kind.TheVariants.{Recession, Cost}
+use Rattle.scen_defs.specs.declared.report.Kind.TheVariants.{Feasible as FeasibleRun, Recession, Cost}
 use Rattle.scen_tree.specs.Trees.{Tree}
 use Rattle.cut_defs.specs.Stored.{Stored, source_of, constant_of}
 use Rattle.cut_defs.specs.declared.kinds.CutKind.TheVariants.{Bound, Ray}
@@ -91,12 +91,16 @@ pub record HasLast (p : Program) (w : Known) (m : Machine) (n : ℕ) : Type 0 wh
   pub offered : 0 < n → (c : Stored) → cut ≡ Some c → HasMember (pools_in w) n (IsAtLeast task.trial value)
   pub lower : w.kind ≡ Cost → n ≡ 0 → (b : Bounded) × ((w.ends.lower ≡ Some b) × (value ≤ℚ b.value))
 
+-- a Ray cut about the root that is above 0
+abbrev pub ShowsNone : Stored → Type 0
+ShowsNone cut = ((source_of cut).kind ≡ Ray) × (zero_ℚ <ℚ constant_of cut)
+
 -- node n's last solve showed that there is no point: so does a Ray cut of its pool; and of the root a cut is kept
 pub record HasNone (p : Program) (w : Known) (m : Machine) (n : ℕ) : Type 0 where
   pub trial : List Entry
   pub made : IsMade m n → trial ≡ trial_of w.lasts (parent_in w.frame n)
   pub offered : 0 < n → HasMember (pools_in w) n (IsAbove trial)
-  pub root : n ≡ 0 → (cut : Stored) × (w.ends.nowhere ≡ Some cut)
+  pub root : n ≡ 0 → (cut : Stored) × ((w.ends.nowhere ≡ Some cut) × ShowsNone cut)
 
 -- the upper end is that of a policy that is feasible and costs so much; the lower end is the constant of its cut, a Bound one
 pub record EndsHold (p : Program) (e : Ends) : Type 0 where
@@ -115,3 +119,5 @@ pub record StandsBy (p : Program) (tree : Tree) (w : Known) (m : Machine) : Type
   pub nones : (n : ℕ) → IsLive m n → 0 < (m.last n).commit → ((m.last n).point ≡ false) → HasNone p w m n
   pub ends : EndsHold p w.ends
   pub complete : IsComplete m → HasCost p tree w
+  -- behind a Feasible run there is a policy
+  pub policy : (w.kind ≡ FeasibleRun → ⊥) → (u : Priced) × (w.ends.upper ≡ Some u)

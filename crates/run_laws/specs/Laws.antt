@@ -1,10 +1,10 @@
 -- What the runs of the nested method come to on a program without edits.
-use Rattle.std.specs.Prelude.{◌≡◌, Some, None, Ok}
+use Rattle.std.specs.Prelude.{◌≡◌, ℕ, Some, None, Ok}
 use Rattle.scen_defs.specs.Program.{Program}
 use Rattle.scen_defs.specs.Valid.{IsProgram}
 use Rattle.scen_defs.specs.declared.report.Kind.TheVariants.{Cost}
 use Rattle.scen_tree.specs.Trees.{Tree, tree_walk}
-use Rattle.pass_table.specs.Machine.{Machine, IsClosed}
+use Rattle.pass_table.specs.Machine.{Machine, IsClosed, MayBegin}
 use Rattle.run_ends.specs.declared.settled.Settled.TheVariants.{Optimal}
 use Rattle.pass_core.specs.declared.budget.Budget.{Budget}
 use Rattle.pass_core.specs.declared.state.State.{State}
@@ -12,9 +12,28 @@ use Rattle.pass_core.specs.Beginning.{IsBeginning}
 use Rattle.pass_core.specs.Tabled.{IsTabledBy}
 use Rattle.tree_method.specs.Stands.{HasFewNodes, SolvesNodes, settled_in}
 
--- Where a run for the least cost is closed, and nothing stops the method, both ends are there and equal: the program begun, and its nodes
--- solved one behind the other, the least cost is found.
+-- a program with its tree was begun, and its nodes solved one behind the other, up to this state
+pub record IsReached (p : Program) (s : State) : Type 0 where
+  pub program : IsProgram p
+  pub few : HasFewNodes p
+  pub tree : Tree
+  pub walk : tree_walk p ≡ Ok tree
+  pub budget : Budget
+  pub first : State
+  pub begins : IsBeginning p budget first
+  pub solves : SolvesNodes p first s
+
+-- where a run for the least cost is closed, and nothing stops the method, both ends are there and equal
 abbrev pub ClosedRunsMeet : Type 0
-ClosedRunsMeet = (p : Program) (tree : Tree) (budget : Budget) (old new : State) (m : Machine) → IsProgram p → HasFewNodes p
-    → tree_walk p ≡ Ok tree → IsBeginning p budget old → SolvesNodes p old new → IsTabledBy p new m → IsClosed m
-    → new.kind ≡ Cost → new.stop ≡ None → settled_in new ≡ Some Optimal
+ClosedRunsMeet = (p : Program) (s : State) (m : Machine) → IsReached p s → IsTabledBy p s m → IsClosed m → s.kind ≡ Cost → s.stop ≡ None
+    → settled_in s ≡ Some Optimal
+
+-- a run in which something is left to find, and no node may be begun, is closed, and another run follows it
+pub record IsFollowed (s : State) (m : Machine) : Type 0 where
+  pub closed : IsClosed m
+  pub earlier : s.kind ≡ Cost → ⊥
+
+-- so the method never comes to an end where something is left to find
+abbrev pub RunsGoOn : Type 0
+RunsGoOn = (p : Program) (s : State) (m : Machine) → IsReached p s → IsTabledBy p s m → settled_in s ≡ None → ((n : ℕ) → MayBegin m n → ⊥)
+    → IsFollowed s m

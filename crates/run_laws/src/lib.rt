@@ -1,9 +1,14 @@
-//! What the runs of the nested method come to. No code that runs.
+//! What the runs of the nested method come to on a program without edits. No code that runs.
 #![tactic(auto)]
 
-ghost use Rattle.run_laws.specs.Laws.{ClosedRunsMeet};
+ghost use Rattle.run_laws.specs.Laws.{ClosedRunsMeet, RunsGoOn};
 
-/// A closed Cost run that nothing stops has both ends, and they are equal.
+/// A closed Cost run that nothing stops has both ends, and they are equal: the least cost is found.
 pub fn closed_runs_meet()
     ensures { ClosedRunsMeet }
+{}
+
+/// Where something is left to find and nothing stops the method, a node may be begun, or the run is closed and another one follows it.
+pub fn runs_go_on()
+    ensures { RunsGoOn }
 {}
