@@ -13,7 +13,7 @@ use Rattle.cut_defs.specs.Stored.StoredUses.{No_stored, Use_stored}
 use Rattle.cut_sums.specs.Walks.{made}
 use Rattle.cut_proof.specs.Repairing.{snoc}
 use Rattle.cut_proof.proofs.MadeFrom.{made_parts}
-use Rattle.dual_assemble.specs.Ground.{quotients_from, uses_of_children, ground_source, ground_walk, IsGroundFrom}
+use Rattle.dual_assemble.specs.Ground.{quotients_from, uses_of_children, ground_source, ground_walk}
 use Rattle.node_lp.specs.declared.task.ChildCuts.{ChildCuts}
 use Rattle.node_lp.specs.declared.task.Task.{Task}
 use Rattle.node_lp.specs.Problem.{IsProblem, problem_of}
@@ -21,7 +21,7 @@ use Rattle.solve_laws.specs.Bounds.{StandsAmong, UsesAmong, IsBoundOf}
 use Rattle.solve_laws.specs.Grounds.{GroundsAreMade}
 
 -- the cut's multipliers, and its parts
-parts : (d : Datum) (total : ℚ) (dual : List At) (cuts : List Stored) (cut : Stored) → ground_walk d total dual cuts ≡ Ok (Some cut)
+pub parts : (d : Datum) (total : ℚ) (dual : List At) (cuts : List Stored) (cut : Stored) → ground_walk d total dual cuts ≡ Ok (Some cut)
     → (y : List Entry) × (source_of cut ≡ ground_source d y) × (uses_of cut ≡ uses_of_children No_stored d.shares cuts)
 parts d total dual cuts cut e =
     let uses : StoredUses = uses_of_children No_stored d.shares cuts in
@@ -48,11 +48,11 @@ kind_is : (d : Datum) (total : ℚ) (dual : List At) (cuts : List Stored) (cut :
 kind_is d total dual cuts cut e = ap (λ (s : Source). s.kind) (parts d total dual cuts cut e).1
 
 bound_of : (t : Task) (total : ℚ) (dual : List At) (cuts : List Stored) (cut : Stored) → IsProblem (problem_of t)
-    → ground_walk t.datum total dual cuts ≡ Ok (Some cut) → IsGroundFrom t.datum total dual cut → Each (StandsAmong t.children.items) cuts
-    → IsBoundOf t (source_of cut) (uses_of cut) (constant_of cut) (form_of cut)
+    → ground_walk t.datum total dual cuts ≡ Ok (Some cut) → IsMadeFrom t.datum (source_of cut) (uses_of cut) (constant_of cut) (form_of cut)
+    → Each (StandsAmong t.children.items) cuts → IsBoundOf t (source_of cut) (uses_of cut) (constant_of cut) (form_of cut)
 bound_of t total dual cuts cut fits e g a = record {
   kind = kind_is t.datum total dual cuts cut e;
-  made = g.made_from;
+  made = g;
   among = subst (UsesAmong t.children.items) (sym (parts t.datum total dual cuts cut e).2)
       (among_all t.children.items No_stored t.datum.shares cuts tt fits.shares a);
 }

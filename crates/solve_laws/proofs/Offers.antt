@@ -118,7 +118,7 @@ module _ (p : Held) (cut : Stored) (trial : List Entry) where
   offer_holds = tested (first_stale p.known (support cut))
 
 -- ---- the pools behind a change of one
-placed : (test : Held → Bool) (change : Held → Held) (n : ℕ) (ps : List Held) (p : Held) → pool_if test n ps ≡ Some p
+pub placed : (test : Held → Bool) (change : Held → Held) (n : ℕ) (ps : List Held) (p : Held) → pool_if test n ps ≡ Some p
     → slice_get (with_pool test change n ps) n ≡ Some (change p)
 placed test change n [] p e = absurd (let no : ◌≡◌ {A = Option Held} None (Some p) = e in cc)
 placed test change zero (q ∷ ps) p e = go (test q) e
@@ -128,11 +128,11 @@ placed test change zero (q ∷ ps) p e = go (test q) e
     go false e = absurd (let no : ◌≡◌ {A = Option Held} None (Some p) = e in cc)
 placed test change (suc n) (q ∷ ps) p e = placed test change n ps p e
 
-data ChangesAt (change : Held → Held) (ps new : List Held) (n k : ℕ) : Type 0 where
+pub data ChangesAt (change : Held → Held) (ps new : List Held) (n k : ℕ) : Type 0 where
   as_before : slice_get new k ≡ slice_get ps k → ChangesAt change ps new n k
   changed : (p : Held) → k ≡ n → slice_get ps k ≡ Some p → slice_get new k ≡ Some (change p) → ChangesAt change ps new n k
 
-changes_at : (test : Held → Bool) (change : Held → Held) (n k : ℕ) (ps : List Held) → ChangesAt change ps (with_pool test change n ps) n k
+pub changes_at : (test : Held → Bool) (change : Held → Held) (n k : ℕ) (ps : List Held) → ChangesAt change ps (with_pool test change n ps) n k
 changes_at test change n k [] = as_before refl
 changes_at test change zero zero (p ∷ ps) = go (test p)
   where
