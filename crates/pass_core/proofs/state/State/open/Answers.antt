@@ -1,7 +1,8 @@
-use Rattle.std.proofs.Common.{List, Option, None, replicate, IfSome, refl, sym, ap, subst, ◌∙◌}
+use Rattle.std.proofs.Common.{List, Option, Some, None, replicate, IfSome, refl, sym, ap, subst, ◌∙◌}
 use Rattle.scen_defs.specs.Lists.{Each}
 use Rattle.cut_defs.specs.Stored.{Stored, IsMadeFor}
 use Rattle.pass_core.specs.Made.{run_book}
+use Rattle.pass_core.specs.Reasons.{GroundsTo}
 use Rattle.pass_core.specs.Explained.{PointsAreFound}
 use Rattle.pass_core.specs.Left.{places_in}
 use Rattle.run_ends.specs.declared.ends.Ends.{Ends}
@@ -55,3 +56,11 @@ returns-clause-opened c = λ k.
       budget = ap (λ (s : State). s.budget) e;
       versions = ap (λ (s : State). s.versions) e;
     }
+
+pub returns-clause-reasons : goal.returns-clause-reasons
+returns-clause-reasons c = λ p tree all.
+    let each : Each (λ (place : Option Stored). IfSome place (λ cut. GroundsTo c.args.kind p c.args.self.now.frame tree (Some cut))) c.deref.result.now =
+    subst (Each (λ (place : Option Stored). IfSome place (λ cut. GroundsTo c.args.kind p c.args.self.now.frame tree (Some cut))))
+    (sym c.deref.ensures.value) all in
+    let h = c.in_ok-put_all.ensures.reasons p tree each in
+    record { counts = h.counts; stop = h.stop; lasting = λ why e. absurd (cc) }
