@@ -1,6 +1,7 @@
 -- The cuts that a run opens with, and the pools that refuse one.
-use Rattle.std.proofs.Common.{◌≡◌, ◌<◌, ◌≤◌, ℕ, zero, suc, Bool, true, false, ◌&&◌, ltb, eqb, is_none, List, [], ◌∷◌, Option, Some, None, IfSome, IsSomeAnd, replicate}
-use Rattle.std.proofs.Common.{Result, Ok, Err, OnOk, refl, sym, ap, subst, ◌∙◌, arith}
+use Rattle.std.proofs.Common.{◌≡◌, ◌<◌, ℕ, zero, suc, Bool, true, false, ◌&&◌, ltb, eqb}
+use Rattle.std.proofs.Common.{is_none, List, [], ◌∷◌, Option, Some, None, IfSome, IsSomeAnd, replicate}
+use Rattle.std.proofs.Common.{Ok, refl, sym, ap, subst, ◌∙◌, arith}
 use Rattle.std.proofs.lemmas.Bool.{lt-ltb, ltb-true}
 use Rattle.scen_defs.specs.Lists.{Each, pick, passes_at}
 use Rattle.scen_defs.specs.declared.report.Kind.{Kind}
@@ -44,7 +45,8 @@ still_false true true false d f e = refl
 still_false true true true d f e = e
 
 held_refuses : (cut other : Stored) (p : Held) → may_put cut p ≡ false → may_put cut (with_cut p other) ≡ false
-held_refuses cut other p e = still_false (eqb p.node (source_of cut).node) (ltb p.number 18446744073709551615) (ltb (suc p.number) 18446744073709551615)
+held_refuses cut other p e = still_false (eqb p.node (source_of cut).node) (ltb p.number 18446744073709551615)
+    (ltb (suc p.number) 18446744073709551615)
     (is_none (first_stale p.known (support cut))) (larger_number p.number 18446744073709551615) e
 
 pools_refuse : (cut other : Stored) (n i : ℕ) (pools : List Held) → passes_at (may_put cut) n pools ≡ false

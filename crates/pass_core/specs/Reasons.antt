@@ -1,5 +1,5 @@
 -- Which solve a reason that a state keeps is told of, and where the method is stuck.
-use Rattle.std.specs.Prelude.{◌≡◌, ◌⊎◌, ℕ, zero, suc, false, true, List, Option, Some, None, Ok, Err, get_or}
+use Rattle.std.specs.Prelude.{◌≡◌, ◌⊎◌, ℕ, zero, suc, false, List, Option, Some, None, Ok, Err, get_or}
 use Rattle.rationals.specs.Rational.{zero_ℚ, one_ℚ}
 use Rattle.rationals.specs.Passes.{Operation}
 use Rattle.rationals.specs.Forms.{add_scaled_walk}

@@ -142,7 +142,8 @@ module _ (p : Program) (old : State) where
       go b (begins_none rests points reasons ready) =
           opened mid.budget.solves ⊥ (gained (IsOfOpening mid.budget.solves ⊥) mid new why reasons h)
       go b (opens_run closed opens points reasons run) =
-          opened mid.budget.solves (IsStuckOpening p mid new.banks) (gained (IsOfOpening mid.budget.solves (IsStuckOpening p mid new.banks)) mid new why reasons h)
+          opened mid.budget.solves (IsStuckOpening p mid new.banks)
+          (gained (IsOfOpening mid.budget.solves (IsStuckOpening p mid new.banks)) mid new why reasons h)
       go b (solves lasts n ready node) =
           elim (gained (IsOfThis mid n node.task) (record mid { lasts = lasts; counts = with_commit mid.counts }) new why node.reasons h) [
             | inl x ↦ kept (rest x)
@@ -166,7 +167,8 @@ module _ (p : Program) (old : State) where
 
       go : (b : Bool) → MakesStep p mid m new b → IsLasting why
       go b (begins_none rests points reasons ready) = by (IsOfOpening mid.budget.solves ⊥) (reasons.lasting why e)
-      go b (opens_run closed opens points reasons run) = by (IsOfOpening mid.budget.solves (IsStuckOpening p mid new.banks)) (reasons.lasting why e)
+      go b (opens_run closed opens points reasons run) =
+          by (IsOfOpening mid.budget.solves (IsStuckOpening p mid new.banks)) (reasons.lasting why e)
       go b (solves lasts n ready node) = by (IsOfThis mid n node.task) (node.reasons.lasting why e)
 
   -- what lasts for a run is told of a cut or of a cost

@@ -62,7 +62,8 @@ returns-then-not-has_room-clause-solves c = λ m i walk frame t stand.
     let s = c.get_ready.new.self in
     let u : IsTabledBy p s m = ready_tabled p m c.args.self.now s t c.in_ok-get_ready.ensures.others c.in_ok-get_ready.ensures.begun in
     begins_none (λ room n may. let no : false ≡ true = c.if-not-has_room.ensures.1 (room_in m s.table u.fits room) in absurd (cc))
-    (c.in_ok-get_ready.ensures.points p stand) (ready_gains (IsOfOpening c.args.self.now.budget.solves ⊥) c.args.self.now s c.in_ok-get_ready.ensures.others)
+    (c.in_ok-get_ready.ensures.points p stand)
+    (ready_gains (IsOfOpening c.args.self.now.budget.solves ⊥) c.args.self.now s c.in_ok-get_ready.ensures.others)
     (record {
       run = ready_stays c.args.self.now s c.in_ok-get_ready.ensures.others;
       banks = ap (λ (x : State). x.banks) c.in_ok-get_ready.ensures.others;
@@ -80,7 +81,8 @@ returns-then-ne-clause-solves c = λ m i walk frame t stand.
     let room : HasRoom m = room_of m s.table u.fits (c.if-not-has_room.ensures.0 refl) in
     opens_run ((c.if-is_closed.ensures.meaning m u.fits).0 refl) (c.in_ok-open_next.ensures.tabled p m u c.in_ok-get_ready.ensures.begun room.1)
     (c.in_ok-open_next.ensures.points p (c.in_ok-get_ready.ensures.points p stand))
-    (opening_stuck p c.args.tree.now c.args.self.now s c.open_next.new.self c.in_ok-get_ready.ensures.others walk c.in_ok-open_next.ensures.reasons)
+    (opening_stuck p c.args.tree.now c.args.self.now s c.open_next.new.self c.in_ok-get_ready.ensures.others walk
+    c.in_ok-open_next.ensures.reasons)
     (λ stop. ready_opens c.args.self.now s c.open_next.new.self c.in_ok-get_ready.ensures.others (c.in_ok-open_next.ensures.opened stop))
 
 pub returns-in_ok-solve-in-Some-clause-solves : goal.returns-in_ok-solve-in-Some-clause-solves

@@ -1,5 +1,4 @@
 use Rattle.std.proofs.Common.{refl, ap, subst}
-use Rattle.cut_proof.specs.declared.fault.CutFault.{CutFault}
 use Rattle.proved_report.specs.declared.open.Open.TheVariants.{Solves}
 use Rattle.pass_core.specs.declared.state.State.{State}
 use Rattle.pass_core.specs.Reasons.{LacksGround, FaultsGround, IsOfOpening}

@@ -57,7 +57,8 @@ returns-in-Ok-clause-reasons c =
     let tree = c.args.tree.now in
     let refuses : Type 0 = RefusesGround c.next-kind.result p old.frame tree new.banks in
     let stuck : Type 0 = IsStuckBefore (next_kind old.kind) p old.frame tree old.versions new.banks in
-    on_ok c.open.result (GainsReasons (IsOfOpening old.budget.solves refuses) old new) (GainsReasons (IsOfOpening old.budget.solves stuck) old new)
+    on_ok c.open.result (GainsReasons (IsOfOpening old.budget.solves refuses) old new)
+    (GainsReasons (IsOfOpening old.budget.solves stuck) old new)
     (wider_reasons (IsOfOpening old.budget.solves refuses) (IsOfOpening old.budget.solves stuck) old new
     (wider_opening refuses stuck old.budget.solves
     (λ h. inr (subst (λ (k : Kind). RefusesGround k p old.frame tree new.banks) c.next-kind.ensures.kind h))))
@@ -71,7 +72,8 @@ returns-in-Err-clause-reasons c =
     let tree = c.args.tree.now in
     let lacks : Type 0 = LacksGround c.next-kind.result p old.frame tree old.versions in
     let stuck : Type 0 = IsStuckBefore (next_kind old.kind) p old.frame tree old.versions new.banks in
-    on_ok c.not_opened.result (GainsReasons (IsOfOpening old.budget.solves lacks) old new) (GainsReasons (IsOfOpening old.budget.solves stuck) old new)
+    on_ok c.not_opened.result (GainsReasons (IsOfOpening old.budget.solves lacks) old new)
+    (GainsReasons (IsOfOpening old.budget.solves stuck) old new)
     (wider_reasons (IsOfOpening old.budget.solves lacks) (IsOfOpening old.budget.solves stuck) old new
     (wider_opening lacks stuck old.budget.solves
     (λ h. inl (subst (λ (k : Kind). LacksGround k p old.frame tree old.versions) c.next-kind.ensures.kind h))))
@@ -83,7 +85,8 @@ returns-in-Ok-clause-progress c = λ unlike.
     let new = c.open.new.self in
     let p = content c.args.program.now in
     let tree = c.args.tree.now in
-    opened_progresses c.open.result (IsOfOpening old.budget.solves (RefusesGround c.next-kind.result p old.frame tree new.banks)) old new unlike
+    opened_progresses c.open.result (IsOfOpening old.budget.solves (RefusesGround c.next-kind.result p old.frame tree new.banks)) old
+    new unlike
     (c.open.ensures.reasons p tree c.in-Ok.ensures.grounds) (c.open.ensures.opened c.next-kind.ensures.kind)
 
 pub returns-in-Err-clause-progress : goal.returns-in-Err-clause-progress
@@ -92,5 +95,6 @@ returns-in-Err-clause-progress c = λ unlike.
     let new = c.not_opened.new.self in
     let p = content c.args.program.now in
     let tree = c.args.tree.now in
-    stopped_progresses c.not_opened.result (IsOfOpening old.budget.solves (LacksGround c.next-kind.result p old.frame tree old.versions)) old new
-    (c.not_opened.ensures.reasons c.next-kind.result p tree c.in-Err.ensures.lacks) c.not_opened.ensures.stops c.not_opened.ensures.budget
+    stopped_progresses c.not_opened.result (IsOfOpening old.budget.solves (LacksGround c.next-kind.result p old.frame tree old.versions))
+    old new (c.not_opened.ensures.reasons c.next-kind.result p tree c.in-Err.ensures.lacks)
+    c.not_opened.ensures.stops c.not_opened.ensures.budget

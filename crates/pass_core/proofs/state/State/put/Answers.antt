@@ -77,9 +77,11 @@ returns-clause-reasons c =
       refused = sym c.in_ok-is_put.ensures.done ∙ c.if-is_put.false;
     } in
     let here : IsNotPut kind new.banks cut =
-    not_put_as kind banks new.banks cut (ap (λ (x : State). x.banks) e) (still_not_put kind old.banks banks cut cut c.in_ok-is_put.ensures.ok refused) in
+    not_put_as kind banks new.banks cut (ap (λ (x : State). x.banks) e)
+    (still_not_put kind old.banks banks cut cut c.in_ok-is_put.ensures.ok refused) in
     let stuck : IsSomeAnd c.args.place.now (IsNotPut kind new.banks) =
-    subst (λ (o : Option Stored). IsSomeAnd o (IsNotPut kind new.banks)) (sym c.in-Some.is) (subst (IsNotPut kind new.banks) c.in_ok-own.ensures here) in
+    subst (λ (o : Option Stored). IsSomeAnd o (IsNotPut kind new.banks)) (sym c.in-Some.is)
+    (subst (IsNotPut kind new.banks) c.in_ok-own.ensures here) in
     let is : Open → Type 0 = IsOfOpening old.budget.solves (IsSomeAnd c.args.place.now (IsNotPut kind new.banks)) in
     then_reasons is old s new (same_reasons is old s refl refl refl)
     (stopped_reasons is s new (Solves old.budget.solves) (ap (λ (x : State). x.counts) e) (ap (λ (x : State). x.stop) e)
