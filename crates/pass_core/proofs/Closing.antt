@@ -1,5 +1,5 @@
 -- What is told of why a report is open is explained where the reasons are that a state keeps.
-use Rattle.std.proofs.Common.{◌≡◌, ◌⊎◌, ℕ, Option, Some, None, Err, IfSome, refl, sym, subst, inl, inr}
+use Rattle.std.proofs.Common.{◌≡◌, ◌⊎◌, ℕ, Option, Some, None, IfSome, refl, sym, subst, inl, inr}
 use Rattle.rationals.specs.Passes.{Operation}
 use Rattle.scen_defs.specs.Program.{Program}
 use Rattle.scen_tree.specs.Trees.{Tree}

@@ -31,7 +31,8 @@ stuck_progresses s new w table e = record {
 }
 
 -- it is counted
-pub counted_progresses : {X E : Type 0} (r : Result X E) (Is : Open → Type 0) (s new : State) (counts : Counts) → counts ≡ with_commit s.counts
+pub counted_progresses : {X E : Type 0} (r : Result X E) (Is : Open → Type 0) (s new : State) (counts : Counts)
+    → counts ≡ with_commit s.counts
     → OnOk r (GainsReasons Is (record s { counts = counts }) new) → OnOk r (StaysInRun (record s { counts = counts }) new)
     → OnOk r (Progresses s new)
 counted_progresses (Ok x) Is s new counts e g h = record { budget = h.budget; way = inl (g.counts ∙ e) }

@@ -1,11 +1,11 @@
 -- Which reasons the parts of a step add.
-use Rattle.std.proofs.Common.{◌≡◌, ◌⊎◌, inl, inr, ℕ, zero, suc, ◌<◌, List, Option, Some, None, Result, Ok, Err, OnOk, refl, sym, ap, subst, ◌∙◌, arith}
+use Rattle.std.proofs.Common.{◌≡◌, ◌⊎◌, inl, inr, ℕ, zero, suc, ◌<◌, List, Option, Some, None}
+use Rattle.std.proofs.Common.{refl, sym, ap, subst, ◌∙◌, arith}
 use Rattle.std.specs.Option.{option_map}
 use Rattle.rationals.specs.Sparse.{Entry}
 use Rattle.scen_defs.specs.declared.report.Kind.{Kind}
-use Rattle.scen_defs.specs.declared.report.Place.TheVariants.{Cut, Cost}
+use Rattle.scen_defs.specs.declared.report.Place.TheVariants.{Cut}
 use Rattle.node_lp.specs.declared.solved.Solved.{Solved}
-use Rattle.node_lp.specs.declared.solved.Solved.TheVariants as solved
 use Rattle.cut_pool.specs.declared.offer.Offer.{Offer}
 use Rattle.cut_pool.specs.declared.offer.Offer.TheVariants as offer
 use Rattle.cut_defs.specs.Stored.{Stored, source_of}
@@ -20,7 +20,8 @@ use Rattle.pass_core.specs.declared.budget.Budget.{Budget}
 use Rattle.pass_core.specs.declared.state.Counts.{Counts}
 use Rattle.pass_core.specs.declared.state.State.{State}
 use Rattle.pass_core.specs.Counting.{first_stop, first_or, after_answer}
-use Rattle.pass_core.specs.Reasons.{HasReason, IsStale, IsRefused, by_none, by_pool, RefusesCut, IsOfSolve, IsOfOpening, IsLasting, GainsReasons}
+use Rattle.pass_core.specs.Reasons.{HasReason, IsStale, IsRefused, by_none, by_pool, RefusesCut}
+use Rattle.pass_core.specs.Reasons.{IsOfSolve, IsOfOpening, IsLasting, GainsReasons}
 use Rattle.pass_core.proofs.Leaving.{answering}
 
 -- nothing stops the method that didn't before
@@ -85,7 +86,8 @@ wider_reasons Is Js a b f g = record {
 }
 
 -- another case in which the method is stuck
-wider_solve : (A B : Type 0) (k allowed : ℕ) (all : Solved) → (A → B) → (why : Open) → IsOfSolve k allowed all A why → IsOfSolve k allowed all B why
+wider_solve : (A B : Type 0) (k allowed : ℕ) (all : Solved) → (A → B) → (why : Open) → IsOfSolve k allowed all A why
+    → IsOfSolve k allowed all B why
 wider_solve A B k allowed all f (reason.Solves n) h = (h.0, f h.1)
 wider_solve A B k allowed all f (reason.Pivots j) h = h
 wider_solve A B k allowed all f (reason.Passed place o) h = h

@@ -35,7 +35,8 @@ pub solved_by : (p : Program) (tree : Tree) (s : State) (counts : Counts) (m : M
     → IsAnswer t all
     → OnOk r (EndsSolve (EndsBy t.trial all) (record s { counts = counts }) new (read_machine p (record s { counts = counts }) m n i frame b)
     (begun_flight p (record s { counts = counts }) m n i frame b)) → OnOk r (KeepsPoints p (record s { counts = counts }) new)
-    → OnOk r (GainsReasons (IsOfSolve counts.all s.budget.solves all (IsStuck s.kind s.banks n t.trial all)) (record s { counts = counts }) new)
+    → OnOk r (GainsReasons (IsOfSolve counts.all s.budget.solves all (IsStuck s.kind s.banks n t.trial all))
+    (record s { counts = counts }) new)
     → OnOk r (StaysInRun (record s { counts = counts }) new)
     → OnOk r (new.stop ≡ None → LeavesBy p tree n t.trial all (record s { counts = counts }) new) → OnOk r (SolvesNode p s m n new)
 solved_by p tree s counts m n i walk frame b t all new r raised task problem stand exact answer ends points reasons stays leaves =
@@ -54,7 +55,8 @@ solved_by p tree s counts m n i walk frame b t all new r raised task problem sta
       points = k stand;
       reasons = subst (λ (c : Counts). GainsReasons (IsOfSolve c.all s.budget.solves (node_solved t)
           (IsStuck s.kind s.banks n t.trial (node_solved t))) (record s { counts = c }) new) raised
-          (subst (λ (x : Solved). GainsReasons (IsOfSolve counts.all s.budget.solves x (IsStuck s.kind s.banks n t.trial x)) counted new) exact g);
+          (subst (λ (x : Solved). GainsReasons (IsOfSolve counts.all s.budget.solves x
+          (IsStuck s.kind s.banks n t.trial x)) counted new) exact g);
       stays = record { kind = y.kind; frame = y.frame; budget = y.budget; versions = y.versions };
       answer = subst (IsAnswer t) exact answer;
       leaves = λ other w stop.
@@ -98,7 +100,8 @@ step_solved p old s m n new e ready h = solves s.lasts n ready (record {
   points = h.points;
   reasons =
       let all = node_solved h.task in
-      let k = subst (λ (x : State). GainsReasons (IsOfSolve (with_commit x.counts).all x.budget.solves all (IsStuck x.kind x.banks n h.task.trial all))
+      let k = subst (λ (x : State). GainsReasons (IsOfSolve (with_commit x.counts).all x.budget.solves all
+      (IsStuck x.kind x.banks n h.task.trial all))
       (record x { counts = with_commit x.counts }) new) e h.reasons in
       record { counts = k.counts; stop = k.stop; lasting = k.lasting };
   stays = let k = subst (λ (x : State). StaysInRun x new) e h.stays in

@@ -137,7 +137,7 @@ answer_keeps (offer.NotNeeded value) s = same_pools s
 answer_keeps (offer.Stale node part seen known) s = pools_by s (after_answer (offer.Stale node part seen known) s) refl refl refl refl refl
 answer_keeps (offer.Passed o) s = pools_by s (after_answer (offer.Passed o) s) refl refl refl refl refl
 
-pools_there : (kind : Kind) (ps : List Held) (b : Banks) → pools_of kind (with_pools kind ps b) ≡ ps
+pub pools_there : (kind : Kind) (ps : List Held) (b : Banks) → pools_of kind (with_pools kind ps b) ≡ ps
 pools_there run_kind.Feasible ps b = refl
 pools_there run_kind.Recession ps b = refl
 pools_there run_kind.Cost ps b = refl

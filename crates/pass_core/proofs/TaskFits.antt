@@ -1,5 +1,5 @@
 -- The task of a node of a program fits together.
-use Rattle.std.proofs.Common.{◌≡◌, ℕ, zero, suc, ◌+◌, ◌<◌, ◌≤◌, ◌^◌, Bool, true, false, ◌&&◌, ◌||◌, eqb, leb, ltb, List, [], ◌∷◌, ◌++◌, Option, Some, None, Ok, IfSome, slice_get, length, map, refl, sym, ap, subst, ◌∙◌, arith, eqb-true, eq-eqb}
+use Rattle.std.proofs.Common.{◌≡◌, ℕ, zero, suc, ◌+◌, ◌<◌, ◌≤◌, ◌^◌, Bool, true, false, ◌&&◌, ◌||◌, eqb, leb, ltb, List, [], ◌∷◌, ◌++◌, Option, Some, None, Ok, slice_get, length, map, refl, sym, ap, subst, ◌∙◌, arith, eqb-true, eq-eqb}
 use Rattle.std.specs.Option.{option_map, option_to_list}
 use Rattle.std.proofs.lemmas.Bool.{leb-true, lt-ltb}
 use Rattle.std.proofs.lemmas.List.{length-map}
@@ -15,7 +15,6 @@ use Rattle.scen_defs.proofs.Valid.{each-place}
 use Rattle.scen_tree.specs.Trees.{Tree, tree_walk}
 use Rattle.cut_defs.specs.Data.{Datum, Book, bounds_of, share_of, is_own}
 use Rattle.cut_defs.specs.Stored.{Stored, source_of}
-use Rattle.cut_defs.specs.declared.datum.ColumnBounds.{ColumnBounds}
 use Rattle.cut_defs.specs.declared.datum.Share.{Share}
 use Rattle.edit_defs.specs.Data.{view_in}
 use Rattle.cut_pool.specs.Held.{Held}

@@ -1,5 +1,5 @@
 -- The state before anything is done on a program.
-use Rattle.std.specs.Prelude.{◌≡◌, ℕ, false, length, List, [], None, replicate}
+use Rattle.std.specs.Prelude.{◌≡◌, false, length, [], None, replicate}
 use Rattle.scen_defs.specs.Program.{Program}
 use Rattle.scen_defs.specs.declared.report.Kind.TheVariants.{Feasible}
 use Rattle.cut_banks.specs.Banks.{empty_banks}

@@ -10,6 +10,7 @@ use Rattle.scen_defs.specs.declared.report.Kind.TheVariants.{Cost}
 use Rattle.scen_tree.specs.Trees.{Tree, tree_walk}
 use Rattle.cut_defs.specs.Data.{Datum, bounds_of, share_of}
 use Rattle.edit_defs.specs.Data.{view_in}
+use Rattle.cut_banks.specs.declared.banks.Banks.{Banks}
 use Rattle.cut_banks.specs.Banks.{pools_of}
 use Rattle.cut_banks.specs.Pools.{cuts_of, cuts_read}
 use Rattle.node_lp.specs.declared.task.Task.{Task}
@@ -28,7 +29,7 @@ use Rattle.run_ends.specs.Lasts.{last_at, trial_of}
 use Rattle.pass_core.specs.declared.state.Counts.{Counts}
 use Rattle.pass_core.specs.declared.state.State.{State}
 use Rattle.pass_core.specs.Counting.{with_commit}
-use Rattle.pass_core.specs.Reasons.{PassesInJoin, IsStuck, IsOfSolve, IsOfOpening, GainsReasons}
+use Rattle.pass_core.specs.Reasons.{PassesInJoin, IsStuck, IsStuckBefore, IsOfSolve, IsOfOpening, GainsReasons}
 use Rattle.pass_core.specs.Tabled.{HasRoom, IsTabledBy, committed_with, EndsBegun, Opens}
 use Rattle.pass_core.specs.Left.{StaysInRun, LeavesBy, places_in, next_kind, OpensRun}
 
@@ -117,13 +118,18 @@ pub record StaysReady (p : Program) (old : State) (m : Machine) (new : State) : 
   pub ready : AreReady old new.lasts
   pub tabled : IsTabledBy p new m
 
+-- the method is stuck before the run behind the present one, with these pools
+abbrev pub IsStuckOpening : Program → State → Banks → Type 0
+IsStuckOpening p s banks = (tree : Tree) → tree_walk p ≡ Ok tree → IsStuckBefore (next_kind s.kind) p s.frame tree s.versions banks
+
 -- a step of a state whose table fits this machine, and whether it is told that something was done: no node may be begun, or there is no
 -- room for it, and nothing is found; the run is closed, and the next one opens or something stops the method; or the program of a node is
 -- solved, which alone is counted
 pub data MakesStep (p : Program) (old : State) (m : Machine) (new : State) : Bool → Type 0 where
   begins_none : (HasRoom m → (n : ℕ) → MayBegin m n → ⊥) → PointsStand p new.lasts.nodes.items
-      → GainsReasons (IsOfOpening old.budget.solves ⊤) old new → StaysReady p old m new → MakesStep p old m new false
-  opens_run : IsClosed m → Opens p m new → PointsStand p new.lasts.nodes.items → GainsReasons (IsOfOpening old.budget.solves ⊤) old new
+      → GainsReasons (IsOfOpening old.budget.solves ⊥) old new → StaysReady p old m new → MakesStep p old m new false
+  opens_run : IsClosed m → Opens p m new → PointsStand p new.lasts.nodes.items
+      → GainsReasons (IsOfOpening old.budget.solves (IsStuckOpening p old new.banks)) old new
       → (new.stop ≡ None → OpensRun old new) → MakesStep p old m new true
   solves : (lasts : Lasts) (n : ℕ) → AreReady old lasts → SolvesNode p (record old { lasts = lasts }) m n new → MakesStep p old m new true
 

@@ -133,7 +133,8 @@ impl State {
             → AreUpTo p (node_at p.nodes node).stage point → OnOk result (KeepsPoints p self.old self.new) }
         ensures made { (b : BankBooks) → IfSome cut (IsMadeAbout (run_book self.old.kind b) node)
             → OnOk result (KeepsMade b self.old self.new) }
-        ensures reasons { (all : SolvedOf) → let stuck = IsStuck self.old.kind self.old.banks node begun.now.task.trial (Solved.Point point value cut) in
+        ensures reasons { (all : SolvedOf) →
+            let stuck = IsStuck self.old.kind self.old.banks node begun.now.task.trial (Solved.Point point value cut) in
             OnOk result (GainsReasons (IsOfSolve self.old.counts.all self.old.budget.solves all stuck) self.old self.new) }
         ensures stays { OnOk result (StaysInRun self.old self.new) }
         ensures left { OnOk result (self.new.stop ≡ None → TakesPoint node begun.now.task.trial point value cut self.old self.new) }
@@ -189,7 +190,8 @@ impl State {
             → OnOk result (EndsSolve (EndsBy begun.now.task.trial (Solved.NoPoint cut)) self.old self.new m f) }
         ensures points { (p : ProgramOf) → OnOk result (KeepsPoints p self.old self.new) }
         ensures made { (b : BankBooks) → IsMadeAbout (run_book self.old.kind b) node cut → OnOk result (KeepsMade b self.old self.new) }
-        ensures reasons { (all : SolvedOf) → let stuck = IsStuck self.old.kind self.old.banks node begun.now.task.trial (Solved.NoPoint cut) in
+        ensures reasons { (all : SolvedOf) →
+            let stuck = IsStuck self.old.kind self.old.banks node begun.now.task.trial (Solved.NoPoint cut) in
             OnOk result (GainsReasons (IsOfSolve self.old.counts.all self.old.budget.solves all stuck) self.old self.new) }
         ensures stays { OnOk result (StaysInRun self.old self.new) }
         ensures left { OnOk result (self.new.stop ≡ None → LeavesNone node begun.now.task.trial cut self.old self.new) }

@@ -1,18 +1,20 @@
 //! The opening of the next run: each pool gets a cut that holds for every dual of the run before.
 
-ghost use Rattle.std.specs.Prelude.{◌≡◌, ◌+◌, ◌<◌, ◌^◌, ℕ, true, None, Ok, length, replicate, IfErr, IfOk, IfSome, OnOk, ⊤};
+ghost use Rattle.std.specs.Prelude.{◌≡◌, ◌+◌, ◌<◌, ◌^◌, ℕ, true, None, Ok, length, replicate, IfErr, IfOk, IfSome, IsSomeAnd, OnOk, Some};
 ghost use Rattle.scen_defs.specs.Lists.{Each, passes_at};
 ghost use Rattle.scen_defs.specs.Program.{content, is_live, Program as ProgramOf};
 ghost use Rattle.scen_defs.specs.Valid.{IsProgram, Lives};
+ghost use Rattle.scen_defs.specs.declared.report.Kind.{Kind as KindOf};
 ghost use Rattle.scen_tree.specs.Trees.{Tree as TreeOf, tree_walk};
-ghost use Rattle.cut_defs.specs.Stored.{IsMadeFor};
+ghost use Rattle.cut_defs.specs.Stored.{Stored, IsMadeFor};
 ghost use Rattle.node_lp.specs.Problem.{is_priced};
 ghost use Rattle.run_data.specs.Frames.{Frame as FrameOf, frame_of};
 ghost use Rattle.pass_table.specs.Machine.{Machine};
 ghost use Rattle.pass_core.specs.Explained.{AreExplained, FailsToOpen, IsCutOfSolve, KeepsExplained};
 ghost use Rattle.pass_core.specs.Made.{BankBooks, run_book, AreBooksOf, CutsAreMade, KeepsMade, IsGroundOf, HasGrounds, cuts_there};
 ghost use Rattle.pass_core.specs.Tabled.{IsTabledBy, KeepsTable, KeepsPools, Opens};
-ghost use Rattle.pass_core.specs.Reasons.{IsOfOpening, GainsReasons};
+ghost use Rattle.pass_core.specs.Reasons.{GroundsTo, LacksGround, FaultsGround, IsNotPut, RefusesGround};
+ghost use Rattle.pass_core.specs.Reasons.{IsStuckBefore, IsOfOpening, GainsReasons};
 ghost use Rattle.pass_core.specs.Turns.{KeepsPoints, Progresses};
 ghost use Rattle.pass_core.specs.Left.{next_kind, OpensRun};
 
@@ -78,8 +80,10 @@ fn shared(
 
 /// The multipliers of a cut.
 fn dual_of(alloc: Global, cut: &SharedCut) -> Result<Values, CutFault>
-    ensures { (p : ProgramOf) (frame : FrameOf) (tree : TreeOf) (pivots : ℕ)
+    ensures fails { (p : ProgramOf) (frame : FrameOf) (tree : TreeOf) (pivots : ℕ)
         → IsCutOfSolve p frame tree pivots cut.now → IfErr result (FailsToOpen p frame tree pivots) }
+    // it is never not good
+    ensures good { IfErr result (λ fault. fault ≡ CutFault.NotGood → ⊥) }
 {
     Ok(assemble(alloc, cut.cut())?)
 }
@@ -100,7 +104,9 @@ impl State {
         ensures made { let p = content program.now in (b : BankBooks) → IsProgram p → tree_walk p ≡ Ok tree.now
             → self.old.frame ≡ frame_of p → AreBooksOf p self.old.versions b → CutsAreMade b self.old
             → OnOk result (CutsAreMade b self.new) }
-        ensures reasons { OnOk result (GainsReasons (IsOfOpening self.old.budget.solves ⊤) self.old self.new) }
+        ensures reasons { let stuck = IsStuckBefore (next_kind self.old.kind) (content program.now) self.old.frame tree.now
+            self.old.versions self.new.banks in
+            OnOk result (GainsReasons (IsOfOpening self.old.budget.solves stuck) self.old self.new) }
         ensures opened { OnOk result (self.new.stop ≡ None → OpensRun self.old self.new) }
         // behind a run that isn't a Cost run it opens the next one, or stops the method
         ensures progress { (self.old.kind ≡ Kind.Cost → ⊥) → OnOk result (Progresses self.old self.new) }
@@ -119,7 +125,10 @@ impl State {
         ensures pools { OnOk result (KeepsPools self.old self.new) }
         ensures made { (b : BankBooks) → OnOk result (KeepsMade b self.old self.new) }
         ensures points { (p : ProgramOf) → OnOk result (KeepsPoints p self.old self.new) }
-        ensures reasons { OnOk result (GainsReasons (IsOfOpening self.old.budget.solves ⊤) self.old self.new) }
+        ensures reasons { (kind : KindOf) (p : ProgramOf) (tree : TreeOf)
+            → FaultsGround kind p self.old.frame tree self.old.versions fault
+            → let stuck = LacksGround kind p self.old.frame tree self.old.versions in
+            OnOk result (GainsReasons (IsOfOpening self.old.budget.solves stuck) self.old self.new) }
         ensures stops { OnOk result (self.new.stop ≡ None → ⊥) }
         ensures budget { OnOk result (self.new.budget ≡ self.old.budget) }
     {
@@ -146,6 +155,9 @@ impl State {
     ) -> Result<Vec<Option<SharedCut>>, CutFault>
         ensures fails { AreExplained (content program.now) tree.now self.now
             → IfErr result (FailsToOpen (content program.now) self.now.frame tree.now self.now.budget.pivots) }
+        ensures lacks { IfErr result (FaultsGround kind (content program.now) self.now.frame tree.now self.now.versions) }
+        ensures grounds { let p = content program.now in IfOk result (λ cuts.
+            Each (λ place. IfSome place (λ cut. GroundsTo kind p self.now.frame tree.now (Some cut))) cuts.items) }
         ensures made { let p = content program.now in (b : BankBooks) → is_priced kind ≡ true → IsProgram p → tree_walk p ≡ Ok tree.now
             → self.now.frame ≡ frame_of p → AreBooksOf p self.now.versions b
             → IfOk result (λ cuts. Each (λ place. IfSome place (IsMadeFor (run_book kind b))) cuts.items) }
@@ -158,8 +170,9 @@ impl State {
 
     /// The dual whose cuts the next run begins with.
     fn opening_dual(&self, alloc: Global) -> Result<Values, CutFault>
-        ensures { (p : ProgramOf) (tree : TreeOf) → AreExplained p tree self.now
+        ensures fails { (p : ProgramOf) (tree : TreeOf) → AreExplained p tree self.now
             → IfErr result (FailsToOpen p self.now.frame tree self.now.budget.pivots) }
+        ensures good { IfErr result (λ fault. fault ≡ CutFault.NotGood → ⊥) }
     {
         match (self.kind, &self.ends.root) {
             (Kind::Recession, Some(root)) => dual_of(alloc, root),
@@ -177,6 +190,9 @@ impl State {
         dual: &Values,
     ) -> Result<Vec<Option<SharedCut>>, CutFault>
         ensures fails { IfErr result (FailsToOpen (content program.now) self.now.frame tree.now self.now.budget.pivots) }
+        ensures lacks { IfErr result (FaultsGround kind (content program.now) self.now.frame tree.now self.now.versions) }
+        ensures grounds { let p = content program.now in IfOk result (λ cuts.
+            Each (λ place. IfSome place (λ cut. GroundsTo kind p self.now.frame tree.now (Some cut))) cuts.items) }
         ensures made { let p = content program.now in (b : BankBooks) → is_priced kind ≡ true → IsProgram p → tree_walk p ≡ Ok tree.now
             → self.now.frame ≡ frame_of p → AreBooksOf p self.now.versions b
             → IfOk result (λ cuts. Each (λ place. IfSome place (IsMadeFor (run_book kind b))) cuts.items) }
@@ -207,6 +223,9 @@ impl State {
         cuts: &[Option<SharedCut>],
     ) -> Result<SharedCut, CutFault>
         ensures fails { IfErr result (FailsToOpen (content program.now) self.now.frame tree.now self.now.budget.pivots) }
+        ensures lacks { let p = content program.now in Lives p node
+            → IfErr result (FaultsGround kind p self.now.frame tree.now self.now.versions) }
+        ensures makes { let p = content program.now in IfOk result (λ cut. GroundsTo kind p self.now.frame tree.now (Some cut)) }
         ensures ground { let p = content program.now in (b : BankBooks) → is_priced kind ≡ true → IsProgram p → tree_walk p ≡ Ok tree.now
             → self.now.frame ≡ frame_of p → AreBooksOf p self.now.versions b → Lives p node
             → HasGrounds p (run_book kind b) (node + 1) cuts.now → IfOk result (IsGroundOf (run_book kind b) node) }
@@ -232,7 +251,10 @@ impl State {
         ensures points { (p : ProgramOf) → OnOk result (KeepsPoints p self.old self.new) }
         ensures made { (b : BankBooks) → Each (λ place. IfSome place (IsMadeFor (run_book kind b))) cuts.items → CutsAreMade b self.old
             → OnOk result (CutsAreMade b self.new) }
-        ensures reasons { OnOk result (GainsReasons (IsOfOpening self.old.budget.solves ⊤) self.old self.new) }
+        ensures reasons { (p : ProgramOf) (tree : TreeOf)
+            → Each (λ place. IfSome place (λ cut. GroundsTo kind p self.old.frame tree (Some cut))) cuts.items
+            → let stuck = RefusesGround kind p self.old.frame tree self.new.banks in
+            OnOk result (GainsReasons (IsOfOpening self.old.budget.solves stuck) self.old self.new) }
         ensures opened { kind ≡ next_kind self.old.kind → OnOk result (OpensRun self.old self.new) }
     {
         self.put_all(kind, &cuts)?;
@@ -250,7 +272,10 @@ impl State {
         ensures kept { OnOk result (KeepsTable self.old self.new) }
         ensures made { (b : BankBooks) → Each (λ place. IfSome place (IsMadeFor (run_book kind b))) cuts.now
             → OnOk result (KeepsMade b self.old self.new) }
-        ensures reasons { OnOk result (GainsReasons (IsOfOpening self.old.budget.solves ⊤) self.old self.new) }
+        ensures reasons { (p : ProgramOf) (tree : TreeOf)
+            → Each (λ place. IfSome place (λ cut. GroundsTo kind p self.old.frame tree (Some cut))) cuts.now
+            → let stuck = RefusesGround kind p self.old.frame tree self.new.banks in
+            OnOk result (GainsReasons (IsOfOpening self.old.budget.solves stuck) self.old self.new) }
         ensures others { OnOk result (self.new ≡ record self.old { banks = self.new.banks; stop = self.new.stop }) }
     {
         for place in cuts {
@@ -264,7 +289,10 @@ impl State {
         ensures explained { (p : ProgramOf) (tree : TreeOf) → OnOk result (KeepsExplained p tree self.old self.new) }
         ensures kept { OnOk result (KeepsTable self.old self.new) }
         ensures made { (b : BankBooks) → IfSome place.now (IsMadeFor (run_book kind b)) → OnOk result (KeepsMade b self.old self.new) }
-        ensures reasons { OnOk result (GainsReasons (IsOfOpening self.old.budget.solves ⊤) self.old self.new) }
+        ensures reasons { let stuck = IsSomeAnd place.now (IsNotPut kind self.new.banks) in
+            OnOk result (GainsReasons (IsOfOpening self.old.budget.solves stuck) self.old self.new) }
+        // a cut that couldn't be put can't be put from then on
+        ensures still { (cut : Stored) → IsNotPut kind self.old.banks cut → OnOk result (IsNotPut kind self.new.banks cut) }
         ensures others { OnOk result (self.new ≡ record self.old { banks = self.new.banks; stop = self.new.stop }) }
     {
         let Some(cut) = place else {

@@ -8,7 +8,7 @@ use Rattle.scen_model.proofs.WalkEnds.{ended}
 use Rattle.cut_defs.specs.declared.datum.Share.{Share}
 use Rattle.cut_defs.specs.declared.kinds.CutKind.TheVariants.{Bound}
 use Rattle.cut_defs.specs.Data.{Datum}
-use Rattle.cut_defs.specs.Stored.{Source, Stored, StoredUses, source_of, uses_of, constant_of, form_of}
+use Rattle.cut_defs.specs.Stored.{Source, Stored, StoredUses, source_of, uses_of, constant_of, form_of, IsMadeFrom}
 use Rattle.cut_defs.specs.Stored.StoredUses.{No_stored, Use_stored}
 use Rattle.cut_sums.specs.Walks.{made}
 use Rattle.cut_proof.specs.Repairing.{snoc}

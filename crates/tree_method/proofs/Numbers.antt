@@ -14,11 +14,11 @@ use Rattle.run_ends.specs.declared.last.Lasts.{Lasts}
 use Rattle.pass_table.specs.Machine.{Machine}
 use Rattle.pass_core.specs.declared.budget.Budget.{Budget}
 use Rattle.pass_core.specs.declared.state.State.{State}
-use Rattle.pass_core.specs.Beginning.{IsBeginning, StartsOver}
+use Rattle.pass_core.specs.Beginning.{IsBeginning}
 use Rattle.pass_core.specs.Counting.{with_commit, after_report}
 use Rattle.pass_core.specs.Explained.{IsUnstopped}
 use Rattle.pass_core.specs.Reasons.{HasReason, IsAtSolve, IsStuck, IsOfSolve, IsOfOpening, IsLasting, GainsReasons}
-use Rattle.pass_core.specs.Turns.{SolvesNode, AreReady, MakesStep, begins_none, opens_run, solves}
+use Rattle.pass_core.specs.Turns.{IsStuckOpening, SolvesNode, AreReady, MakesStep, begins_none, opens_run, solves}
 use Rattle.edit_defs.specs.declared.edit.Edit.{Edit}
 use Rattle.edit_defs.specs.After.{after}
 use Rattle.run_ends.specs.Settled.{why_open}
@@ -140,9 +140,10 @@ module _ (p : Program) (old : State) where
 
       go : (b : Bool) → MakesStep p mid m new b → HasReason old why ⊎ Arises p old new why
       go b (begins_none rests points reasons ready) =
-          opened mid.budget.solves (Unit {0}) (gained (IsOfOpening mid.budget.solves (Unit {0})) mid new why reasons h)
+          opened mid.budget.solves ⊥ (gained (IsOfOpening mid.budget.solves ⊥) mid new why reasons h)
       go b (opens_run closed opens points reasons run) =
-          opened mid.budget.solves (Unit {0}) (gained (IsOfOpening mid.budget.solves (Unit {0})) mid new why reasons h)
+          opened mid.budget.solves (IsStuckOpening p mid new.banks)
+          (gained (IsOfOpening mid.budget.solves (IsStuckOpening p mid new.banks)) mid new why reasons h)
       go b (solves lasts n ready node) =
           elim (gained (IsOfThis mid n node.task) (record mid { lasts = lasts; counts = with_commit mid.counts }) new why node.reasons h) [
             | inl x ↦ kept (rest x)
@@ -165,8 +166,9 @@ module _ (p : Program) (old : State) where
       by Is (inr i) = i.1
 
       go : (b : Bool) → MakesStep p mid m new b → IsLasting why
-      go b (begins_none rests points reasons ready) = by (IsOfOpening mid.budget.solves (Unit {0})) (reasons.lasting why e)
-      go b (opens_run closed opens points reasons run) = by (IsOfOpening mid.budget.solves (Unit {0})) (reasons.lasting why e)
+      go b (begins_none rests points reasons ready) = by (IsOfOpening mid.budget.solves ⊥) (reasons.lasting why e)
+      go b (opens_run closed opens points reasons run) =
+          by (IsOfOpening mid.budget.solves (IsStuckOpening p mid new.banks)) (reasons.lasting why e)
       go b (solves lasts n ready node) = by (IsOfThis mid n node.task) (node.reasons.lasting why e)
 
   -- what lasts for a run is told of a cut or of a cost

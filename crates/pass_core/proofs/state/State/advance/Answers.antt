@@ -7,11 +7,10 @@ use Rattle.scen_defs.specs.declared.report.Kind.TheVariants.{Cost}
 use Rattle.pass_core.specs.declared.state.State.{State}
 use Rattle.pass_core.specs.Turns.{EndsAnyhow}
 use Rattle.pass_core.specs.Turns.MakesStep.{begins_none, opens_run}
-use Rattle.proved_report.specs.declared.open.Open.{Open}
-use Rattle.pass_core.specs.declared.budget.Budget.{Budget}
-use Rattle.pass_core.specs.Reasons.{IsOfOpening, GainsReasons}
+use Rattle.pass_core.specs.Reasons.{IsOfOpening}
 use Rattle.pass_core.proofs.Progressing.{ready_progresses, ready_rests}
-use Rattle.pass_core.proofs.Reasoning.{ready_gains, then_reasons}
+use Rattle.pass_core.proofs.Reasoning.{ready_gains}
+use Rattle.pass_core.proofs.Grounding.{opening_stuck}
 use Rattle.pass_core.proofs.Solving.{solves_before, step_solved}
 use Rattle.pass_core.proofs.Leaving.{ready_stays, ready_opens}
 use Rattle.pass_core.specs.Tabled.{IsTabledBy, HasRoom, IsBegunBy}
@@ -63,7 +62,8 @@ returns-then-not-has_room-clause-solves c = λ m i walk frame t stand.
     let s = c.get_ready.new.self in
     let u : IsTabledBy p s m = ready_tabled p m c.args.self.now s t c.in_ok-get_ready.ensures.others c.in_ok-get_ready.ensures.begun in
     begins_none (λ room n may. let no : false ≡ true = c.if-not-has_room.ensures.1 (room_in m s.table u.fits room) in absurd (cc))
-    (c.in_ok-get_ready.ensures.points p stand) (ready_gains (IsOfOpening c.args.self.now.budget.solves (Unit {0})) c.args.self.now s c.in_ok-get_ready.ensures.others)
+    (c.in_ok-get_ready.ensures.points p stand)
+    (ready_gains (IsOfOpening c.args.self.now.budget.solves ⊥) c.args.self.now s c.in_ok-get_ready.ensures.others)
     (record {
       run = ready_stays c.args.self.now s c.in_ok-get_ready.ensures.others;
       banks = ap (λ (x : State). x.banks) c.in_ok-get_ready.ensures.others;
@@ -81,10 +81,8 @@ returns-then-ne-clause-solves c = λ m i walk frame t stand.
     let room : HasRoom m = room_of m s.table u.fits (c.if-not-has_room.ensures.0 refl) in
     opens_run ((c.if-is_closed.ensures.meaning m u.fits).0 refl) (c.in_ok-open_next.ensures.tabled p m u c.in_ok-get_ready.ensures.begun room.1)
     (c.in_ok-open_next.ensures.points p (c.in_ok-get_ready.ensures.points p stand))
-    (let is : Open → Type 0 = IsOfOpening c.args.self.now.budget.solves (Unit {0}) in
-    then_reasons is c.args.self.now s c.open_next.new.self (ready_gains is c.args.self.now s c.in_ok-get_ready.ensures.others)
-    (subst (λ (b : Budget). GainsReasons (IsOfOpening b.solves (Unit {0})) s c.open_next.new.self) (ap (λ (x : State). x.budget) c.in_ok-get_ready.ensures.others)
-    c.in_ok-open_next.ensures.reasons))
+    (opening_stuck p c.args.tree.now c.args.self.now s c.open_next.new.self c.in_ok-get_ready.ensures.others walk
+    c.in_ok-open_next.ensures.reasons)
     (λ stop. ready_opens c.args.self.now s c.open_next.new.self c.in_ok-get_ready.ensures.others (c.in_ok-open_next.ensures.opened stop))
 
 pub returns-in_ok-solve-in-Some-clause-solves : goal.returns-in_ok-solve-in-Some-clause-solves
@@ -107,7 +105,7 @@ returns-in-None-clause-solves c = λ m i walk frame t stand.
     let u : IsTabledBy p s m = ready_tabled p m c.args.self.now s t c.in_ok-get_ready.ensures.others c.in_ok-get_ready.ensures.begun in
     let none = c.in-None.ensures m u.valid u.fits (u.idle 0) in
     begins_none (λ room. none.0) (c.in_ok-get_ready.ensures.points p stand)
-    (let g = ready_gains (IsOfOpening c.args.self.now.budget.solves (Unit {0})) c.args.self.now s c.in_ok-get_ready.ensures.others in
+    (let g = ready_gains (IsOfOpening c.args.self.now.budget.solves ⊥) c.args.self.now s c.in_ok-get_ready.ensures.others in
     record { counts = g.counts; stop = g.stop; lasting = g.lasting })
     (let stays = ready_stays c.args.self.now s c.in_ok-get_ready.ensures.others in
     record {

@@ -14,7 +14,7 @@ use Rattle.pass_core.proofs.Explaining.{then_kept, left_kept, point_gives, point
 use Rattle.pass_core.specs.Made.{run_book, IsMadeAbout, KeepsMade}
 use Rattle.pass_core.proofs.Making.{then_made}
 use Rattle.pass_core.specs.Reasons.{IsStuck, IsOfSolve, GainsReasons}
-use Rattle.pass_core.proofs.Reasoning.{solve_reasons, stopped_reasons, stuck_wider}
+use Rattle.pass_core.proofs.Reasoning.{solve_reasons, stuck_wider}
 use Rattle.pass_core.specs.Left.{StaysInRun, LeavesNone, LeavesBy}
 use Rattle.pass_core.proofs.Leaving.{stays_then, stopped_stays, not_stopped, left_by, point_completed}
 use Rattle.pass_core.proofs.state.State.commit.Goals as goal

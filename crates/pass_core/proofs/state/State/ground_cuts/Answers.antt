@@ -5,12 +5,19 @@ use Rattle.scen_defs.specs.Program.{content}
 use Rattle.scen_defs.specs.Valid.{Lives}
 use Rattle.cut_defs.specs.Stored.{Stored, IsMadeFor}
 use Rattle.pass_core.specs.Made.{run_book, HasGrounds, IsGroundOf}
+use Rattle.pass_core.specs.Reasons.{GroundsTo}
+use Rattle.pass_core.proofs.Grounding.{each_none}
 use Rattle.pass_core.proofs.Making.{none_made, none_ground, ground_past, ground_put, each_set, places_of_nodes, set_long}
 use Rattle.pass_core.proofs.state.State.ground_cuts.Goals as goal
 
 pub loop-node-init : goal.loop-node-init
 loop-node-init c = record {
   long = ap (λ (xs : List (Option Stored)). length xs) c.in_ok-cuts.ensures ∙ length-replicate c.nodes-nodes.result None;
+  grounds = subst (Each (λ (place : Option Stored). IfSome place (λ cut.
+      GroundsTo c.args.kind (content c.args.program.now) c.args.self.now.frame c.args.tree.now (Some cut))))
+      (sym c.in_ok-cuts.ensures)
+      (each_none (λ cut. GroundsTo c.args.kind (content c.args.program.now) c.args.self.now.frame c.args.tree.now (Some cut))
+      c.nodes-nodes.result);
   made = λ b priced i walk frame right. (
     none_ground (content c.args.program.now) (run_book c.args.kind b) c.nodes-nodes.result c.in_ok-cuts.cuts.items
         (places_of_nodes (content c.args.program.now) c.args.self.now.frame c.nodes-nodes.result i frame c.nodes-nodes.ensures),
@@ -21,6 +28,7 @@ loop-node-init c = record {
 pub loop-node-preserved-then-not-is_live : goal.loop-node-preserved-then-not-is_live
 loop-node-preserved-then-not-is_live c = record {
   long = c.loop-node.invariant.long;
+  grounds = c.loop-node.invariant.grounds;
   made = λ b priced i walk frame right.
       let p = content c.args.program.now in
       let h = c.loop-node.invariant.made b priced i walk frame right in
@@ -34,6 +42,9 @@ loop-node-preserved-then-not-is_live c = record {
 pub loop-node-preserved-then-node-len : goal.loop-node-preserved-then-node-len
 loop-node-preserved-then-node-len c = record {
   long = set_long c.loop-node.cuts.items (c.loop-node.node - 1) (Some c.in_ok-cut.cut) c.nodes-nodes.result c.loop-node.invariant.long;
+  grounds = each_set (λ (place : Option Stored). IfSome place (λ cut.
+      GroundsTo c.args.kind (content c.args.program.now) c.args.self.now.frame c.args.tree.now (Some cut)))
+      c.loop-node.cuts.items (c.loop-node.node - 1) (Some c.in_ok-cut.cut) c.loop-node.invariant.grounds c.in_ok-cut.ensures.makes;
   made = λ b priced i walk frame right.
       let p = content c.args.program.now in
       let h = c.loop-node.invariant.made b priced i walk frame right in
@@ -53,6 +64,9 @@ loop-node-preserved-then-node-len c = record {
 pub loop-node-preserved-then-node-len-2 : goal.loop-node-preserved-then-node-len-2
 loop-node-preserved-then-node-len-2 c = record {
   long = set_long c.loop-node.cuts.items (c.loop-node.node - 1) (Some c.in_ok-cut.cut) c.nodes-nodes.result c.loop-node.invariant.long;
+  grounds = each_set (λ (place : Option Stored). IfSome place (λ cut.
+      GroundsTo c.args.kind (content c.args.program.now) c.args.self.now.frame c.args.tree.now (Some cut)))
+      c.loop-node.cuts.items (c.loop-node.node - 1) (Some c.in_ok-cut.cut) c.loop-node.invariant.grounds c.in_ok-cut.ensures.makes;
   made = λ b priced i walk frame right.
       let p = content c.args.program.now in
       let h = c.loop-node.invariant.made b priced i walk frame right in
@@ -71,3 +85,6 @@ loop-node-preserved-then-node-len-2 c = record {
 
 pub returns-clause-made : goal.returns-clause-made
 returns-clause-made c = λ b priced i walk frame right. (c.loop-node.invariant.made b priced i walk frame right).1
+
+pub returns-clause-grounds : goal.returns-clause-grounds
+returns-clause-grounds c = c.loop-node.invariant.grounds

@@ -24,7 +24,8 @@ returns-in-Err-Passed-clause-reasons c = λ all.
     let e = c.left_stuck.ensures.others in
     let passes : (p : Operation) × (kept old.lasts.nodes.items c.args.node trial c.args.point ≡ Err p) = (
       c.in-Err-Passed.field-0-0,
-      subst (λ (r : Result (Unit {0}) FormFault). KeepsPoint (kept old.lasts.nodes.items c.args.node trial c.args.point) r c.keep.new.self.nodes.items)
+      subst (λ (r : Result (Unit {0}) FormFault).
+          KeepsPoint (kept old.lasts.nodes.items c.args.node trial c.args.point) r c.keep.new.self.nodes.items)
           (c.in-Err-Passed.is ∙ ap (λ (f : FormFault). Err f) c.in-Err-Passed.field-0-is) c.keep.ensures.walk,
     ) in
     stopped_reasons (IsOfSolve old.counts.all old.budget.solves all (PassesInJoin trial c.args.point)) old c.left_stuck.new.self

@@ -1,9 +1,11 @@
-use Rattle.std.proofs.Common.{◌≡◌, ◌∙◌, Some, Option, IsSome, IfSome, map, refl, sym, ap, subst}
+use Rattle.std.proofs.Common.{◌≡◌, ◌∙◌, Some, None, Option, IsSome, IfSome, map, refl, sym, ap, subst}
 use Rattle.scen_defs.specs.Program.{content}
 use Rattle.cut_defs.specs.Data.{Datum, IsDatum}
 use Rattle.run_data.specs.Frames.{Frame, children_in, frame_of}
 use Rattle.run_data.specs.NodeData.{share_in, node_datum}
 use Rattle.run_data.specs.Counts.{version_of}
+use Rattle.run_data.specs.declared.versions.Version.{Version}
+use Rattle.pass_core.specs.Reasons.{no_datum}
 use Rattle.pass_core.specs.Turns.{datum_in}
 use Rattle.pass_core.specs.Made.{cuts_there}
 use Rattle.pass_core.proofs.TaskFits.{program_book, is_in}
@@ -30,3 +32,12 @@ returns-clause-ground c = λ b priced i walk frame right lives h.
     c.deref.ensures.value ∙ c.in_ok-below.ensures ∙ ap (cuts_there c.args.cuts.now) (c.children.ensures ∙ ap (λ (f : Frame). children_in f c.args.node) frame) in
     ground_made c.args.kind p tree s c.args.node b c.args.cuts.now c.in-Some.datum c.total.result c.args.dual.now c.deref.result.now c.ground_cut.result
     priced i right lives h stated is shares below c.ground_cut.ensures.walk c.ground_cut.ensures.made
+
+pub returns-in_default-clause-lacks : goal.returns-in_default-clause-lacks
+returns-in_default-clause-lacks c = λ lives.
+    let p = content c.args.program.now in
+    let s = c.args.self.now in
+    let datum : Version → Datum = λ v. node_datum c.args.kind p s.frame c.args.tree.now c.args.node v.rows v.costs in
+    no_datum c.args.node lives (λ d.
+    let no : IsSome {T = Datum} None = subst (λ (o : Option Datum). IsSome o) c.in_default.is
+    (c.in_ok-datum.ensures.found.1 (lives, subst (λ (v : Version). IsDatum (datum v)) (sym c.of-version.ensures) d)) in absurd (cc))

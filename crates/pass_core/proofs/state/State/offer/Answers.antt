@@ -14,7 +14,8 @@ use Rattle.pass_core.proofs.Making.{offered_have, bank_changed, banks_made, answ
 use Rattle.pass_core.specs.Reasons.{IsStale, IsRefused, IsOfSolve, GainsReasons}
 use Rattle.proved_report.specs.declared.open.Open.{Open}
 use Rattle.proved_report.specs.declared.open.Open.TheVariants.{Solves}
-use Rattle.pass_core.proofs.Reasoning.{same_reasons, stopped_reasons, then_reasons, stuck_wider, answered_reasons, unanswered_refused, stale_refused}
+use Rattle.pass_core.proofs.Reasoning.{same_reasons, stopped_reasons, then_reasons, stuck_wider, answered_reasons}
+use Rattle.pass_core.proofs.Reasoning.{unanswered_refused, stale_refused}
 use Rattle.pass_core.proofs.Leaving.{stays_as, answer_stays, answer_ends, not_stopped, offered_taken}
 use Rattle.pass_core.proofs.state.State.offer.Goals as goal
 

@@ -1,14 +1,12 @@
-use Rattle.std.proofs.Common.{List, Option, None, replicate, IfSome, refl, sym, ap, subst, ◌∙◌}
+use Rattle.std.proofs.Common.{Option, Some, None, replicate, IfSome, refl, sym, ap, subst, ◌∙◌}
 use Rattle.scen_defs.specs.Lists.{Each}
 use Rattle.cut_defs.specs.Stored.{Stored, IsMadeFor}
 use Rattle.pass_core.specs.Made.{run_book}
+use Rattle.pass_core.specs.Reasons.{GroundsTo}
 use Rattle.pass_core.specs.Explained.{PointsAreFound}
-use Rattle.pass_core.specs.Left.{places_in}
 use Rattle.run_ends.specs.declared.ends.Ends.{Ends}
-use Rattle.run_ends.specs.declared.last.Last.{Last}
-use Rattle.run_ends.specs.Lasts.{last_at}
 use Rattle.pass_core.specs.declared.state.State.{State}
-use Rattle.pass_core.proofs.Standing.{none_stand, no_last}
+use Rattle.pass_core.proofs.Standing.{none_stand}
 use Rattle.pass_core.proofs.Tabling.{run_opened}
 use Rattle.pass_core.proofs.Explaining.{none_found}
 use Rattle.pass_core.proofs.state.State.open.Goals as goal
@@ -55,3 +53,12 @@ returns-clause-opened c = λ k.
       budget = ap (λ (s : State). s.budget) e;
       versions = ap (λ (s : State). s.versions) e;
     }
+
+pub returns-clause-reasons : goal.returns-clause-reasons
+returns-clause-reasons c = λ p tree all.
+    let each : Each (λ (place : Option Stored). IfSome place (λ cut. GroundsTo c.args.kind p c.args.self.now.frame tree (Some cut)))
+    c.deref.result.now =
+    subst (Each (λ (place : Option Stored). IfSome place (λ cut. GroundsTo c.args.kind p c.args.self.now.frame tree (Some cut))))
+    (sym c.deref.ensures.value) all in
+    let h = c.in_ok-put_all.ensures.reasons p tree each in
+    record { counts = h.counts; stop = h.stop; lasting = λ why e. absurd (cc) }

@@ -1,11 +1,11 @@
-use Rattle.std.proofs.Common.{◌≡◌, IfSome}
+use Rattle.std.proofs.Common.{◌≡◌, Some, IfSome}
 use Rattle.scen_defs.specs.Lists.{Each}
 use Rattle.scen_defs.specs.Program.{Program}
 use Rattle.cut_defs.specs.Stored.{IsMadeFor}
 use Rattle.pass_core.specs.Made.{BankBooks, run_book, KeepsMade}
 use Rattle.scen_tree.specs.Trees.{Tree}
 use Rattle.pass_core.specs.Explained.{KeepsExplained}
-use Rattle.pass_core.specs.Reasons.{IsOfOpening, GainsReasons}
+use Rattle.pass_core.specs.Reasons.{GroundsTo, RefusesGround, IsOfOpening, GainsReasons}
 use Rattle.pass_core.specs.Tabled.{KeepsTable}
 use Rattle.pass_core.proofs.state.State.put_all.Given as goal
 
@@ -15,5 +15,8 @@ invariant-loop-place l = record {
   made : (b : BankBooks) → Each (λ place. IfSome place (IsMadeFor (run_book l.kind b))) l.cuts → KeepsMade b l.initial.self l.self;
   kept : KeepsTable l.initial.self l.self;
   others : l.self ≡ record l.initial.self { banks = l.self.banks; stop = l.self.stop };
-  reasons : GainsReasons (IsOfOpening l.initial.self.budget.solves (Unit {0})) l.initial.self l.self;
+  reasons : (p : Program) (tree : Tree)
+      → Each (λ place. IfSome place (λ cut. GroundsTo l.kind p l.initial.self.frame tree (Some cut))) l.cuts
+      → GainsReasons (IsOfOpening l.initial.self.budget.solves (RefusesGround l.kind p l.initial.self.frame tree l.self.banks))
+      l.initial.self l.self;
 }

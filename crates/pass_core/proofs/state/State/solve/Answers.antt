@@ -157,5 +157,6 @@ returns-clause-progress c =
     let all = c.in_ok-solved.solved in
     let counts = c.raise.new.self in
     counted_progresses c.commit.result
-    (IsOfSolve counts.all s.budget.solves all (IsStuck s.kind s.banks c.args.node c.in-Some.begun.task.trial all)) s c.commit.new.self counts
+    (IsOfSolve counts.all s.budget.solves all (IsStuck s.kind s.banks c.args.node c.in-Some.begun.task.trial all)) s
+    c.commit.new.self counts
     c.raise.ensures c.commit.ensures.reasons c.commit.ensures.stays

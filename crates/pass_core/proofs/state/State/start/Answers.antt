@@ -1,4 +1,4 @@
-use Rattle.std.proofs.Common.{ℕ, List, replicate, ap, subst, refl, ◌∙◌}
+use Rattle.std.proofs.Common.{ℕ, List, replicate, ap, refl, ◌∙◌}
 use Rattle.scen_defs.specs.Program.{content}
 use Rattle.run_data.specs.Frames.{Frame}
 use Rattle.cut_banks.specs.Banks.{empty_banks}

@@ -9,7 +9,7 @@ use Rattle.pass_core.specs.declared.state.State.{State}
 use Rattle.pass_core.specs.Left.{IsOffered, OffersCut, ends_behind}
 use Rattle.pass_core.specs.Reasons.{IsRefused, RefusesCut, IsOfSolve, GainsReasons}
 use Rattle.cut_banks.specs.Banks.{pools_of}
-use Rattle.pass_core.proofs.Reasoning.{same_reasons, stuck_wider, refused_above}
+use Rattle.pass_core.proofs.Reasoning.{stuck_wider, refused_above}
 use Rattle.pass_core.proofs.Explaining.{on_ok}
 use Rattle.pass_core.proofs.Leaving.{ends_stays, offers_above, root_offers, none_offers, behind_above, behind_root, behind_none}
 use Rattle.pass_core.proofs.state.State.take_bound.Goals as goal
