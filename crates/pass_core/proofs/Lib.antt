@@ -13,4 +13,5 @@ pub mod Solving
 pub mod Progressing
 pub mod Making
 pub mod MadeAfterEdits
+pub mod FirstCuts
 pub mod Assembling

@@ -1,11 +1,13 @@
 //! The opening of the next run: each pool gets a cut that holds for every dual of the run before.
 
-ghost use Rattle.std.specs.Prelude.{◌≡◌, ◌+◌, ◌<◌, ◌^◌, ℕ, true, None, Ok, length, replicate, IfErr, IfOk, IfSome, OnOk, ⊤};
+ghost use Rattle.std.specs.Prelude.{◌≡◌, ◌+◌, ◌<◌, ◌^◌, ℕ, true, List, None, Ok, length, replicate, IfErr, IfOk, IfSome, OnOk, ⊤};
 ghost use Rattle.scen_defs.specs.Lists.{Each, passes_at};
 ghost use Rattle.scen_defs.specs.Program.{content, is_live, Program as ProgramOf};
 ghost use Rattle.scen_defs.specs.Valid.{IsProgram, Lives};
+ghost use Rattle.scen_defs.specs.Values.{At};
 ghost use Rattle.scen_tree.specs.Trees.{Tree as TreeOf, tree_walk};
 ghost use Rattle.cut_defs.specs.Stored.{IsMadeFor};
+ghost use Rattle.dual_assemble.specs.Values.{assembled};
 ghost use Rattle.node_lp.specs.Problem.{is_priced};
 ghost use Rattle.run_data.specs.Frames.{Frame as FrameOf, frame_of};
 ghost use Rattle.pass_table.specs.Machine.{Machine};
@@ -13,8 +15,9 @@ ghost use Rattle.pass_core.specs.Explained.{AreExplained, FailsToOpen, IsCutOfSo
 ghost use Rattle.pass_core.specs.Made.{BankBooks, run_book, AreBooksOf, CutsAreMade, KeepsMade, IsGroundOf, HasGrounds, cuts_there};
 ghost use Rattle.pass_core.specs.Tabled.{IsTabledBy, KeepsTable, KeepsPools, Opens};
 ghost use Rattle.pass_core.specs.Reasons.{IsOfOpening, GainsReasons};
-ghost use Rattle.pass_core.specs.Turns.{KeepsPoints, Progresses};
+ghost use Rattle.pass_core.specs.Turns.{KeepsPoints, Progresses, IsFirstCut, AreFirstCuts, PutsFirstCuts};
 ghost use Rattle.pass_core.specs.Left.{next_kind, OpensRun};
+ghost use Rattle.pass_core.specs.Grounds.{OpeningDual, PutsCut, PutsCuts};
 
 use crate::state::State;
 use cut_proof::{CutFault, SharedCut};
@@ -78,8 +81,9 @@ fn shared(
 
 /// The multipliers of a cut.
 fn dual_of(alloc: Global, cut: &SharedCut) -> Result<Values, CutFault>
-    ensures { (p : ProgramOf) (frame : FrameOf) (tree : TreeOf) (pivots : ℕ)
+    ensures fails { (p : ProgramOf) (frame : FrameOf) (tree : TreeOf) (pivots : ℕ)
         → IsCutOfSolve p frame tree pivots cut.now → IfErr result (FailsToOpen p frame tree pivots) }
+    ensures walk { IfOk result (λ dual. assembled cut.now ≡ Ok dual) }
 {
     Ok(assemble(alloc, cut.cut())?)
 }
@@ -102,6 +106,8 @@ impl State {
             → OnOk result (CutsAreMade b self.new) }
         ensures reasons { OnOk result (GainsReasons (IsOfOpening self.old.budget.solves ⊤) self.old self.new) }
         ensures opened { OnOk result (self.new.stop ≡ None → OpensRun self.old self.new) }
+        ensures first { let p = content program.now in IsProgram p → tree_walk p ≡ Ok tree.now → self.old.frame ≡ frame_of p
+            → OnOk result (self.new.stop ≡ None → PutsFirstCuts p tree.now self.old self.new) }
         // behind a run that isn't a Cost run it opens the next one, or stops the method
         ensures progress { (self.old.kind ≡ Kind.Cost → ⊥) → OnOk result (Progresses self.old self.new) }
     {
@@ -149,6 +155,9 @@ impl State {
         ensures made { let p = content program.now in (b : BankBooks) → is_priced kind ≡ true → IsProgram p → tree_walk p ≡ Ok tree.now
             → self.now.frame ≡ frame_of p → AreBooksOf p self.now.versions b
             → IfOk result (λ cuts. Each (λ place. IfSome place (IsMadeFor (run_book kind b))) cuts.items) }
+        ensures first { let p = content program.now in IsProgram p → tree_walk p ≡ Ok tree.now → self.now.frame ≡ frame_of p
+            → IfOk result (λ cuts. (dual : List At) × (OpeningDual self.now.kind self.now.ends.root dual
+            × AreFirstCuts kind p tree.now self.now.versions dual cuts.items)) }
     {
         match self.opening_dual(alloc) {
             Ok(dual) => self.ground_cuts(alloc, program, tree, kind, &dual),
@@ -158,8 +167,9 @@ impl State {
 
     /// The dual whose cuts the next run begins with.
     fn opening_dual(&self, alloc: Global) -> Result<Values, CutFault>
-        ensures { (p : ProgramOf) (tree : TreeOf) → AreExplained p tree self.now
+        ensures fails { (p : ProgramOf) (tree : TreeOf) → AreExplained p tree self.now
             → IfErr result (FailsToOpen p self.now.frame tree self.now.budget.pivots) }
+        ensures dual { IfOk result (λ dual. OpeningDual self.now.kind self.now.ends.root dual) }
     {
         match (self.kind, &self.ends.root) {
             (Kind::Recession, Some(root)) => dual_of(alloc, root),
@@ -180,6 +190,8 @@ impl State {
         ensures made { let p = content program.now in (b : BankBooks) → is_priced kind ≡ true → IsProgram p → tree_walk p ≡ Ok tree.now
             → self.now.frame ≡ frame_of p → AreBooksOf p self.now.versions b
             → IfOk result (λ cuts. Each (λ place. IfSome place (IsMadeFor (run_book kind b))) cuts.items) }
+        ensures first { let p = content program.now in IsProgram p → tree_walk p ≡ Ok tree.now → self.now.frame ≡ frame_of p
+            → IfOk result (λ cuts. AreFirstCuts kind p tree.now self.now.versions dual.now cuts.items) }
     {
         let nodes = self.frame.nodes();
         let mut cuts = none(alloc, nodes)?;
@@ -210,6 +222,8 @@ impl State {
         ensures ground { let p = content program.now in (b : BankBooks) → is_priced kind ≡ true → IsProgram p → tree_walk p ≡ Ok tree.now
             → self.now.frame ≡ frame_of p → AreBooksOf p self.now.versions b → Lives p node
             → HasGrounds p (run_book kind b) (node + 1) cuts.now → IfOk result (IsGroundOf (run_book kind b) node) }
+        ensures first { let p = content program.now in IsProgram p → tree_walk p ≡ Ok tree.now → self.now.frame ≡ frame_of p → Lives p node
+            → IfOk result (IsFirstCut kind p tree.now self.now.versions dual.now cuts.now node) }
     {
         let version = self.versions.of(node);
         let Some(datum) = datum_of(alloc, program, &self.frame, tree, version, kind, node)? else {
@@ -234,6 +248,7 @@ impl State {
             → OnOk result (CutsAreMade b self.new) }
         ensures reasons { OnOk result (GainsReasons (IsOfOpening self.old.budget.solves ⊤) self.old self.new) }
         ensures opened { kind ≡ next_kind self.old.kind → OnOk result (OpensRun self.old self.new) }
+        ensures puts { OnOk result (self.new.stop ≡ None → PutsCuts kind cuts.items self.old.banks self.new.banks) }
     {
         self.put_all(kind, &cuts)?;
         self.kind = kind;
@@ -252,6 +267,7 @@ impl State {
             → OnOk result (KeepsMade b self.old self.new) }
         ensures reasons { OnOk result (GainsReasons (IsOfOpening self.old.budget.solves ⊤) self.old self.new) }
         ensures others { OnOk result (self.new ≡ record self.old { banks = self.new.banks; stop = self.new.stop }) }
+        ensures puts { OnOk result (self.new.stop ≡ None → PutsCuts kind cuts.now self.old.banks self.new.banks) }
     {
         for place in cuts {
             self.put(kind, place)?;
@@ -266,6 +282,7 @@ impl State {
         ensures made { (b : BankBooks) → IfSome place.now (IsMadeFor (run_book kind b)) → OnOk result (KeepsMade b self.old self.new) }
         ensures reasons { OnOk result (GainsReasons (IsOfOpening self.old.budget.solves ⊤) self.old self.new) }
         ensures others { OnOk result (self.new ≡ record self.old { banks = self.new.banks; stop = self.new.stop }) }
+        ensures puts { OnOk result (self.new.stop ≡ None → (self.old.stop ≡ None) × PutsCut kind place.now self.old.banks self.new.banks) }
     {
         let Some(cut) = place else {
             return Ok(());

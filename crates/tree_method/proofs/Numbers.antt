@@ -141,7 +141,7 @@ module _ (p : Program) (old : State) where
       go : (b : Bool) → MakesStep p mid m new b → HasReason old why ⊎ Arises p old new why
       go b (begins_none rests points reasons ready) =
           opened mid.budget.solves (Unit {0}) (gained (IsOfOpening mid.budget.solves (Unit {0})) mid new why reasons h)
-      go b (opens_run closed opens points reasons run) =
+      go b (opens_run closed opens points reasons run first) =
           opened mid.budget.solves (Unit {0}) (gained (IsOfOpening mid.budget.solves (Unit {0})) mid new why reasons h)
       go b (solves lasts n ready node) =
           elim (gained (IsOfThis mid n node.task) (record mid { lasts = lasts; counts = with_commit mid.counts }) new why node.reasons h) [
@@ -166,7 +166,7 @@ module _ (p : Program) (old : State) where
 
       go : (b : Bool) → MakesStep p mid m new b → IsLasting why
       go b (begins_none rests points reasons ready) = by (IsOfOpening mid.budget.solves (Unit {0})) (reasons.lasting why e)
-      go b (opens_run closed opens points reasons run) = by (IsOfOpening mid.budget.solves (Unit {0})) (reasons.lasting why e)
+      go b (opens_run closed opens points reasons run first) = by (IsOfOpening mid.budget.solves (Unit {0})) (reasons.lasting why e)
       go b (solves lasts n ready node) = by (IsOfThis mid n node.task) (node.reasons.lasting why e)
 
   -- what lasts for a run is told of a cut or of a cost

@@ -8,6 +8,7 @@ use Rattle.pass_core.specs.Turns.{datum_in}
 use Rattle.pass_core.specs.Made.{cuts_there}
 use Rattle.pass_core.proofs.TaskFits.{program_book, is_in}
 use Rattle.pass_core.proofs.Making.{ground_made}
+use Rattle.pass_core.proofs.FirstCuts.{first_made}
 use Rattle.pass_core.proofs.state.State.node_cut.Goals as goal
 
 pub returns-clause-ground : goal.returns-clause-ground
@@ -30,3 +31,21 @@ returns-clause-ground c = λ b priced i walk frame right lives h.
     c.deref.ensures.value ∙ c.in_ok-below.ensures ∙ ap (cuts_there c.args.cuts.now) (c.children.ensures ∙ ap (λ (f : Frame). children_in f c.args.node) frame) in
     ground_made c.args.kind p tree s c.args.node b c.args.cuts.now c.in-Some.datum c.total.result c.args.dual.now c.deref.result.now c.ground_cut.result
     priced i right lives h stated is shares below c.ground_cut.ensures.walk c.ground_cut.ensures.made
+
+pub returns-clause-first : goal.returns-clause-first
+returns-clause-first c = λ i walk frame lives.
+    let p = content c.args.program.now in
+    let s = c.args.self.now in
+    let v = c.of-version.result in
+    let n = c.args.node in
+    let kind = c.args.kind in
+    let tree = c.args.tree.now in
+    let found = c.in_ok-datum.ensures.of_book (program_book kind p) (is_in kind p tree n v.rows v.costs i walk lives) frame in
+    let same : Some c.in-Some.datum ≡ Some (datum_in kind p n v) = sym c.in-Some.is ∙ found in
+    let here : c.in-Some.datum ≡ datum_in kind p n v = cc in
+    let stated : c.in-Some.datum ≡ datum_in kind p n (version_of s.versions n) = here ∙ ap (datum_in kind p n) c.of-version.ensures in
+    let below : c.deref.result.now ≡ cuts_there c.args.cuts.now (children_in (frame_of p) n) =
+    c.deref.ensures.value ∙ c.in_ok-below.ensures
+    ∙ ap (cuts_there c.args.cuts.now) (c.children.ensures ∙ ap (λ (f : Frame). children_in f n) frame) in
+    first_made kind p tree s.versions c.args.dual.now n c.args.cuts.now c.in-Some.datum c.total.result c.deref.result.now
+    c.ground_cut.result stated c.total.ensures below c.ground_cut.ensures.walk

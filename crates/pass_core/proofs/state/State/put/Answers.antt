@@ -1,6 +1,6 @@
 use Rattle.pass_core.specs.declared.state.State.{State}
 use Rattle.pass_core.proofs.Tabling.{table_then, put_keeps, stop_keeps}
-use Rattle.std.proofs.Common.{Option, IfSome, sym, ap, subst}
+use Rattle.std.proofs.Common.{◌≡◌, Option, Some, IfSome, sym, ap, subst, ◌∙◌}
 use Rattle.cut_defs.specs.Stored.{Stored, source_of, IsMadeFor}
 use Rattle.cut_banks.specs.Pools.{may_put}
 use Rattle.cut_pool.specs.Pool.{with_cut}
@@ -8,6 +8,8 @@ use Rattle.scen_defs.proofs.ValueLaws.{each-push}
 use Rattle.pass_core.specs.Made.{run_book}
 use Rattle.pass_core.proofs.Making.{bank_changed, banks_made, then_made, same_made}
 use Rattle.pass_core.proofs.Leaving.{put_others}
+use Rattle.pass_core.specs.Grounds.{PutsCut}
+use Rattle.pass_core.proofs.FirstCuts.{pool_put}
 use Rattle.pass_core.proofs.state.State.put.Goals as goal
 
 pub returns-then-is_put-clause-kept : goal.returns-then-is_put-clause-kept
@@ -45,3 +47,16 @@ returns-clause-made c = λ b h.
 
 pub returns-clause-others : goal.returns-clause-others
 returns-clause-others c = put_others c.args.self.now c.stuck.new.self c.ground.new.self _ c.stuck.ensures
+
+pub returns-then-is_put-clause-puts : goal.returns-then-is_put-clause-puts
+returns-then-is_put-clause-puts c = λ stop.
+    let old = c.args.self.now in
+    let cut : Stored = c.in_ok-own.own in
+    let here : c.args.place.now ≡ Some cut = c.in-Some.is ∙ ap (λ (x : Stored). Some x) (sym c.in_ok-own.ensures) in (
+      stop,
+      subst (λ (o : Option Stored). PutsCut c.args.kind o old.banks c.ground.new.self) (sym here)
+          (pool_put c.args.kind cut old.banks c.ground.new.self
+          (λ e. c.if-node-eq0.false
+          (c.node.ensures ∙ ap (λ (x : Stored). (source_of x).node) (c.cut.ensures ∙ sym c.in_ok-own.ensures) ∙ e))
+          (sym c.if-is_put.true ∙ c.in_ok-is_put.ensures.done) c.in_ok-is_put.ensures.ok),
+    )

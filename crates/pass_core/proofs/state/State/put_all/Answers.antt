@@ -1,4 +1,4 @@
-use Rattle.std.proofs.Common.{Option, IfSome, ap}
+use Rattle.std.proofs.Common.{◌+◌, List, Option, IfSome, drop, sym, ap, subst}
 use Rattle.cut_defs.specs.Stored.{Stored, IsMadeFor}
 use Rattle.pass_core.specs.Made.{run_book}
 use Rattle.pass_core.proofs.Explaining.{then_kept}
@@ -6,7 +6,9 @@ use Rattle.pass_core.proofs.Tabling.{table_then}
 use Rattle.pass_core.specs.declared.state.State.{State}
 use Rattle.pass_core.proofs.Reasoning.{opening_reasons}
 use Rattle.pass_core.proofs.Making.{then_made, each_at}
+use Rattle.pass_core.specs.Grounds.{PutsCuts}
 use Rattle.pass_core.proofs.Leaving.{others_then}
+use Rattle.pass_core.proofs.FirstCuts.{drop_there, puts_more}
 use Rattle.pass_core.proofs.state.State.put_all.Goals as goal
 
 pub loop-place-preserved : goal.loop-place-preserved
@@ -18,4 +20,11 @@ loop-place-preserved c = record {
   others = others_then c.args.self.now c.loop-place.self c.put.new.self c.loop-place.invariant.others c.in_ok-put.ensures.others;
   reasons = opening_reasons (Unit {0}) (Unit {0}) c.args.self.now c.loop-place.self c.put.new.self (ap (λ (x : State). x.budget) c.loop-place.invariant.others) (λ h. h)
       c.loop-place.invariant.reasons c.in_ok-put.ensures.reasons;
+  puts = λ stop new rest.
+      let one = c.in_ok-put.ensures.puts stop in
+      c.loop-place.invariant.puts one.0 new
+      (subst (λ (places : List (Option Stored)). PutsCuts c.args.kind places c.loop-place.self.banks new)
+      (sym (drop_there c.args.cuts.now c.loop-place.place-index c.place-item.result c.loop-place-test.true c.place-item.is))
+      (puts_more c.args.kind c.place-item.result (drop (c.loop-place.place-index + 1) c.args.cuts.now) c.loop-place.self.banks
+      c.put.new.self.banks new one.1 rest));
 }
