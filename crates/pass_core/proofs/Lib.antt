@@ -14,4 +14,5 @@ pub mod Progressing
 pub mod Grounding
 pub mod Making
 pub mod MadeAfterEdits
+pub mod FirstCuts
 pub mod Assembling

@@ -5,6 +5,7 @@ pub mod Explained
 pub mod Tabled
 pub mod Reasons
 pub mod Left
+pub mod Grounds
 pub mod Turns
 pub mod Made
 pub mod Assembled

@@ -1,18 +1,24 @@
 -- What a turn solves: the program of its node in the present run; and how the turn ends by what is told of it.
-use Rattle.std.specs.Prelude.{◌≡◌, ◌⊎◌, ℕ, Bool, true, false, leb, List, map, replicate, Option, None, Ok, IfSome, IsSome, ⊤}
+use Rattle.std.specs.Prelude.{◌≡◌, ◌⊎◌, ℕ, Bool, true, false, leb, List, map, replicate, get_or, slice_index_or}
+use Rattle.std.specs.Prelude.{Option, Some, None, Ok, IfSome, IsSome, ⊤}
+use Rattle.rationals.specs.Rational.{zero_ℚ}
 use Rattle.rationals.specs.Sparse.{Entry}
 use Rattle.scen_defs.specs.Lists.{Each, passes_at}
 use Rattle.scen_defs.specs.Program.{Program, View, node_at}
 use Rattle.scen_defs.specs.Flat.{children}
+use Rattle.scen_defs.specs.Valid.{Lives}
+use Rattle.scen_defs.specs.Values.{At}
 use Rattle.scen_defs.specs.declared.program.Column.{Column}
 use Rattle.scen_defs.specs.declared.report.Kind.{Kind}
 use Rattle.scen_defs.specs.declared.report.Kind.TheVariants.{Cost}
 use Rattle.scen_tree.specs.Trees.{Tree, tree_walk}
 use Rattle.cut_defs.specs.Data.{Datum, bounds_of, share_of}
+use Rattle.cut_defs.specs.Stored.{Stored}
 use Rattle.edit_defs.specs.Data.{view_in}
 use Rattle.cut_banks.specs.declared.banks.Banks.{Banks}
 use Rattle.cut_banks.specs.Banks.{pools_of}
 use Rattle.cut_banks.specs.Pools.{cuts_of, cuts_read}
+use Rattle.dual_assemble.specs.Ground.{ground_walk}
 use Rattle.node_lp.specs.declared.task.Task.{Task}
 use Rattle.node_lp.specs.declared.solved.Solved.{Solved}
 use Rattle.node_lp.specs.declared.solved.Solved.TheVariants as solved
@@ -22,7 +28,7 @@ use Rattle.node_lp.specs.Answers.{IsAnswer}
 use Rattle.pass_table.specs.Machine.{Flight, Machine, IsClosed, MayBegin, dropped}
 use Rattle.run_data.specs.declared.versions.Version.{Version}
 use Rattle.run_data.specs.Counts.{version_of}
-use Rattle.run_data.specs.Frames.{parent_in, children_in}
+use Rattle.run_data.specs.Frames.{parent_in, children_in, frame_of}
 use Rattle.run_ends.specs.declared.last.Last.{Last}
 use Rattle.run_ends.specs.declared.last.Lasts.{Lasts}
 use Rattle.run_ends.specs.Lasts.{last_at, trial_of}
@@ -32,6 +38,8 @@ use Rattle.pass_core.specs.Counting.{with_commit}
 use Rattle.pass_core.specs.Reasons.{PassesInJoin, IsStuck, IsStuckBefore, IsOfSolve, IsOfOpening, GainsReasons}
 use Rattle.pass_core.specs.Tabled.{HasRoom, IsTabledBy, committed_with, EndsBegun, Opens}
 use Rattle.pass_core.specs.Left.{StaysInRun, LeavesBy, places_in, next_kind, OpensRun}
+use Rattle.pass_core.specs.Grounds.{OpeningDual, put_cuts, CanPutCuts}
+use Rattle.pass_core.specs.Made.{cuts_there}
 
 -- ---- points
 -- each value is of a column of this stage or of an earlier one
@@ -67,6 +75,30 @@ pub record IsTaskOf (p : Program) (s : State) (n : ℕ) (t : Task) : Type 0 wher
   pub trial : t.trial ≡ trial_of s.lasts.nodes.items (parent_in s.frame n)
   pub cuts : map cuts_of t.children.items ≡ cuts_read (pools_of s.kind s.banks) (children_in s.frame n)
   pub pivots : t.pivots ≡ s.budget.pivots
+
+-- ---- first cuts
+-- the cut of node n that a run of this kind begins with: the numbers of the dual at the node, over its total, make it with the cuts of
+-- its children
+abbrev pub IsFirstCut : Kind → Program → Tree → List Version → List At → List (Option Stored) → ℕ → Stored → Type 0
+IsFirstCut kind p tree versions dual cuts n cut =
+    ground_walk (datum_in kind p n (version_of versions n)) (get_or tree.chances.totals n zero_ℚ) dual
+    (cuts_there cuts (children_in (frame_of p) n)) ≡ Ok (Some cut)
+
+-- the cuts that it begins with, by number: each live node has one, and no other place
+pub record AreFirstCuts (kind : Kind) (p : Program) (tree : Tree) (versions : List Version) (dual : List At) (cuts : List (Option Stored))
+    : Type 0 where
+  pub there : (n : ℕ) → Lives p n
+      → (cut : Stored) × ((slice_index_or cuts n None ≡ Some cut) × IsFirstCut kind p tree versions dual cuts n cut)
+  pub only : (n : ℕ) (cut : Stored) → slice_index_or cuts n None ≡ Some cut → Lives p n
+
+-- the pools of the run that opens behind a closed one have its first cuts
+pub record PutsFirstCuts (p : Program) (tree : Tree) (old new : State) : Type 0 where
+  pub dual : List At
+  pub opening : OpeningDual old.kind old.ends.root dual
+  pub cuts : List (Option Stored)
+  pub are : AreFirstCuts (next_kind old.kind) p tree old.versions dual cuts
+  pub can : CanPutCuts (next_kind old.kind) cuts old.banks
+  pub banks : new.banks ≡ put_cuts (next_kind old.kind) cuts old.banks
 
 -- ---- ends
 -- no last solve is left, and no pool changes
@@ -130,7 +162,8 @@ pub data MakesStep (p : Program) (old : State) (m : Machine) (new : State) : Boo
       → GainsReasons (IsOfOpening old.budget.solves ⊥) old new → StaysReady p old m new → MakesStep p old m new false
   opens_run : IsClosed m → Opens p m new → PointsStand p new.lasts.nodes.items
       → GainsReasons (IsOfOpening old.budget.solves (IsStuckOpening p old new.banks)) old new
-      → (new.stop ≡ None → OpensRun old new) → MakesStep p old m new true
+      → (new.stop ≡ None → OpensRun old new)
+      → ((tree : Tree) → tree_walk p ≡ Ok tree → new.stop ≡ None → PutsFirstCuts p tree old new) → MakesStep p old m new true
   solves : (lasts : Lasts) (n : ℕ) → AreReady old lasts → SolvesNode p (record old { lasts = lasts }) m n new → MakesStep p old m new true
 
 -- no solve was counted, and something stops the method, or the run behind one that isn't a Cost run is open

@@ -1,12 +1,15 @@
 //! The opening of the next run: each pool gets a cut that holds for every dual of the run before.
 
-ghost use Rattle.std.specs.Prelude.{◌≡◌, ◌+◌, ◌<◌, ◌^◌, ℕ, true, None, Ok, length, replicate, IfErr, IfOk, IfSome, IsSomeAnd, OnOk, Some};
+ghost use Rattle.std.specs.Prelude.{◌≡◌, ◌+◌, ◌<◌, ◌^◌, ℕ, true, List, None, Ok, length, replicate, IfErr, IfOk, IfSome, IsSomeAnd, OnOk};
+ghost use Rattle.std.specs.Prelude.{Some};
 ghost use Rattle.scen_defs.specs.Lists.{Each, passes_at};
 ghost use Rattle.scen_defs.specs.Program.{content, is_live, Program as ProgramOf};
 ghost use Rattle.scen_defs.specs.Valid.{IsProgram, Lives};
+ghost use Rattle.scen_defs.specs.Values.{At};
 ghost use Rattle.scen_defs.specs.declared.report.Kind.{Kind as KindOf};
 ghost use Rattle.scen_tree.specs.Trees.{Tree as TreeOf, tree_walk};
 ghost use Rattle.cut_defs.specs.Stored.{Stored, IsMadeFor};
+ghost use Rattle.dual_assemble.specs.Values.{assembled};
 ghost use Rattle.node_lp.specs.Problem.{is_priced};
 ghost use Rattle.run_data.specs.Frames.{Frame as FrameOf, frame_of};
 ghost use Rattle.pass_table.specs.Machine.{Machine};
@@ -15,8 +18,9 @@ ghost use Rattle.pass_core.specs.Made.{BankBooks, run_book, AreBooksOf, CutsAreM
 ghost use Rattle.pass_core.specs.Tabled.{IsTabledBy, KeepsTable, KeepsPools, Opens};
 ghost use Rattle.pass_core.specs.Reasons.{GroundsTo, LacksGround, FaultsGround, IsNotPut, RefusesGround};
 ghost use Rattle.pass_core.specs.Reasons.{IsStuckBefore, IsOfOpening, GainsReasons};
-ghost use Rattle.pass_core.specs.Turns.{KeepsPoints, Progresses};
+ghost use Rattle.pass_core.specs.Turns.{KeepsPoints, Progresses, IsFirstCut, AreFirstCuts, PutsFirstCuts};
 ghost use Rattle.pass_core.specs.Left.{next_kind, OpensRun};
+ghost use Rattle.pass_core.specs.Grounds.{OpeningDual, PutsCut, PutsCuts};
 
 use crate::state::State;
 use cut_proof::{CutFault, SharedCut};
@@ -84,6 +88,7 @@ fn dual_of(alloc: Global, cut: &SharedCut) -> Result<Values, CutFault>
         → IsCutOfSolve p frame tree pivots cut.now → IfErr result (FailsToOpen p frame tree pivots) }
     // it is never not good
     ensures good { IfErr result (λ fault. fault ≡ CutFault.NotGood → ⊥) }
+    ensures walk { IfOk result (λ dual. assembled cut.now ≡ Ok dual) }
 {
     Ok(assemble(alloc, cut.cut())?)
 }
@@ -108,6 +113,8 @@ impl State {
             self.old.versions self.new.banks in
             OnOk result (GainsReasons (IsOfOpening self.old.budget.solves stuck) self.old self.new) }
         ensures opened { OnOk result (self.new.stop ≡ None → OpensRun self.old self.new) }
+        ensures first { let p = content program.now in IsProgram p → tree_walk p ≡ Ok tree.now → self.old.frame ≡ frame_of p
+            → OnOk result (self.new.stop ≡ None → PutsFirstCuts p tree.now self.old self.new) }
         // behind a run that isn't a Cost run it opens the next one, or stops the method
         ensures progress { (self.old.kind ≡ Kind.Cost → ⊥) → OnOk result (Progresses self.old self.new) }
     {
@@ -161,6 +168,9 @@ impl State {
         ensures made { let p = content program.now in (b : BankBooks) → is_priced kind ≡ true → IsProgram p → tree_walk p ≡ Ok tree.now
             → self.now.frame ≡ frame_of p → AreBooksOf p self.now.versions b
             → IfOk result (λ cuts. Each (λ place. IfSome place (IsMadeFor (run_book kind b))) cuts.items) }
+        ensures first { let p = content program.now in IsProgram p → tree_walk p ≡ Ok tree.now → self.now.frame ≡ frame_of p
+            → IfOk result (λ cuts. (dual : List At) × (OpeningDual self.now.kind self.now.ends.root dual
+            × AreFirstCuts kind p tree.now self.now.versions dual cuts.items)) }
     {
         match self.opening_dual(alloc) {
             Ok(dual) => self.ground_cuts(alloc, program, tree, kind, &dual),
@@ -173,6 +183,7 @@ impl State {
         ensures fails { (p : ProgramOf) (tree : TreeOf) → AreExplained p tree self.now
             → IfErr result (FailsToOpen p self.now.frame tree self.now.budget.pivots) }
         ensures good { IfErr result (λ fault. fault ≡ CutFault.NotGood → ⊥) }
+        ensures dual { IfOk result (λ dual. OpeningDual self.now.kind self.now.ends.root dual) }
     {
         match (self.kind, &self.ends.root) {
             (Kind::Recession, Some(root)) => dual_of(alloc, root),
@@ -196,6 +207,8 @@ impl State {
         ensures made { let p = content program.now in (b : BankBooks) → is_priced kind ≡ true → IsProgram p → tree_walk p ≡ Ok tree.now
             → self.now.frame ≡ frame_of p → AreBooksOf p self.now.versions b
             → IfOk result (λ cuts. Each (λ place. IfSome place (IsMadeFor (run_book kind b))) cuts.items) }
+        ensures first { let p = content program.now in IsProgram p → tree_walk p ≡ Ok tree.now → self.now.frame ≡ frame_of p
+            → IfOk result (λ cuts. AreFirstCuts kind p tree.now self.now.versions dual.now cuts.items) }
     {
         let nodes = self.frame.nodes();
         let mut cuts = none(alloc, nodes)?;
@@ -229,6 +242,8 @@ impl State {
         ensures ground { let p = content program.now in (b : BankBooks) → is_priced kind ≡ true → IsProgram p → tree_walk p ≡ Ok tree.now
             → self.now.frame ≡ frame_of p → AreBooksOf p self.now.versions b → Lives p node
             → HasGrounds p (run_book kind b) (node + 1) cuts.now → IfOk result (IsGroundOf (run_book kind b) node) }
+        ensures first { let p = content program.now in IsProgram p → tree_walk p ≡ Ok tree.now → self.now.frame ≡ frame_of p → Lives p node
+            → IfOk result (IsFirstCut kind p tree.now self.now.versions dual.now cuts.now node) }
     {
         let version = self.versions.of(node);
         let Some(datum) = datum_of(alloc, program, &self.frame, tree, version, kind, node)? else {
@@ -256,6 +271,7 @@ impl State {
             → let stuck = RefusesGround kind p self.old.frame tree self.new.banks in
             OnOk result (GainsReasons (IsOfOpening self.old.budget.solves stuck) self.old self.new) }
         ensures opened { kind ≡ next_kind self.old.kind → OnOk result (OpensRun self.old self.new) }
+        ensures puts { OnOk result (self.new.stop ≡ None → PutsCuts kind cuts.items self.old.banks self.new.banks) }
     {
         self.put_all(kind, &cuts)?;
         self.kind = kind;
@@ -277,6 +293,7 @@ impl State {
             → let stuck = RefusesGround kind p self.old.frame tree self.new.banks in
             OnOk result (GainsReasons (IsOfOpening self.old.budget.solves stuck) self.old self.new) }
         ensures others { OnOk result (self.new ≡ record self.old { banks = self.new.banks; stop = self.new.stop }) }
+        ensures puts { OnOk result (self.new.stop ≡ None → PutsCuts kind cuts.now self.old.banks self.new.banks) }
     {
         for place in cuts {
             self.put(kind, place)?;
@@ -294,6 +311,7 @@ impl State {
         // a cut that couldn't be put can't be put from then on
         ensures still { (cut : Stored) → IsNotPut kind self.old.banks cut → OnOk result (IsNotPut kind self.new.banks cut) }
         ensures others { OnOk result (self.new ≡ record self.old { banks = self.new.banks; stop = self.new.stop }) }
+        ensures puts { OnOk result (self.new.stop ≡ None → (self.old.stop ≡ None) × PutsCut kind place.now self.old.banks self.new.banks) }
     {
         let Some(cut) = place else {
             return Ok(());

@@ -106,7 +106,7 @@ module _ (p : Program) (tree : Tree) (i : IsProgram p) (few : length p.nodes < n
       same_known : (a : Kind) (b : Frame) (c : List Version) (d : List (Option Last)) (e : _) (f : Ends) (a' : Kind) (b' : Frame) (c' : List Version) (e' : _) (f' : Ends)
           → a' ≡ a → b' ≡ b → c' ≡ c → e' ≡ e → f' ≡ f → known a' b' c' d e' f' ≡ known a b c d e f
       same_known a b c d e f a' b' c' e' f' q r s t u = cc
-  stepped old new m told h table (opens_run closed opens points reasons run) stop = go opens
+  stepped old new m told h table (opens_run closed opens points reasons run first) stop = go opens
     where
       o : OpensRun old new
       o = run stop
@@ -169,7 +169,7 @@ module _ (p : Program) (tree : Tree) (i : IsProgram p) (few : length p.nodes < n
 
   step_versions : (old new : State) (m : Machine) (told : Bool) → MakesStep p old m new told → new.stop ≡ None → new.versions ≡ old.versions
   step_versions old new m told (begins_none rests points reasons ready) stop = ready.run.versions
-  step_versions old new m told (opens_run closed opens points reasons run) stop = (run stop).versions
+  step_versions old new m told (opens_run closed opens points reasons run first) stop = (run stop).versions
   step_versions old new m told (solves lasts n ready solve) stop = solve.stays.versions
 
   pub solves_made : (budget : Budget) (old new : State) → IsBeginning p budget old → SolvesNodes p old new → new.stop ≡ None → IsMadeHere new

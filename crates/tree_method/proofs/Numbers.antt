@@ -141,7 +141,7 @@ module _ (p : Program) (old : State) where
       go : (b : Bool) → MakesStep p mid m new b → HasReason old why ⊎ Arises p old new why
       go b (begins_none rests points reasons ready) =
           opened mid.budget.solves ⊥ (gained (IsOfOpening mid.budget.solves ⊥) mid new why reasons h)
-      go b (opens_run closed opens points reasons run) =
+      go b (opens_run closed opens points reasons run first) =
           opened mid.budget.solves (IsStuckOpening p mid new.banks)
           (gained (IsOfOpening mid.budget.solves (IsStuckOpening p mid new.banks)) mid new why reasons h)
       go b (solves lasts n ready node) =
@@ -167,7 +167,7 @@ module _ (p : Program) (old : State) where
 
       go : (b : Bool) → MakesStep p mid m new b → IsLasting why
       go b (begins_none rests points reasons ready) = by (IsOfOpening mid.budget.solves ⊥) (reasons.lasting why e)
-      go b (opens_run closed opens points reasons run) =
+      go b (opens_run closed opens points reasons run first) =
           by (IsOfOpening mid.budget.solves (IsStuckOpening p mid new.banks)) (reasons.lasting why e)
       go b (solves lasts n ready node) = by (IsOfThis mid n node.task) (node.reasons.lasting why e)
 

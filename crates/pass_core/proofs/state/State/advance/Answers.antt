@@ -1,11 +1,12 @@
-use Rattle.std.proofs.Common.{◌≡◌, true, false, not, List, refl, sym, ap, subst, ◌∙◌}
+use Rattle.std.proofs.Common.{◌≡◌, true, false, not, List, Ok, refl, sym, ap, subst, ◌∙◌}
 use denote.Enum.Bare.{sameb}
 use Rattle.scen_defs.specs.Program.{content}
 use Rattle.scen_defs.specs.contracts.report.Kind.{the_type}
 use Rattle.scen_defs.specs.declared.report.Kind.{Kind}
 use Rattle.scen_defs.specs.declared.report.Kind.TheVariants.{Cost}
 use Rattle.pass_core.specs.declared.state.State.{State}
-use Rattle.pass_core.specs.Turns.{EndsAnyhow}
+use Rattle.scen_tree.specs.Trees.{Tree}
+use Rattle.pass_core.specs.Turns.{EndsAnyhow, PutsFirstCuts}
 use Rattle.pass_core.specs.Turns.MakesStep.{begins_none, opens_run}
 use Rattle.pass_core.specs.Reasons.{IsOfOpening}
 use Rattle.pass_core.proofs.Progressing.{ready_progresses, ready_rests}
@@ -13,6 +14,7 @@ use Rattle.pass_core.proofs.Reasoning.{ready_gains}
 use Rattle.pass_core.proofs.Grounding.{opening_stuck}
 use Rattle.pass_core.proofs.Solving.{solves_before, step_solved}
 use Rattle.pass_core.proofs.Leaving.{ready_stays, ready_opens}
+use Rattle.pass_core.proofs.FirstCuts.{ready_puts}
 use Rattle.pass_core.specs.Tabled.{IsTabledBy, HasRoom, IsBegunBy}
 use Rattle.pass_core.proofs.Tabling.{ready_tabled, refit, room_of, room_in, begun_by, rested, opening, turned}
 use Rattle.run_data.specs.declared.versions.Version.{Version}
@@ -84,6 +86,11 @@ returns-then-ne-clause-solves c = λ m i walk frame t stand.
     (opening_stuck p c.args.tree.now c.args.self.now s c.open_next.new.self c.in_ok-get_ready.ensures.others walk
     c.in_ok-open_next.ensures.reasons)
     (λ stop. ready_opens c.args.self.now s c.open_next.new.self c.in_ok-get_ready.ensures.others (c.in_ok-open_next.ensures.opened stop))
+    (λ other there stop.
+    let same : c.args.tree.now ≡ other = (let both : Ok c.args.tree.now ≡ Ok other = sym walk ∙ there in cc) in
+    subst (λ (t : Tree). PutsFirstCuts p t c.args.self.now c.open_next.new.self) same
+    (ready_puts p c.args.tree.now c.args.self.now s c.open_next.new.self c.in_ok-get_ready.ensures.others
+    (c.in_ok-open_next.ensures.first i walk (ap (λ (x : State). x.frame) c.in_ok-get_ready.ensures.others ∙ frame) stop)))
 
 pub returns-in_ok-solve-in-Some-clause-solves : goal.returns-in_ok-solve-in-Some-clause-solves
 returns-in_ok-solve-in-Some-clause-solves c = λ m i walk frame t stand.

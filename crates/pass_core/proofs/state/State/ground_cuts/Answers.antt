@@ -7,7 +7,9 @@ use Rattle.cut_defs.specs.Stored.{Stored, IsMadeFor}
 use Rattle.pass_core.specs.Made.{run_book, HasGrounds, IsGroundOf}
 use Rattle.pass_core.specs.Reasons.{GroundsTo}
 use Rattle.pass_core.proofs.Grounding.{each_none}
+use Rattle.pass_core.specs.Turns.{IsFirstCut}
 use Rattle.pass_core.proofs.Making.{none_made, none_ground, ground_past, ground_put, each_set, places_of_nodes, set_long}
+use Rattle.pass_core.proofs.FirstCuts.{AreFirstFrom, none_first, first_past, first_put, all_first}
 use Rattle.pass_core.proofs.state.State.ground_cuts.Goals as goal
 
 pub loop-node-init : goal.loop-node-init
@@ -23,6 +25,10 @@ loop-node-init c = record {
         (places_of_nodes (content c.args.program.now) c.args.self.now.frame c.nodes-nodes.result i frame c.nodes-nodes.ensures),
     subst (Each (λ (place : Option Stored). IfSome place (IsMadeFor (run_book c.args.kind b)))) (sym c.in_ok-cuts.ensures) (none_made (run_book c.args.kind b) c.nodes-nodes.result),
   );
+  first = λ i walk frame.
+      let p = content c.args.program.now in
+      none_first c.args.kind p c.args.tree.now c.args.self.now.versions c.args.dual.now c.nodes-nodes.result c.nodes-nodes.result
+      c.in_ok-cuts.cuts.items (places_of_nodes p c.args.self.now.frame c.nodes-nodes.result i frame c.nodes-nodes.ensures) c.in_ok-cuts.ensures;
 }
 
 pub loop-node-preserved-then-not-is_live : goal.loop-node-preserved-then-not-is_live
@@ -37,6 +43,13 @@ loop-node-preserved-then-not-is_live c = record {
             (subst (λ (k : ℕ). HasGrounds p (run_book c.args.kind b) k c.loop-node.cuts.items) next h.0),
         h.1,
       );
+  first = λ i walk frame.
+      let p = content c.args.program.now in
+      let next : c.loop-node.node ≡ c.loop-node.node - 1 + 1 = omega (arith, c.loop-node-test.true) in
+      first_past c.args.kind p c.args.tree.now c.args.self.now.versions c.args.dual.now (c.loop-node.node - 1) c.loop-node.cuts.items
+      (sym c.is_live.ensures ∙ c.if-not-is_live.true)
+      (subst (λ (k : ℕ). AreFirstFrom c.args.kind p c.args.tree.now c.args.self.now.versions c.args.dual.now k c.loop-node.cuts.items) next
+      (c.loop-node.invariant.first i walk frame));
 }
 
 pub loop-node-preserved-then-node-len : goal.loop-node-preserved-then-node-len
@@ -59,6 +72,18 @@ loop-node-preserved-then-node-len c = record {
             (omega (arith, c.loop-node.auto.node, c.loop-node.invariant.long, c.loop-node-test.true)) done g,
         each_set (λ (place : Option Stored). IfSome place (IsMadeFor (run_book c.args.kind b))) c.loop-node.cuts.items (c.loop-node.node - 1) (Some c.in_ok-cut.cut) h.1 g.made,
       );
+  first = λ i walk frame.
+      let p = content c.args.program.now in
+      let next : c.loop-node.node ≡ c.loop-node.node - 1 + 1 = omega (arith, c.loop-node-test.true) in
+      let lives : Lives p (c.loop-node.node - 1) = sym c.is_live.ensures ∙ c.if-not-is_live.false in
+      let s = c.args.self.now in
+      first_put c.args.kind p c.args.tree.now s.versions c.args.dual.now (c.loop-node.node - 1) c.loop-node.cuts.items c.in_ok-cut.cut i
+      (omega (arith, c.loop-node.auto.node, c.loop-node.invariant.long, c.loop-node-test.true)) lives
+      (subst (λ (k : ℕ). AreFirstFrom c.args.kind p c.args.tree.now s.versions c.args.dual.now k c.loop-node.cuts.items) next
+      (c.loop-node.invariant.first i walk frame))
+      (subst (λ (cs : List (Option Stored)).
+      IsFirstCut c.args.kind p c.args.tree.now s.versions c.args.dual.now cs (c.loop-node.node - 1) c.in_ok-cut.cut)
+      c.deref.ensures.value (c.in_ok-cut.ensures.first i walk frame lives));
 }
 
 pub loop-node-preserved-then-node-len-2 : goal.loop-node-preserved-then-node-len-2
@@ -81,6 +106,18 @@ loop-node-preserved-then-node-len-2 c = record {
             (omega (arith, c.loop-node.auto.node, c.loop-node.invariant.long, c.loop-node-test.true)) done g,
         each_set (λ (place : Option Stored). IfSome place (IsMadeFor (run_book c.args.kind b))) c.loop-node.cuts.items (c.loop-node.node - 1) (Some c.in_ok-cut.cut) h.1 g.made,
       );
+  first = λ i walk frame.
+      let p = content c.args.program.now in
+      let next : c.loop-node.node ≡ c.loop-node.node - 1 + 1 = omega (arith, c.loop-node-test.true) in
+      let lives : Lives p (c.loop-node.node - 1) = sym c.is_live.ensures ∙ c.if-not-is_live.false in
+      let s = c.args.self.now in
+      first_put c.args.kind p c.args.tree.now s.versions c.args.dual.now (c.loop-node.node - 1) c.loop-node.cuts.items c.in_ok-cut.cut i
+      (omega (arith, c.loop-node.auto.node, c.loop-node.invariant.long, c.loop-node-test.true)) lives
+      (subst (λ (k : ℕ). AreFirstFrom c.args.kind p c.args.tree.now s.versions c.args.dual.now k c.loop-node.cuts.items) next
+      (c.loop-node.invariant.first i walk frame))
+      (subst (λ (cs : List (Option Stored)).
+      IsFirstCut c.args.kind p c.args.tree.now s.versions c.args.dual.now cs (c.loop-node.node - 1) c.in_ok-cut.cut)
+      c.deref.ensures.value (c.in_ok-cut.ensures.first i walk frame lives));
 }
 
 pub returns-clause-made : goal.returns-clause-made
@@ -88,3 +125,9 @@ returns-clause-made c = λ b priced i walk frame right. (c.loop-node.invariant.m
 
 pub returns-clause-grounds : goal.returns-clause-grounds
 returns-clause-grounds c = c.loop-node.invariant.grounds
+
+pub returns-clause-first : goal.returns-clause-first
+returns-clause-first c = λ i walk frame.
+    let p = content c.args.program.now in
+    all_first c.args.kind p c.args.tree.now c.args.self.now.versions c.args.dual.now c.loop-node.node c.loop-node.cuts.items
+    (omega (arith, c.loop-node-test.false)) (c.loop-node.invariant.first i walk frame)

@@ -8,6 +8,7 @@ use Rattle.node_lp.specs.Problem.{is_priced}
 use Rattle.run_data.specs.Frames.{frame_of}
 use Rattle.pass_core.specs.Made.{BankBooks, run_book, AreBooksOf, HasGrounds}
 use Rattle.pass_core.specs.Reasons.{GroundsTo}
+use Rattle.pass_core.proofs.FirstCuts.{AreFirstFrom}
 use Rattle.pass_core.proofs.state.State.ground_cuts.Given as goal
 
 abbrev pub invariant-loop-node : goal.invariant-loop-node
@@ -18,4 +19,6 @@ invariant-loop-node l = record {
       → l.self.frame ≡ frame_of (content l.program) → AreBooksOf (content l.program) l.self.versions b
       → HasGrounds (content l.program) (run_book l.kind b) l.node l.cuts.items
       × Each (λ place. IfSome place (IsMadeFor (run_book l.kind b))) l.cuts.items;
+  first : IsProgram (content l.program) → tree_walk (content l.program) ≡ Ok l.tree → l.self.frame ≡ frame_of (content l.program)
+      → AreFirstFrom l.kind (content l.program) l.tree l.self.versions l.dual l.node l.cuts.items;
 }

@@ -10,6 +10,7 @@ use Rattle.pass_core.specs.Turns.{datum_in}
 use Rattle.pass_core.specs.Made.{cuts_there}
 use Rattle.pass_core.proofs.TaskFits.{program_book, is_in}
 use Rattle.pass_core.proofs.Making.{ground_made}
+use Rattle.pass_core.proofs.FirstCuts.{first_made}
 use Rattle.pass_core.proofs.state.State.node_cut.Goals as goal
 
 pub returns-clause-ground : goal.returns-clause-ground
@@ -41,3 +42,21 @@ returns-in_default-clause-lacks c = λ lives.
     no_datum c.args.node lives (λ d.
     let no : IsSome {T = Datum} None = subst (λ (o : Option Datum). IsSome o) c.in_default.is
     (c.in_ok-datum.ensures.found.1 (lives, subst (λ (v : Version). IsDatum (datum v)) (sym c.of-version.ensures) d)) in absurd (cc))
+
+pub returns-clause-first : goal.returns-clause-first
+returns-clause-first c = λ i walk frame lives.
+    let p = content c.args.program.now in
+    let s = c.args.self.now in
+    let v = c.of-version.result in
+    let n = c.args.node in
+    let kind = c.args.kind in
+    let tree = c.args.tree.now in
+    let found = c.in_ok-datum.ensures.of_book (program_book kind p) (is_in kind p tree n v.rows v.costs i walk lives) frame in
+    let same : Some c.in-Some.datum ≡ Some (datum_in kind p n v) = sym c.in-Some.is ∙ found in
+    let here : c.in-Some.datum ≡ datum_in kind p n v = cc in
+    let stated : c.in-Some.datum ≡ datum_in kind p n (version_of s.versions n) = here ∙ ap (datum_in kind p n) c.of-version.ensures in
+    let below : c.deref.result.now ≡ cuts_there c.args.cuts.now (children_in (frame_of p) n) =
+    c.deref.ensures.value ∙ c.in_ok-below.ensures
+    ∙ ap (cuts_there c.args.cuts.now) (c.children.ensures ∙ ap (λ (f : Frame). children_in f n) frame) in
+    first_made kind p tree s.versions c.args.dual.now n c.args.cuts.now c.in-Some.datum c.total.result c.deref.result.now
+    c.ground_cut.result stated c.total.ensures below c.ground_cut.ensures.walk

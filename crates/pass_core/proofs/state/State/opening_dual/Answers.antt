@@ -1,6 +1,9 @@
-use Rattle.std.proofs.Common.{Option, IfSome, subst}
+use Rattle.std.proofs.Common.{Option, IfOk, IfSome, sym, subst}
+use Rattle.scen_defs.specs.declared.report.Kind.{Kind}
+use Rattle.scen_defs.specs.declared.report.Kind.TheVariants.{Recession}
 use Rattle.cut_defs.specs.Stored.{Stored}
 use Rattle.pass_core.specs.Explained.{IsCutOfSolve}
+use Rattle.pass_core.specs.Grounds.{OpeningDual}
 use Rattle.pass_core.proofs.state.State.opening_dual.Goals as goal
 
 pub returns-in-Recession-Some-clause-fails : goal.returns-in-Recession-Some-clause-fails
@@ -8,3 +11,10 @@ returns-in-Recession-Some-clause-fails c = λ p tree h.
     let s = c.args.self.now in
     c.dual_of.ensures.fails p s.frame tree s.budget.pivots
     (subst (λ (o : Option Stored). IfSome o (IsCutOfSolve p s.frame tree s.budget.pivots)) c.in-Recession-Some.is-1 h.2.root)
+
+pub returns-in-Recession-Some-clause-dual : goal.returns-in-Recession-Some-clause-dual
+returns-in-Recession-Some-clause-dual c =
+    let s = c.args.self.now in
+    subst (λ (k : Kind). IfOk c.dual_of.result (λ dual. OpeningDual k s.ends.root dual)) (sym c.in-Recession-Some.is-0)
+    (subst (λ (o : Option Stored). IfOk c.dual_of.result (λ dual. OpeningDual Recession o dual)) (sym c.in-Recession-Some.is-1)
+    c.dual_of.ensures.walk)

@@ -1,6 +1,6 @@
 use Rattle.pass_core.specs.declared.state.State.{State}
 use Rattle.pass_core.proofs.Tabling.{table_then, put_keeps, stop_keeps}
-use Rattle.std.proofs.Common.{Option, IfSome, IsSomeAnd, refl, ◌∙◌, sym, ap, subst, arith, ◌≡◌}
+use Rattle.std.proofs.Common.{◌≡◌, Option, Some, IfSome, IsSomeAnd, refl, sym, ap, subst, ◌∙◌, arith}
 use Rattle.cut_defs.specs.Stored.{Stored, source_of, IsMadeFor}
 use Rattle.cut_banks.specs.Pools.{may_put}
 use Rattle.cut_pool.specs.Pool.{with_cut}
@@ -13,6 +13,8 @@ use Rattle.proved_report.specs.declared.open.Open.TheVariants.{Solves}
 use Rattle.pass_core.specs.Reasons.{IsNotPut, IsOfOpening}
 use Rattle.pass_core.proofs.Reasoning.{same_reasons, then_reasons, stopped_reasons}
 use Rattle.pass_core.proofs.Grounding.{still_not_put, not_put_as}
+use Rattle.pass_core.specs.Grounds.{PutsCut}
+use Rattle.pass_core.proofs.FirstCuts.{pool_put}
 use Rattle.pass_core.proofs.state.State.put.Goals as goal
 
 pub returns-then-is_put-clause-kept : goal.returns-then-is_put-clause-kept
@@ -86,3 +88,16 @@ returns-clause-reasons c =
     then_reasons is old s new (same_reasons is old s refl refl refl)
     (stopped_reasons is s new (Solves old.budget.solves) (ap (λ (x : State). x.counts) e) (ap (λ (x : State). x.stop) e)
     (ap (λ (x : State). x.lasting) e) (refl, stuck))
+
+pub returns-then-is_put-clause-puts : goal.returns-then-is_put-clause-puts
+returns-then-is_put-clause-puts c = λ stop.
+    let old = c.args.self.now in
+    let cut : Stored = c.in_ok-own.own in
+    let here : c.args.place.now ≡ Some cut = c.in-Some.is ∙ ap (λ (x : Stored). Some x) (sym c.in_ok-own.ensures) in (
+      stop,
+      subst (λ (o : Option Stored). PutsCut c.args.kind o old.banks c.ground.new.self) (sym here)
+          (pool_put c.args.kind cut old.banks c.ground.new.self
+          (λ e. c.if-node-eq0.false
+          (c.node.ensures ∙ ap (λ (x : Stored). (source_of x).node) (c.cut.ensures ∙ sym c.in_ok-own.ensures) ∙ e))
+          (sym c.if-is_put.true ∙ c.in_ok-is_put.ensures.done) c.in_ok-is_put.ensures.ok),
+    )

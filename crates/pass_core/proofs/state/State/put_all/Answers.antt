@@ -1,4 +1,4 @@
-use Rattle.std.proofs.Common.{Option, Some, IfSome, IsSomeAnd, ap}
+use Rattle.std.proofs.Common.{◌+◌, List, Option, Some, IfSome, IsSomeAnd, drop, sym, ap, subst}
 use Rattle.cut_defs.specs.Stored.{Stored, IsMadeFor}
 use Rattle.pass_core.specs.Made.{run_book}
 use Rattle.pass_core.proofs.Explaining.{then_kept}
@@ -8,7 +8,9 @@ use Rattle.pass_core.proofs.Reasoning.{wider_reasons, wider_opening, opening_rea
 use Rattle.pass_core.proofs.Grounding.{some_refused}
 use Rattle.pass_core.specs.Reasons.{GroundsTo, IsNotPut, RefusesGround, IsOfOpening}
 use Rattle.pass_core.proofs.Making.{then_made, each_at}
+use Rattle.pass_core.specs.Grounds.{PutsCuts}
 use Rattle.pass_core.proofs.Leaving.{others_then}
+use Rattle.pass_core.proofs.FirstCuts.{drop_there, puts_more}
 use Rattle.pass_core.proofs.state.State.put_all.Goals as goal
 
 pub loop-place-preserved : goal.loop-place-preserved
@@ -34,4 +36,11 @@ loop-place-preserved c = record {
       (wider_reasons (IsOfOpening mid.budget.solves one) (IsOfOpening mid.budget.solves stuck) mid new
       (wider_opening one stuck mid.budget.solves (some_refused kind p old.frame tree new.banks c.place-item.result ground))
       c.in_ok-put.ensures.reasons);
+  puts = λ stop new rest.
+      let one = c.in_ok-put.ensures.puts stop in
+      c.loop-place.invariant.puts one.0 new
+      (subst (λ (places : List (Option Stored)). PutsCuts c.args.kind places c.loop-place.self.banks new)
+      (sym (drop_there c.args.cuts.now c.loop-place.place-index c.place-item.result c.loop-place-test.true c.place-item.is))
+      (puts_more c.args.kind c.place-item.result (drop (c.loop-place.place-index + 1) c.args.cuts.now) c.loop-place.self.banks
+      c.put.new.self.banks new one.1 rest));
 }

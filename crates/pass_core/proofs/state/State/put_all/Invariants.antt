@@ -1,12 +1,14 @@
-use Rattle.std.proofs.Common.{◌≡◌, Some, IfSome}
+use Rattle.std.proofs.Common.{◌≡◌, Some, None, IfSome, drop}
 use Rattle.scen_defs.specs.Lists.{Each}
 use Rattle.scen_defs.specs.Program.{Program}
 use Rattle.cut_defs.specs.Stored.{IsMadeFor}
+use Rattle.cut_banks.specs.declared.banks.Banks.{Banks}
 use Rattle.pass_core.specs.Made.{BankBooks, run_book, KeepsMade}
 use Rattle.scen_tree.specs.Trees.{Tree}
 use Rattle.pass_core.specs.Explained.{KeepsExplained}
 use Rattle.pass_core.specs.Reasons.{GroundsTo, RefusesGround, IsOfOpening, GainsReasons}
 use Rattle.pass_core.specs.Tabled.{KeepsTable}
+use Rattle.pass_core.specs.Grounds.{PutsCuts}
 use Rattle.pass_core.proofs.state.State.put_all.Given as goal
 
 abbrev pub invariant-loop-place : goal.invariant-loop-place
@@ -19,4 +21,6 @@ invariant-loop-place l = record {
       → Each (λ place. IfSome place (λ cut. GroundsTo l.kind p l.initial.self.frame tree (Some cut))) l.cuts
       → GainsReasons (IsOfOpening l.initial.self.budget.solves (RefusesGround l.kind p l.initial.self.frame tree l.self.banks))
       l.initial.self l.self;
+  puts : l.self.stop ≡ None → (new : Banks) → PutsCuts l.kind (drop l.place-index l.cuts) l.self.banks new
+      → PutsCuts l.kind l.cuts l.initial.self.banks new;
 }
