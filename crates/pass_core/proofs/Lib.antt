@@ -11,6 +11,7 @@ pub mod CutNodes
 pub mod Leaving
 pub mod Solving
 pub mod Progressing
+pub mod Resting
 pub mod Making
 pub mod MadeAfterEdits
 pub mod Assembling
