@@ -129,7 +129,7 @@ module _ (p : Program) (tree : Tree) (i : IsProgram p) (few : length p.nodes < n
   solves_stand budget old new b none stop = begun budget old b
   solves_stand budget old new b (more mid k m told before open_yet table step keeps) stop =
       stepped mid k m told (solves_stand budget old mid b before (unstopped mid open_yet)) table step stop
-  solves_stand budget old new b (anew mid k before over) stop = begun mid.budget k over.beginning
+  solves_stand budget old new b (anew mid k before ends over) stop = begun mid.budget k over.beginning
 
   -- ---- the cuts
   -- a run's cuts are made for the books of the program, whose versions are those before any edit
@@ -163,4 +163,4 @@ module _ (p : Program) (tree : Tree) (i : IsProgram p) (few : length p.nodes < n
         versions = step_versions mid k m told step stop ∙ h.versions;
         made = keeps (script_books p []) (right_books mid h.versions) h.made;
       }
-  solves_made budget old new b (anew mid k before over) stop = made_at_start mid.budget k over.beginning
+  solves_made budget old new b (anew mid k before ends over) stop = made_at_start mid.budget k over.beginning
