@@ -12,6 +12,7 @@ pub mod Leaving
 pub mod Solving
 pub mod Progressing
 pub mod Grounding
+pub mod Resting
 pub mod Making
 pub mod MadeAfterEdits
 pub mod FirstCuts

@@ -154,13 +154,18 @@ pub record StaysReady (p : Program) (old : State) (m : Machine) (new : State) : 
 abbrev pub IsStuckOpening : Program → State → Banks → Type 0
 IsStuckOpening p s banks = (tree : Tree) → tree_walk p ≡ Ok tree → IsStuckBefore (next_kind s.kind) p s.frame tree s.versions banks
 
--- a step of a state whose table fits this machine, and whether it is told that something was done: no node may be begun, or there is no
--- room for it, and nothing is found; the run is closed, and the next one opens or something stops the method; or the program of a node is
--- solved, which alone is counted
+-- no node may be begun, and where the run is closed it is a Cost run, behind which none opens
+pub record IsAtRest (s : State) (m : Machine) : Type 0 where
+  pub idle : (n : ℕ) → MayBegin m n → ⊥
+  pub last : IsClosed m → s.kind ≡ Cost
+
+-- a step of a state whose table fits this machine, and whether it is told that something was done: the run is at rest, or there is no
+-- room for another solve, and nothing is found; the run is closed, and the next one opens or something stops the method; or the program
+-- of a node is solved, which alone is counted
 pub data MakesStep (p : Program) (old : State) (m : Machine) (new : State) : Bool → Type 0 where
-  begins_none : (HasRoom m → (n : ℕ) → MayBegin m n → ⊥) → PointsStand p new.lasts.nodes.items
+  begins_none : (HasRoom m → IsAtRest old m) → PointsStand p new.lasts.nodes.items
       → GainsReasons (IsOfOpening old.budget.solves ⊥) old new → StaysReady p old m new → MakesStep p old m new false
-  opens_run : IsClosed m → Opens p m new → PointsStand p new.lasts.nodes.items
+  opens_run : IsClosed m → (old.kind ≡ Cost → ⊥) → Opens p m new → PointsStand p new.lasts.nodes.items
       → GainsReasons (IsOfOpening old.budget.solves (IsStuckOpening p old new.banks)) old new
       → (new.stop ≡ None → OpensRun old new)
       → ((tree : Tree) → tree_walk p ≡ Ok tree → new.stop ≡ None → PutsFirstCuts p tree old new) → MakesStep p old m new true

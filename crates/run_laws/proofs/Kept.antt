@@ -106,7 +106,7 @@ module _ (p : Program) (tree : Tree) (i : IsProgram p) (few : length p.nodes < n
       same_known : (a : Kind) (b : Frame) (c : List Version) (d : List (Option Last)) (e : _) (f : Ends) (a' : Kind) (b' : Frame) (c' : List Version) (e' : _) (f' : Ends)
           → a' ≡ a → b' ≡ b → c' ≡ c → e' ≡ e → f' ≡ f → known a' b' c' d e' f' ≡ known a b c d e f
       same_known a b c d e f a' b' c' e' f' q r s t u = cc
-  stepped old new m told h table (opens_run closed opens points reasons run first) stop = go opens
+  stepped old new m told h table (opens_run closed earlier opens points reasons run first) stop = go opens
     where
       o : OpensRun old new
       o = run stop
@@ -147,7 +147,7 @@ module _ (p : Program) (tree : Tree) (i : IsProgram p) (few : length p.nodes < n
   solves_stand budget old new b none stop = begun budget old b
   solves_stand budget old new b (more mid k m told before open_yet table step keeps) stop =
       stepped mid k m told (solves_stand budget old mid b before (unstopped mid open_yet)) table step stop
-  solves_stand budget old new b (anew mid k before over) stop = begun mid.budget k over.beginning
+  solves_stand budget old new b (anew mid k before ends over) stop = begun mid.budget k over.beginning
 
   -- ---- the cuts
   -- a run's cuts are made for the books of the program, whose versions are those before any edit
@@ -169,7 +169,7 @@ module _ (p : Program) (tree : Tree) (i : IsProgram p) (few : length p.nodes < n
 
   step_versions : (old new : State) (m : Machine) (told : Bool) → MakesStep p old m new told → new.stop ≡ None → new.versions ≡ old.versions
   step_versions old new m told (begins_none rests points reasons ready) stop = ready.run.versions
-  step_versions old new m told (opens_run closed opens points reasons run first) stop = (run stop).versions
+  step_versions old new m told (opens_run closed earlier opens points reasons run first) stop = (run stop).versions
   step_versions old new m told (solves lasts n ready solve) stop = solve.stays.versions
 
   pub solves_made : (budget : Budget) (old new : State) → IsBeginning p budget old → SolvesNodes p old new → new.stop ≡ None → IsMadeHere new
@@ -181,4 +181,4 @@ module _ (p : Program) (tree : Tree) (i : IsProgram p) (few : length p.nodes < n
         versions = step_versions mid k m told step stop ∙ h.versions;
         made = keeps (script_books p []) (right_books mid h.versions) h.made;
       }
-  solves_made budget old new b (anew mid k before over) stop = made_at_start mid.budget k over.beginning
+  solves_made budget old new b (anew mid k before ends over) stop = made_at_start mid.budget k over.beginning

@@ -141,7 +141,7 @@ module _ (p : Program) (old : State) where
       go : (b : Bool) → MakesStep p mid m new b → HasReason old why ⊎ Arises p old new why
       go b (begins_none rests points reasons ready) =
           opened mid.budget.solves ⊥ (gained (IsOfOpening mid.budget.solves ⊥) mid new why reasons h)
-      go b (opens_run closed opens points reasons run first) =
+      go b (opens_run closed earlier opens points reasons run first) =
           opened mid.budget.solves (IsStuckOpening p mid new.banks)
           (gained (IsOfOpening mid.budget.solves (IsStuckOpening p mid new.banks)) mid new why reasons h)
       go b (solves lasts n ready node) =
@@ -154,8 +154,8 @@ module _ (p : Program) (old : State) where
   arises new why none h = inl h
   arises new why (more mid k m told y left t step keeps) h =
       step_arises why mid k m told y (more mid k m told none left t step keeps) step (arises mid why y) h
-  arises new why (anew mid k y over) (inl e) = absurd (no_reason k.stop why over.beginning.stop e)
-  arises new why (anew mid k y over) (inr e) = absurd (no_reason k.lasting why over.beginning.lasting e)
+  arises new why (anew mid k y ends over) (inl e) = absurd (no_reason k.stop why over.beginning.stop e)
+  arises new why (anew mid k y ends over) (inr e) = absurd (no_reason k.lasting why over.beginning.lasting e)
 
   step_lasts : (mid new : State) (m : Machine) (told : Bool) → MakesStep p mid m new told → ((why : Open) → mid.lasting ≡ Some why → IsLasting why)
       → (why : Open) → new.lasting ≡ Some why → IsLasting why
@@ -167,7 +167,7 @@ module _ (p : Program) (old : State) where
 
       go : (b : Bool) → MakesStep p mid m new b → IsLasting why
       go b (begins_none rests points reasons ready) = by (IsOfOpening mid.budget.solves ⊥) (reasons.lasting why e)
-      go b (opens_run closed opens points reasons run first) =
+      go b (opens_run closed earlier opens points reasons run first) =
           by (IsOfOpening mid.budget.solves (IsStuckOpening p mid new.banks)) (reasons.lasting why e)
       go b (solves lasts n ready node) = by (IsOfThis mid n node.task) (node.reasons.lasting why e)
 
@@ -176,7 +176,7 @@ module _ (p : Program) (old : State) where
       → IsLasting why
   still_lasts new none h why e = h why e
   still_lasts new (more mid k m told y left t step keeps) h why e = step_lasts mid k m told step (still_lasts mid y h) why e
-  still_lasts new (anew mid k y over) h why e = absurd (no_reason k.lasting why over.beginning.lasting e)
+  still_lasts new (anew mid k y ends over) h why e = absurd (no_reason k.lasting why over.beginning.lasting e)
 
 -- ---- where solves are counted from 0
 pub begins_cleared : (p : Program) (budget : Budget) (s : State) → IsBeginning p budget s → IsCleared s

@@ -52,7 +52,7 @@ use Rattle.tree_method.specs.declared.method.Method.{Method}
 use Rattle.tree_method.specs.declared.method.Method.TheVariants.{Working as AtWork}
 use Rattle.tree_method.specs.Edited.{is_grown, KeepsTabled, IsEdited, HasNoTree}
 use Rattle.tree_method.specs.Laws.{TouchesCarry}
-use Rattle.tree_method.specs.Stands.{LeavesOpen, TellsWhy, IsInBudget, WorksOn, StandsOn, settled_in, SolvesNodes, none, more, anew, SolvesAnew}
+use Rattle.tree_method.specs.Stands.{LeavesOpen, TellsWhy, IsInBudget, WorksOn, StandsOn, settled_in, IsAtEnd, SolvesNodes, none, more, anew, SolvesAnew}
 use Rattle.tree_method.proofs.Standing.{touches_stand, versions_behind}
 
 -- ---- the frame
@@ -143,7 +143,7 @@ step_tabled p old new told step h = let s = step h.0 h.1 in (s.machine, s.tabled
 -- and the points standing
 step_points : (p : Program) (old new : State) (m : Machine) (told : Bool) → MakesStep p old m new told → PointsStand p new.lasts.nodes.items
 step_points p old new m told (begins_none rests points reasons ready) = points
-step_points p old new m told (opens_run closed opens points reasons run first) = points
+step_points p old new m told (opens_run closed earlier opens points reasons run first) = points
 step_points p old new m told (solves lasts n ready node) = node.points
 
 pub steps_points : (p : Program) (old new : State) (told : Bool)
@@ -155,7 +155,7 @@ steps_points p old new told step h points = step_points p old new h.0 told (step
 step_counts : (p : Program) (old new : State) (m : Machine) (told : Bool) → MakesStep p old m new told
     → (new.counts ≡ old.counts) ⊎ (new.counts ≡ with_commit old.counts)
 step_counts p old new m told (begins_none rests points reasons ready) = inl reasons.counts
-step_counts p old new m told (opens_run closed opens points reasons run first) = inl reasons.counts
+step_counts p old new m told (opens_run closed earlier opens points reasons run first) = inl reasons.counts
 step_counts p old new m told (solves lasts n ready node) = inr node.reasons.counts
 
 -- where something is left to find, so many solves aren't counted yet as are allowed
@@ -174,6 +174,14 @@ ended_by (Some case) other e = absurd (cc)
 pub goes_on : (s : State) → settled_in s ≡ None → s.counts.since_report < s.budget.solves
 goes_on s e = not_spent s.stop s.counts.since_report s.budget.solves
     (ended_by (shown s.kind s.table.closed s.ends) (ended s.stop s.counts.since_report s.budget.solves) e)
+
+pub not_stopped : (s : State) → settled_in s ≡ None → s.stop ≡ None
+not_stopped s e = go s.stop refl
+    (ended_by (shown s.kind s.table.closed s.ends) (ended s.stop s.counts.since_report s.budget.solves) e)
+  where
+    go : (stop : Option Open) → s.stop ≡ stop → ended stop s.counts.since_report s.budget.solves ≡ None → s.stop ≡ None
+    go (Some why) is e = absurd (cc)
+    go None is e = is
 
 one_more_within : (a b : ℕ) → a ≤ b → one_solve_more a ≤ one_solve_more b
 one_more_within a b h = omega (arith, h)
@@ -276,11 +284,11 @@ begun_open p budget s b less =
     ∙ ap (λ (spent : Bool). where_so spent Spent) (lt-leb s.budget.solves s.counts.since_report less)
 
 -- begun anew, its first step is a solve
-pub solves_anew : (p : Program) (old mid new : State) (told : Bool) → IsProgram p → StartsOver p old mid → IsTabled p mid
+pub solves_anew : (p : Program) (old mid new : State) (told : Bool) → IsProgram p → IsAtEnd p old → StartsOver p old mid → IsTabled p mid
     → mid.counts.since_report < mid.budget.solves
     → ((m : Machine) → IsTabledBy p mid m → MakesStep p mid m new told) → KeepsBooks p mid new → SolvesAnew p old new
-solves_anew p old mid new told i over tabled less step keeps = record {
-  solves = more mid new tabled.0 told (anew old mid none over) (begun_open p old.budget mid over.beginning less) tabled.1 (step tabled.0 tabled.1)
+solves_anew p old mid new told i ends over tabled less step keeps = record {
+  solves = more mid new tabled.0 told (anew old mid none ends over) (begun_open p old.budget mid over.beginning less) tabled.1 (step tabled.0 tabled.1)
       keeps;
   counts = first_counted p mid i new told over.beginning.frame over.beginning.is_begun tabled step ∙ ap with_commit over.counts;
 }
@@ -289,7 +297,7 @@ solves_anew p old mid new told i over tabled less step keeps = record {
 pub solves_behind : (p : Program) (a b c : State) → SolvesNodes p a b → SolvesNodes p b c → SolvesNodes p a c
 solves_behind p a b c x none = x
 solves_behind p a b c x (more mid new m told y left t step keeps) = more mid new m told (solves_behind p a b mid x y) left t step keeps
-solves_behind p a b c x (anew mid new y over) = anew mid new (solves_behind p a b mid x y) over
+solves_behind p a b c x (anew mid new y ends over) = anew mid new (solves_behind p a b mid x y) ends over
 
 -- the solves that are counted since a report don't become less, and have 64 bits
 pub more_counted : (p : Program) (a b : State) → a.counts.since_report < 2 ^ 64 → SolvesNodes p a b
@@ -303,7 +311,7 @@ more_counted p a b less (more mid new m told y left t step keeps) =
         → (a.counts.since_report ≤ new.counts.since_report) × (new.counts.since_report < 2 ^ 64)
     go (inl e) h = let k = ap (λ (c : Counts). c.since_report) e in (omega (arith, h.0, k), omega (arith, h.1, k))
     go (inr e) h = let k = ap (λ (c : Counts). c.since_report) e in (omega (arith, h.0, h.1, k), omega (arith, h.1, k))
-more_counted p a b less (anew mid new y over) =
+more_counted p a b less (anew mid new y ends over) =
     let h = more_counted p a mid less y in
     let k = ap (λ (c : Counts). c.since_report) over.counts in (omega (arith, h.0, k), omega (arith, h.1, k))
 

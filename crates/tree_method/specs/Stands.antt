@@ -19,10 +19,10 @@ use Rattle.pass_core.specs.Explained.{ComesOfSolve, PassesInRun, AreExplained}
 use Rattle.pass_core.specs.declared.state.State.{State}
 use Rattle.pass_core.specs.Beginning.{IsBeginning, StartsOver}
 use Rattle.pass_core.specs.Counting.{no_commits, with_commit, after_report}
-use Rattle.pass_core.specs.Tabled.{IsTabled, IsTabledBy, GoesBySteps}
+use Rattle.pass_core.specs.Tabled.{HasRoom, IsTabled, IsTabledBy, GoesBySteps}
 use Rattle.pass_core.specs.Made.{KeepsBooks}
 use Rattle.pass_core.specs.Reasons.{IsLasting}
-use Rattle.pass_core.specs.Turns.{PointsStand, SolvesNode, AreReady, MakesStep}
+use Rattle.pass_core.specs.Turns.{PointsStand, SolvesNode, AreReady, IsAtRest, MakesStep}
 use Rattle.run_ends.specs.declared.last.Lasts.{Lasts}
 use Rattle.run_ends.specs.declared.claims.Closed.{Closed}
 use Rattle.run_ends.specs.declared.settled.Settled.{Settled}
@@ -115,13 +115,24 @@ WorksBySteps p (Idle why own) new = new ≡ Idle why own
 abbrev pub settled_in : State → Option Settled
 settled_in s = settled s.kind s.table.closed s.ends s.stop s.counts.since_report s.budget.solves
 
--- where something is left to find, programs of nodes are solved, one behind the other, with the openings of runs between them, or the
--- program is begun anew, from one state to another; cuts that are made for books that are right of the program are followed by such cuts
+-- the method can't go on: nothing is left to find, or it is at rest, or there is no room for the number of another solve
+abbrev pub IsAtEnd : Program → State → Type 0
+IsAtEnd p s = (settled_in s ≡ None → ⊥) ⊎ ((m : Machine) → IsTabledBy p s m → HasRoom m → IsAtRest s m)
+
+-- so it is of a method at work
+abbrev pub EndsAt : Program → Method → Type 0
+EndsAt p (AtWork w) = IsAtEnd p w.state
+EndsAt p (Idle why own) = Unit {0}
+
+-- where something is left to find, programs of nodes are solved, one behind the other, with the openings of runs between them, or where
+-- the method can't go on the program is begun anew, from one state to another; cuts that are made for books that are right of the program
+-- are followed by such cuts
 pub data SolvesNodes (p : Program) (old : State) : State → Type 0 where
   none : SolvesNodes p old old
   more : (mid new : State) (m : Machine) (told : Bool) → SolvesNodes p old mid → settled_in mid ≡ None → IsTabledBy p mid m
       → MakesStep p mid m new told → KeepsBooks p mid new → SolvesNodes p old new
-  anew : (mid new : State) → SolvesNodes p old mid → StartsOver p mid new → SolvesNodes p old new
+  -- begun anew where the method can't go on
+  anew : (mid new : State) → SolvesNodes p old mid → IsAtEnd p mid → StartsOver p mid new → SolvesNodes p old new
 
 -- the method has done nothing but that on the program
 abbrev pub WorksBySolves : Program → Method → Method → Type 0
@@ -164,9 +175,10 @@ pub record SolvesAnew (p : Program) (old new : State) : Type 0 where
   pub solves : SolvesNodes p old new
   pub counts : new.counts ≡ with_commit old.counts
 
--- a method at work whose solves haven't ended is begun anew, and makes one more solve
+-- a method at work that can't go on, though its solves haven't ended, is begun anew, and makes one more solve
 abbrev pub WorksAnew : Program → Method → Method → Type 0
-WorksAnew p (AtWork old) (AtWork new) = old.state.counts.since_report < old.state.budget.solves → SolvesAnew p old.state new.state
+WorksAnew p (AtWork old) (AtWork new) =
+    old.state.counts.since_report < old.state.budget.solves → IsAtEnd p old.state → SolvesAnew p old.state new.state
 WorksAnew p (AtWork old) (Idle why own) = ⊥
 WorksAnew p (Idle why own) new = new ≡ Idle why own
 

@@ -1,5 +1,5 @@
 //! The nested method at work on a program.
-ghost use Rattle.std.specs.Prelude.{◌≡◌, ◌⊎◌, ◌<◌, ℕ, false, List, IfOk, OnOk};
+ghost use Rattle.std.specs.Prelude.{◌≡◌, ◌⊎◌, ◌<◌, ◌≤◌, ◌-◌, ◌^◌, ℕ, false, List, IfOk, OnOk};
 ghost use Rattle.scen_defs.specs.Program.{content, Program as ProgramOf};
 ghost use Rattle.scen_defs.specs.Valid.{IsProgram, IsSmall};
 ghost use Rattle.run_data.specs.Frames.{frame_of};
@@ -10,7 +10,7 @@ ghost use Rattle.tree_method.specs.Edited.{IsTreeless};
 ghost use Rattle.tree_method.specs.Scripted.{AreToCome, IsInHistory, IsInScript, StaysInScript, IsFoundInHistory, FindsInScript};
 ghost use Rattle.pass_core.specs.Tabled.{IsTabledBy, GoesBySteps};
 ghost use Rattle.tree_method.specs.Stands.{HasFewNodes, WorksOn, StandsOn, Begins, WorksBySteps, TellsWhy};
-ghost use Rattle.tree_method.specs.Stands.{SolvesNodes, WorksBySolves, IsFoundBySolves, FindsBySolves};
+ghost use Rattle.tree_method.specs.Stands.{IsAtEnd, EndsAt, SolvesNodes, WorksBySolves, IsFoundBySolves, FindsBySolves};
 ghost use Rattle.tree_method.specs.Stands.{SolvesAnew, WorksAnew, is_spent, after_telling};
 
 use crate::found::{Found, nothing};
@@ -53,6 +53,13 @@ pub(crate) fn treeless(fault: TreeFault) -> Result<Open, Memory>
 }
 
 impl Working {
+    /// How many solves are allowed between two reports.
+    fn allowed(&self) -> u64
+        ensures { result ≡ self.now.state.budget.solves }
+    {
+        self.state.budget().solves
+    }
+
     /// Takes steps until so many solves were committed since the last item, or nothing is left to find.
     fn run(&mut self, alloc: Global, program: &Program, work: u64) -> Result<(), Memory>
         ensures stays { let p = content program.now in (budget : BudgetOf)
@@ -64,8 +71,17 @@ impl Working {
         ensures made { let p = content program.now in (budget : BudgetOf) (first : ProgramOf) (edits rest : List Edit) (came : ℕ)
             → WorksOn p budget self.old → IsInHistory first edits came p rest self.old.state
             → OnOk result (IsInHistory first edits came p rest self.new.state) }
+        // so many solves were committed, or it can't go on
+        ensures ends { let p = content program.now in (budget : BudgetOf) → IsProgram p → HasFewNodes p
+            → WorksOn p budget self.old
+            → OnOk result ((work ≤ self.new.state.counts.since_item) ⊎ IsAtEnd p self.new.state) }
+        // where as many are asked for as are ever committed, it can't go on
+        ensures endless { work ≡ 2 ^ 64 - 1 → let p = content program.now in (budget : BudgetOf) → IsProgram p → HasFewNodes p
+            → WorksOn p budget self.old → OnOk result (IsAtEnd p self.new.state) }
     {
-        for _ in 0..u64::MAX {
+        'steps: loop {
+            // the steps end, since this number has 64 bits
+            let _allowed = self.allowed();
             if self.state.is_ripe(work) || !self.state.advance(alloc, program, &self.tree)? {
                 break;
             }
@@ -89,6 +105,8 @@ impl Working {
         ensures claims { let p = content program.now in (budget : BudgetOf) (first : ProgramOf) (edits rest : List Edit) (came : ℕ)
             → WorksOn p budget self.old → IsInHistory first edits came p rest self.old.state
             → IfOk result (IsFoundInHistory first edits came p rest) }
+        ensures ends { let p = content program.now in (budget : BudgetOf) → IsProgram p → HasFewNodes p
+            → WorksOn p budget self.old → OnOk result (IsAtEnd p self.new.state) }
     {
         self.run(alloc, program, ENDLESS)?;
         let closed = self.state.found(alloc)?;
@@ -105,7 +123,7 @@ impl Working {
             → self.old.state.counts.since_report < self.old.state.budget.solves
             → WorksOn p budget self.old → OnOk result (WorksOn p budget self.new) }
         ensures solves { let p = content program.now in (budget : BudgetOf) → IsProgram p → HasFewNodes p
-            → self.old.state.counts.since_report < self.old.state.budget.solves
+            → self.old.state.counts.since_report < self.old.state.budget.solves → IsAtEnd p self.old.state
             → WorksOn p budget self.old → OnOk result (SolvesAnew p self.old.state self.new.state) }
         ensures made { let p = content program.now in (budget : BudgetOf) (first : ProgramOf) (edits rest : List Edit) (came : ℕ)
             → WorksOn p budget self.old → IsInHistory first edits came p rest self.old.state
@@ -175,6 +193,9 @@ impl Method {
         ensures claims { let p = content program.now in (budget : BudgetOf) (first : ProgramOf) (edits rest : List Edit) (came : ℕ)
             → StandsOn p budget self.old → IsInScript first edits came p rest self.old
             → IfOk result (FindsInScript first edits came p rest self.old) }
+        // it ends only where it can't go on
+        ensures ends { let p = content program.now in (budget : BudgetOf) → IsProgram p → HasFewNodes p
+            → StandsOn p budget self.old → OnOk result (EndsAt p self.new) }
     {
         match self {
             Method::Working(working) => working.find(alloc, program),

@@ -20,7 +20,9 @@ use Rattle.pass_core.proofs.Tabling.{ready_tabled, refit, room_of, room_in, begu
 use Rattle.run_data.specs.declared.versions.Version.{Version}
 use Rattle.pass_core.specs.Made.{AreBooksOf}
 use Rattle.pass_core.proofs.Making.{same_made}
+use Rattle.pass_core.proofs.Resting.{only_cost}
 use Rattle.pass_core.proofs.state.State.advance.Goals as goal
+use Rattle.pass_core.proofs.state.State.advance.Goals.{else-is_closed-via-then-is_closed+else-ne, else-is_closed-via-else-is_closed}
 
 pub returns-then-not-has_room-clause-tabled : goal.returns-then-not-has_room-clause-tabled
 returns-then-not-has_room-clause-tabled c = λ m i frame t.
@@ -63,7 +65,7 @@ returns-then-not-has_room-clause-solves c = λ m i walk frame t stand.
     let p = content c.args.program.now in
     let s = c.get_ready.new.self in
     let u : IsTabledBy p s m = ready_tabled p m c.args.self.now s t c.in_ok-get_ready.ensures.others c.in_ok-get_ready.ensures.begun in
-    begins_none (λ room n may. let no : false ≡ true = c.if-not-has_room.ensures.1 (room_in m s.table u.fits room) in absurd (cc))
+    begins_none (λ room. let no : false ≡ true = c.if-not-has_room.ensures.1 (room_in m s.table u.fits room) in absurd (cc))
     (c.in_ok-get_ready.ensures.points p stand)
     (ready_gains (IsOfOpening c.args.self.now.budget.solves ⊥) c.args.self.now s c.in_ok-get_ready.ensures.others)
     (record {
@@ -81,7 +83,9 @@ returns-then-ne-clause-solves c = λ m i walk frame t stand.
     let s = c.get_ready.new.self in
     let u : IsTabledBy p s m = ready_tabled p m c.args.self.now s t c.in_ok-get_ready.ensures.others c.in_ok-get_ready.ensures.begun in
     let room : HasRoom m = room_of m s.table u.fits (c.if-not-has_room.ensures.0 refl) in
-    opens_run ((c.if-is_closed.ensures.meaning m u.fits).0 refl) (c.in_ok-open_next.ensures.tabled p m u c.in_ok-get_ready.ensures.begun room.1)
+    opens_run ((c.if-is_closed.ensures.meaning m u.fits).0 refl)
+    (λ e. let no : true ≡ false = subst (λ (k : Kind). true ≡ not (sameb the_type k Cost)) (ap (λ (x : State). x.kind) c.in_ok-get_ready.ensures.others ∙ e) c.if-ne.ensures in absurd (cc))
+    (c.in_ok-open_next.ensures.tabled p m u c.in_ok-get_ready.ensures.begun room.1)
     (c.in_ok-open_next.ensures.points p (c.in_ok-get_ready.ensures.points p stand))
     (opening_stuck p c.args.tree.now c.args.self.now s c.open_next.new.self c.in_ok-get_ready.ensures.others walk
     c.in_ok-open_next.ensures.reasons)
@@ -111,7 +115,13 @@ returns-in-None-clause-solves c = λ m i walk frame t stand.
     let s = c.get_ready.new.self in
     let u : IsTabledBy p s m = ready_tabled p m c.args.self.now s t c.in_ok-get_ready.ensures.others c.in_ok-get_ready.ensures.begun in
     let none = c.in-None.ensures m u.valid u.fits (u.idle 0) in
-    begins_none (λ room. none.0) (c.in_ok-get_ready.ensures.points p stand)
+    begins_none (λ room. record {
+      idle = none.0;
+      last = λ closed. sym (ap (λ (x : State). x.kind) c.in_ok-get_ready.ensures.others) ∙ (elim c.else-is_closed.branch [
+        | else-is_closed-via-then-is_closed+else-ne w ↦ only_cost s.kind w.if-ne.ensures
+        | else-is_closed-via-else-is_closed w ↦ let no : false ≡ true = (w.if-is_closed.ensures.meaning m u.fits).1 closed in absurd (cc)
+      ]);
+    }) (c.in_ok-get_ready.ensures.points p stand)
     (let g = ready_gains (IsOfOpening c.args.self.now.budget.solves ⊥) c.args.self.now s c.in_ok-get_ready.ensures.others in
     record { counts = g.counts; stop = g.stop; lasting = g.lasting })
     (let stays = ready_stays c.args.self.now s c.in_ok-get_ready.ensures.others in

@@ -17,3 +17,7 @@ returns-in-Working-clause-claims c = λ budget first edits rest came s h.
     let p : Program = content c.args.program.now in
     subst (λ (m : Method). IfOk c.find.result (FindsInScript first edits came p rest m)) (sym c.in-Working.is)
     (c.find.ensures.claims budget first edits rest came (subst (StandsOn p budget) c.in-Working.is s) (subst (IsInScript first edits came p rest) c.in-Working.is h))
+
+pub returns-in-Working-clause-ends : goal.returns-in-Working-clause-ends
+returns-in-Working-clause-ends c = λ budget i few s.
+    c.find.ensures.ends budget i few (subst (StandsOn (content c.args.program.now) budget) c.in-Working.is s)

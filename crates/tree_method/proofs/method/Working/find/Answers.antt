@@ -25,3 +25,6 @@ returns-clause-claims c = λ budget first edits rest came w h. record {
   history = c.in_ok-run.ensures.made budget first edits rest came w h;
   claim = ap (λ (x : Closed). x.claim) c.in_ok-closed.ensures.claim;
 }
+
+pub returns-clause-ends : goal.returns-clause-ends
+returns-clause-ends c = λ budget i few w. c.in_ok-run.ensures.endless refl budget i few w

@@ -9,10 +9,11 @@ use Rattle.pass_table.specs.Marks.{nothing}
 use Rattle.pass_core.specs.declared.budget.Budget.{Budget}
 use Rattle.pass_core.specs.Tabled.{IsTabledBy, GoesBySteps}
 use Rattle.tree_method.specs.Stands.{WorksOn, SolvesNodes}
+use Rattle.tree_method.proofs.Ending.{steps_left}
 use Rattle.tree_method.proofs.method.Working.run.Given as goal
 
-abbrev pub invariant-loop : goal.invariant-loop
-invariant-loop l = ((budget : Budget) → WorksOn (content l.program) budget l.fn.self → WorksOn (content l.program) budget l.self)
+abbrev pub invariant-steps : goal.invariant-steps
+invariant-steps l = ((budget : Budget) → WorksOn (content l.program) budget l.fn.self → WorksOn (content l.program) budget l.self)
     × ((m : Machine) → IsProgram (content l.program) → l.fn.self.state.frame ≡ frame_of (content l.program)
     → IsTabledBy (content l.program) l.fn.self.state m
     → GoesBySteps (content l.program) m l.self.state × (l.self.state.frame ≡ frame_of (content l.program)))
@@ -20,3 +21,6 @@ invariant-loop l = ((budget : Budget) → WorksOn (content l.program) budget l.f
     → SolvesNodes (content l.program) l.fn.self.state l.self.state)
     × ((budget : Budget) (first : Program) (edits rest : List Edit) (came : ℕ) → WorksOn (content l.program) budget l.fn.self
     → IsInHistory first edits came (content l.program) rest l.fn.self.state → IsInHistory first edits came (content l.program) rest l.self.state)
+
+abbrev pub decreases-steps : goal.decreases-steps
+decreases-steps l = steps_left l.self.state

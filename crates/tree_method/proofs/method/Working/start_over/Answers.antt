@@ -18,12 +18,12 @@ returns-clause-stays c = λ budget small left w.
     (same_left p c.args.self.now.state mid.state (c.in_ok-start_over.ensures.over small) left) (λ m. c.in_ok-advance.ensures.solves m i t f)) over
 
 pub returns-clause-solves : goal.returns-clause-solves
-returns-clause-solves c = λ budget i few left w.
+returns-clause-solves c = λ budget i few left ends w.
     let p = content c.args.program.now in
     let mid : Working = record { state = c.start_over.new.self; tree = c.args.self.now.tree } in
     let starts = c.in_ok-start_over.ensures.starts i few in
     let over = over_stands p budget mid.tree c.args.self.now.state mid.state (c.in_ok-start_over.ensures.over i.small) c.in_ok-start_over.ensures.tabled w in
-    solves_anew p c.args.self.now.state mid.state c.advance.new.self _ i starts (c.in_ok-start_over.ensures.tabled i few)
+    solves_anew p c.args.self.now.state mid.state c.advance.new.self _ i ends starts (c.in_ok-start_over.ensures.tabled i few)
     (same_left p c.args.self.now.state mid.state (c.in_ok-start_over.ensures.over i.small) left)
     (λ m t. c.in_ok-advance.ensures.solves m i over.tree over.frame t (over.points i few))
     (λ b right made. c.in_ok-advance.ensures.made b i over.tree over.frame right made)
