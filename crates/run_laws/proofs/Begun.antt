@@ -19,7 +19,7 @@ use Rattle.pass_core.specs.Left.{places_in}
 use Rattle.pass_core.specs.Tabled.{IsTabledBy}
 use Rattle.pass_core.specs.Turns.{AreReady}
 use Rattle.pass_core.proofs.Parentage.{root_lives}
-use Rattle.run_laws.proofs.Standing.{Known, known_of, EndsHold, StandsBy}
+use Rattle.run_laws.proofs.Standing.{Known, known_of, EndsHold, BanksStand, HasFirstCuts, StandsBy}
 
 -- no node of the machine has a last solve
 abbrev pub IsUnsolved : Machine → Type 0
@@ -27,9 +27,12 @@ IsUnsolved m = (n : ℕ) → (m.last n).commit ≡ 0
 
 pub unsolved_stands : (p : Program) (tree : Tree) (w : Known) (m : Machine) → IsProgram p → IsUnsolved m
     → ((n : ℕ) → m.live n ≡ passes_at is_live n p.nodes) → EndsHold p w.ends
-    → ((w.kind ≡ Feasible → ⊥) → (u : Priced) × (w.ends.upper ≡ Some u)) → StandsBy p tree w m
-unsolved_stands p tree w m i none live ends policy = record {
+    → ((w.kind ≡ Feasible → ⊥) → (u : Priced) × (w.ends.upper ≡ Some u)) → BanksStand p w m
+    → ((w.kind ≡ Feasible → ⊥) → HasFirstCuts p tree w) → StandsBy p tree w m
+unsolved_stands p tree w m i none live ends policy banks grounds = record {
   policy = policy;
+  banks = banks;
+  grounds = grounds;
   lasts = λ n l c h. let z : (m.last n).commit ≡ 0 = none n in absurd (omega (arith, c, z));
   nones = λ n l c h. let z : (m.last n).commit ≡ 0 = none n in absurd (omega (arith, c, z));
   ends = ends;
@@ -37,13 +40,13 @@ unsolved_stands p tree w m i none live ends policy = record {
       let z : (m.last 0).commit ≡ 0 = none 0 in absurd (omega (arith, g.0.solved, z));
 }
 
--- before anything is done a table fits no other machine
-pub unused_unsolved : (p : Program) (s : State) (m : Machine) → IsProgram p → s.frame ≡ frame_of p → IsTabledBy p s m → s.is_begun ≡ false → IsUnsolved m
-unused_unsolved p s m i frame table idle n =
+-- before anything is done a table fits no other machine: nothing was committed
+pub unused_uncommitted : (p : Program) (s : State) (m : Machine) → IsProgram p → s.frame ≡ frame_of p → IsTabledBy p s m → s.is_begun ≡ false → m.commits ≡ 0
+unused_uncommitted p s m i frame table idle =
     let fits : Fits s.table start = table.unused idle start is_start in
     let same : (lists_of s.table).commits ≡ 0 = fits.agrees.commits in
     let now : (lists_of s.table).commits ≡ m.commits = table.fits.agrees.commits in
-    omega (arith, table.valid.numbered n, same, now)
+    omega (arith, same, now)
   where
     start : Machine
     start = record {
@@ -77,6 +80,9 @@ pub record IsReadyState (p : Program) (tree : Tree) (s : State) (lasts : Lasts) 
   pub stands : StandsBy p tree (known_of (record s { lasts = lasts })) m
   pub long : length lasts.nodes.items ≡ length p.nodes
 
+pub unused_unsolved : (p : Program) (s : State) (m : Machine) → IsProgram p → s.frame ≡ frame_of p → IsTabledBy p s m → s.is_begun ≡ false → IsUnsolved m
+unused_unsolved p s m i frame table idle n = omega (arith, table.valid.numbered n, unused_uncommitted p s m i frame table idle)
+
 -- there is a place for each node, where they have numbers
 pub places_of : (p : Program) → length p.nodes < nothing → places_in (frame_of p) ≡ length p.nodes
 places_of p few = omega (arith, few, length-map p.nodes parent_of)
@@ -93,6 +99,7 @@ ready_stands p tree s lasts m i few frame table stands long ready = go s.is_begu
     }
     go false e = record {
       stands = unsolved_stands p tree (known_of (record s { lasts = lasts })) m i (unused_unsolved p s m i frame table e) table.machine.live stands.ends
-          stands.policy;
+          stands.policy stands.banks (λ ne. let g : HasFirstCuts p tree (known_of s) = stands.grounds ne in
+          record { dual = g.dual; cuts = g.cuts; are = g.are; placed = g.placed });
       long = ap length (ready.none e) ∙ length-replicate (places_in s.frame) None ∙ ap places_in frame ∙ places_of p few;
     }

@@ -11,3 +11,5 @@ pub mod Begun
 pub mod Kept
 pub mod Meeting
 pub mod NoDead
+pub mod PoolSteps
+pub mod Refusals

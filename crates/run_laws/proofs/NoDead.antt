@@ -46,7 +46,8 @@ use Rattle.pass_core.proofs.Assembling.{root_is_worth}
 use Rattle.policy_laws.proofs.Places.{tree_in}
 use Rattle.tree_method.specs.Stands.{settled_in}
 use Rattle.run_laws.proofs.Standing.{Known, known_of, pools_in, ShowsNone, HasLast, HasNone, EndsHold, StandsBy}
-use Rattle.run_laws.specs.Laws.{IsReached, IsFollowed, RunsGoOn}
+use Rattle.run_laws.specs.Laws.{IsReached, IsFollowed, RunsGoOn, EndsAreSettled}
+use Rattle.pass_core.specs.Turns.{IsAtRest}
 use Rattle.run_laws.proofs.Kept.{IsStanding, IsMadeHere, unstopped, solves_stand, solves_made}
 use Rattle.run_laws.proofs.Meeting.{closed_runs_meet}
 use Rattle.run_laws.proofs.Policies.{UpToDate, no_ray_above}
@@ -208,3 +209,10 @@ runs_go_on p s m r table open_yet fails =
       closed = closed;
       earlier = λ costly. let q : None ≡ Some Optimal = sym open_yet ∙ closed_runs_meet p s m r table closed costly stop in absurd (cc);
     }
+
+pub ends_are_settled : EndsAreSettled
+ends_are_settled p s m r table room (inl settled) open_yet = settled open_yet
+ends_are_settled p s m r table room (inr rests) open_yet =
+    let rest : IsAtRest s m = rests m table room in
+    let f : IsFollowed s m = runs_go_on p s m r table open_yet rest.idle in
+    f.earlier (rest.last f.closed)

@@ -1,5 +1,5 @@
 -- Two machines that a table fits agree on what the table tells.
-use Rattle.std.proofs.Common.{◌≡◌, ℕ, ◌<◌, ◌↔◌, true, arith, sym, ap, subst, ◌∙◌}
+use Rattle.std.proofs.Common.{◌≡◌, ℕ, ◌+◌, ◌<◌, ◌↔◌, true, arith, sym, ap, subst, ◌∙◌}
 use Rattle.scen_defs.specs.Program.{Program}
 use Rattle.pass_table.specs.Machine.{Machine, IsLive, IsMade, IsFresh, IsChild, HasPoint, IsComplete, IsValid}
 use Rattle.pass_table.specs.Fits.{Lists, lists_of, AreRead}
@@ -7,7 +7,8 @@ use Rattle.pass_table.proofs.Agree.{made_is, made_at}
 use Rattle.pass_core.specs.declared.state.State.{State}
 use Rattle.pass_core.specs.Tabled.{IsTabledBy}
 use Rattle.scen_tree.specs.Trees.{Tree}
-use Rattle.run_laws.proofs.Standing.{known_of, HasLast, HasNone, StandsBy}
+use Rattle.run_laws.proofs.Standing.{known_of, PoolStands, runs_before, HasLast, HasNone, StandsBy}
+use Rattle.cut_banks.specs.Banks.{pools_in as pools_of_bank}
 
 -- what two machines of one state agree on at a live node
 pub record Agree (m k : Machine) (n : ℕ) : Type 0 where
@@ -64,4 +65,7 @@ stands_too p tree s m k tm tk h = record {
   ends = h.ends;
   complete = λ c. h.complete (complete_too p s m k tm tk c);
   policy = h.policy;
+  banks = λ bank n l. let e : m.commits ≡ k.commits = sym tm.fits.agrees.commits ∙ tk.fits.agrees.commits in
+      subst (λ (c : ℕ). PoolStands (c + runs_before s.kind) (pools_of_bank bank s.banks) n) e (h.banks bank n l);
+  grounds = h.grounds;
 }

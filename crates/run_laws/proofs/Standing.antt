@@ -1,12 +1,12 @@
 -- What a run that nothing stops keeps of the last solves of its nodes, of its pools and of its ends.
-use Rattle.std.specs.Prelude.{◌≡◌, ℕ, ◌<◌, false, List, map, Option, Some, None, Ok, IfSome, slice_get}
+use Rattle.std.specs.Prelude.{◌≡◌, ℕ, ◌+◌, ◌<◌, ◌≤◌, false, List, [], map, slice_index_or, Option, Some, None, Ok, IfSome, slice_get}
 use Rattle.std.specs.List.{Contains}
 use Rattle.rationals.specs.Rational.{ℚ, zero_ℚ, one_ℚ, ◌≤ℚ◌, ◌<ℚ◌}
 use Rattle.rationals.specs.Forms.{add_scaled_walk}
 use Rattle.rationals.specs.Sparse.{Entry}
 use Rattle.scen_defs.specs.Program.{Program, view_of}
 use Rattle.scen_defs.specs.Flat.{Feasible, cost}
-use Rattle.scen_defs.specs.Values.{at}
+use Rattle.scen_defs.specs.Values.{At, at}
 use Rattle.scen_defs.specs.declared.report.Kind.{Kind}
 use Rattle.scen_defs.specs.declared.report.Kind.TheVariants.{Feasible as FeasibleRun, Recession, Cost}
 use Rattle.scen_tree.specs.Trees.{Tree}
@@ -14,7 +14,9 @@ use Rattle.cut_defs.specs.Stored.{Stored, source_of, constant_of}
 use Rattle.cut_defs.specs.declared.kinds.CutKind.TheVariants.{Bound, Ray}
 use Rattle.cut_pool.specs.Held.{Held}
 use Rattle.cut_banks.specs.declared.banks.Banks.{Banks}
-use Rattle.cut_banks.specs.Banks.{pools_of}
+use Rattle.cut_banks.specs.Banks.{pools_of, pools_in as pools_of_bank}
+use Rattle.cut_defs.specs.declared.kinds.Bank.{Bank}
+use Rattle.scen_defs.specs.Valid.{Lives}
 use Rattle.cut_banks.specs.Pools.{cuts_of, cuts_read}
 use Rattle.node_lp.specs.declared.task.Task.{Task}
 use Rattle.node_lp.specs.Answers.{value_at_trial, PointAnswer}
@@ -31,7 +33,7 @@ use Rattle.run_ends.specs.declared.ends.Ends.{Ends}
 use Rattle.run_ends.specs.Costs.{joined_cost}
 use Rattle.run_ends.specs.Lasts.{last_at, trial_of}
 use Rattle.pass_core.specs.declared.state.State.{State}
-use Rattle.pass_core.specs.Turns.{datum_in}
+use Rattle.pass_core.specs.Turns.{datum_in, AreFirstCuts}
 
 -- what a state knows in its run
 pub record Known : Type 0 where
@@ -63,6 +65,14 @@ pub record HasMember (pools : List Held) (n : ℕ) (Holds : Stored → Type 0) :
   pub cut : Stored
   pub member : Contains pool.cuts cut
   pub holds : Holds cut
+
+-- the pool of node n: of that node, without touches, with a number that is at most this
+pub record PoolStands (most : ℕ) (pools : List Held) (n : ℕ) : Type 0 where
+  pub pool : Held
+  pub there : slice_get pools n ≡ Some pool
+  pub node : pool.node ≡ n
+  pub known : pool.known ≡ []
+  pub few : pool.number ≤ most
 
 -- a Bound cut whose value at the trial is at least this
 abbrev pub IsAtLeast : List Entry → ℚ → Stored → Type 0
@@ -113,6 +123,23 @@ pub record HasCost (p : Program) (tree : Tree) (w : Known) : Type 0 where
   pub costs : joined_cost p.nodes tree.chances.totals w.lasts ≡ Ok cost
   pub upper : (w.kind ≡ Recession → ⊥) → (u : Priced) × ((w.ends.upper ≡ Some u) × (u.cost ≤ℚ cost))
 
+-- how many runs were opened before one of this kind
+abbrev pub runs_before : Kind → ℕ
+runs_before FeasibleRun = 0
+runs_before Recession = 1
+runs_before Cost = 2
+
+-- the pools of both banks are of their nodes, no touch is known, and the number of each is at most that of the commits and runs
+abbrev pub BanksStand : Program → Known → Machine → Type 0
+BanksStand p w m = (bank : Bank) (n : ℕ) → Lives p n → PoolStands (m.commits + runs_before w.kind) (pools_of_bank bank w.banks) n
+
+-- the pools of the run have its first cuts
+pub record HasFirstCuts (p : Program) (tree : Tree) (w : Known) : Type 0 where
+  pub dual : List At
+  pub cuts : List (Option Stored)
+  pub are : AreFirstCuts w.kind p tree w.versions dual cuts
+  pub placed : (n : ℕ) (cut : Stored) → slice_index_or cuts n None ≡ Some cut → 0 < n → HasMember (pools_in w) n (λ c. c ≡ cut)
+
 -- the run stands on its last solves
 pub record StandsBy (p : Program) (tree : Tree) (w : Known) (m : Machine) : Type 0 where
   pub lasts : (n : ℕ) → IsLive m n → 0 < (m.last n).commit → HasPoint m n → HasLast p w m n
@@ -121,3 +148,5 @@ pub record StandsBy (p : Program) (tree : Tree) (w : Known) (m : Machine) : Type
   pub complete : IsComplete m → HasCost p tree w
   -- behind a Feasible run there is a policy
   pub policy : (w.kind ≡ FeasibleRun → ⊥) → (u : Priced) × (w.ends.upper ≡ Some u)
+  pub banks : BanksStand p w m
+  pub grounds : (w.kind ≡ FeasibleRun → ⊥) → HasFirstCuts p tree w

@@ -3,7 +3,7 @@ use Rattle.std.proofs.Common.{◌≡◌, ℕ, ◌+◌, ◌<◌, ◌≤◌, Bool,
 use Rattle.scen_defs.specs.Lists.{pick}
 use Rattle.pass_table.specs.Machine.{IsAbove, Last, Flight, Machine, IsMade, IsValid, IsNext, begun, with_at, committed, raised}
 use Rattle.pass_table.proofs.Stale.{same_at, other_at}
-use Rattle.one_worker.specs.Turn.{IsIdle, first_flight, read_by_each, read_each}
+use Rattle.one_worker.specs.Turn.{IsIdle, first_flight, read_by_each, read_each, EndsTurn, drops, commits, adds, TakesTurn}
 use Rattle.one_worker.proofs.Turning.{AreReads, node_read, turn_reads}
 use Rattle.pass_core.specs.Tabled.{committed_with}
 
@@ -11,6 +11,7 @@ use Rattle.pass_core.specs.Tabled.{committed_with}
 pub record IsTurned (m k : Machine) (n : ℕ) (point : Bool) : Type 0 where
   pub live : k.live ≡ m.live
   pub parent : k.parent ≡ m.parent
+  pub commits : k.commits ≡ m.commits + 1
   pub commit : (k.last n).commit ≡ m.commits + 1
   pub has_point : (k.last n).point ≡ point
   pub others : (j : ℕ) → (j ≡ n → ⊥) → k.last j ≡ m.last j
@@ -20,6 +21,7 @@ committed_turns : (m : Machine) (f : Flight) (point added : Bool) (n : ℕ) → 
 committed_turns m f point true n e = record {
   live = refl;
   parent = refl;
+  commits = refl;
   commit = ap (λ (l : Last). l.commit) (same_at m.last f.node _ n (sym e));
   has_point = ap (λ (l : Last). l.point) (same_at m.last f.node _ n (sym e));
   others = λ j ne. other_at m.last f.node _ j (λ q. ne (q ∙ e));
@@ -27,6 +29,7 @@ committed_turns m f point true n e = record {
 committed_turns m f point false n e = record {
   live = refl;
   parent = refl;
+  commits = refl;
   commit = ap (λ (l : Last). l.commit) (same_at m.last f.node _ n (sym e));
   has_point = ap (λ (l : Last). l.point) (same_at m.last f.node _ n (sym e));
   others = λ j ne. other_at m.last f.node _ j (λ q. ne (q ∙ e));
@@ -43,6 +46,7 @@ turned m k n cs point added valid idle next e =
     subst (λ (k : Machine). IsTurned m k n point) (sym e) (record {
       live = c.live ∙ reads.live;
       parent = c.parent ∙ reads.parent;
+      commits = c.commits ∙ ap (λ (x : ℕ). x + 1) reads.commits;
       commit = c.commit ∙ ap (λ (x : ℕ). x + 1) reads.commits;
       has_point = c.has_point;
       others = λ j ne. c.others j ne ∙ ap (λ (l : ℕ → Last). l j) reads.last;
@@ -64,3 +68,15 @@ made_before m k n j point valid turn ne made = (record {
 
     go : (a : ℕ) → IsAbove m.parent a j → (m.last a).commit ≡ (m.last j).above a
     go a up = ap (λ (l : Last). l.commit) (sym (turn.others a (λ e. below (subst (λ (x : ℕ). IsAbove m.parent x j) e up)))) ∙ seen a up
+
+-- a turn is one commit, however it ends
+ends_commits : (m : Machine) (f : Flight) (added : Bool) (k : Machine) → EndsTurn m f added k → k.commits ≡ m.commits + 1
+ends_commits m f added k drops = refl
+ends_commits m f added k (commits point) = refl
+ends_commits m f added k (adds point low) = refl
+
+pub turn_commits : (m k : Machine) → IsValid m → IsIdle m → TakesTurn m k → k.commits ≡ m.commits + 1
+turn_commits m k valid idle turn =
+    let reads = turn_reads m turn.node turn.children valid idle turn.next in
+    ends_commits (read_each (begun m 0 turn.node) (first_flight m turn.node) turn.children)
+    (read_by_each m.number (first_flight m turn.node) turn.children) turn.added k turn.ends ∙ ap (λ (x : ℕ). x + 1) reads.commits

@@ -1,5 +1,5 @@
 -- What the runs of the nested method come to on a program without edits.
-use Rattle.std.specs.Prelude.{◌≡◌, ℕ, Some, None, Ok}
+use Rattle.std.specs.Prelude.{◌≡◌, ℕ, ◌<◌, ◌^◌, Some, None, Ok}
 use Rattle.scen_defs.specs.Program.{Program}
 use Rattle.scen_defs.specs.Valid.{IsProgram}
 use Rattle.scen_defs.specs.declared.report.Kind.TheVariants.{Cost}
@@ -9,8 +9,14 @@ use Rattle.run_ends.specs.declared.settled.Settled.TheVariants.{Optimal}
 use Rattle.pass_core.specs.declared.budget.Budget.{Budget}
 use Rattle.pass_core.specs.declared.state.State.{State}
 use Rattle.pass_core.specs.Beginning.{IsBeginning}
-use Rattle.pass_core.specs.Tabled.{IsTabledBy}
-use Rattle.tree_method.specs.Stands.{HasFewNodes, SolvesNodes, settled_in}
+use Rattle.cut_defs.specs.Stored.{Stored}
+use Rattle.node_lp.specs.Told.{node_solved}
+use Rattle.run_ends.specs.declared.last.Lasts.{Lasts}
+use Rattle.pass_core.specs.Explained.{cut_given}
+use Rattle.pass_core.specs.Reasons.{RefusesCut}
+use Rattle.pass_core.specs.Tabled.{HasRoom, IsTabledBy}
+use Rattle.pass_core.specs.Turns.{SolvesNode}
+use Rattle.tree_method.specs.Stands.{HasFewNodes, SolvesNodes, IsAtEnd, settled_in}
 
 -- a program with its tree was begun, and its nodes solved one behind the other, up to this state
 pub record IsReached (p : Program) (s : State) : Type 0 where
@@ -33,7 +39,17 @@ pub record IsFollowed (s : State) (m : Machine) : Type 0 where
   pub closed : IsClosed m
   pub earlier : s.kind ≡ Cost → ⊥
 
--- so the method never comes to an end where something is left to find
 abbrev pub RunsGoOn : Type 0
 RunsGoOn = (p : Program) (s : State) (m : Machine) → IsReached p s → IsTabledBy p s m → settled_in s ≡ None → ((n : ℕ) → MayBegin m n → ⊥)
     → IsFollowed s m
+
+-- so where the method can't go on, and there is room for the number of another solve, nothing is left to find
+abbrev pub EndsAreSettled : Type 0
+EndsAreSettled = (p : Program) (s : State) (m : Machine) → IsReached p s → IsTabledBy p s m → HasRoom m → IsAtEnd p s → settled_in s ≡ None → ⊥
+
+-- while something is left to find, and fewer than 2^63 solves are allowed, a cut that a solve offers is never refused
+abbrev pub NeverRefuses : Type 0
+NeverRefuses = (p : Program) (s : State) (m : Machine) (lasts : Lasts) (n : ℕ) (new : State) (cut : Stored) → IsReached p s
+    → s.budget.solves < 2 ^ 63 → IsTabledBy p s m → settled_in s ≡ None
+    → (solve : SolvesNode p (record s { lasts = lasts }) m n new) → cut_given (node_solved solve.task) ≡ Some cut
+    → RefusesCut s.kind s.banks n solve.task.trial (Some cut) → ⊥

@@ -1,0 +1,327 @@
+-- The pools of both banks through the steps of runs: each is of its node, no edit touched it, and its number stays low.
+use Rattle.std.proofs.Common.{◌≡◌, ℕ, zero, suc, ◌+◌, ◌<◌, ◌≤◌, ◌⊎◌, inl, inr, Bool, true, false, ◌&&◌, eqb, ltb, is_none, List, [], ◌∷◌, ◌++◌, Option, Some, None, Result, Ok, Err, IfSome, get_or, slice_get, slice_index_or, length, refl, sym, ap, ap₂, subst, ◌∙◌, arith, eq-eqb, eqb-true}
+use Rattle.std.specs.List.{Contains}
+use Rattle.std.proofs.lemmas.Bool.{lt-ltb, cases_eq}
+use Rattle.scen_defs.specs.Lists.{pick, passes_at}
+use Rattle.scen_defs.specs.Program.{Program}
+use Rattle.scen_defs.specs.Valid.{Lives}
+use Rattle.scen_defs.specs.declared.report.Kind.{Kind}
+use Rattle.scen_defs.specs.declared.report.Kind.TheVariants.{Feasible, Recession, Cost}
+use Rattle.rationals.specs.Sparse.{Entry}
+use Rattle.rationals.specs.Rational.{ℚ, zero_ℚ, at_most}
+use Rattle.rationals.specs.Passes.{Operation, then_walk}
+use Rattle.cut_defs.specs.declared.kinds.Bank.{Bank}
+use Rattle.cut_defs.specs.declared.kinds.Bank.TheVariants.{Plain, Cone}
+use Rattle.cut_defs.specs.Stored.{Source, Stored, source_of}
+use Rattle.scen_defs.specs.Values.{At}
+use Rattle.scen_tree.specs.Trees.{Tree}
+use Rattle.run_data.specs.declared.versions.Version.{Version}
+use Rattle.run_data.specs.Counts.{version_of}
+use Rattle.run_data.specs.Frames.{frame_of, children_in}
+use Rattle.pass_core.specs.Made.{cuts_there}
+use Rattle.pass_core.specs.Turns.{datum_in, IsFirstCut, AreFirstCuts}
+use Rattle.solve_laws.proofs.Grounds.{parts}
+use Rattle.cut_defs.specs.Support.{support, first_stale}
+use Rattle.cut_pool.specs.Held.{Held}
+use Rattle.cut_pool.specs.Pool.{with_cut, offer_of, offer_by, best_from, least_of, judged, or_passed}
+use Rattle.cut_sums.specs.Walks.{value_walk}
+use Rattle.cut_defs.specs.declared.versions.Stamp.{Stamp}
+use Rattle.cut_pool.specs.declared.offer.Offer.TheVariants.{Added, NotNeeded}
+use Rattle.cut_banks.specs.declared.banks.Banks.{Banks}
+use Rattle.cut_banks.specs.Banks.{pools_of, with_pools, pools_in, empty_banks}
+use Rattle.cut_banks.specs.Pools.{no_cuts, all_empty, may_change, may_take, may_put, pool_if, with_pool}
+use Rattle.pass_core.specs.Left.{OffersCut}
+use Rattle.pass_core.specs.Reasons.{IsStale, IsRefused, by_none, by_pool}
+use Rattle.pass_core.specs.Grounds.{put_in_pool, put_cut, put_cuts, CanPutInPool, CanPutCut, CanPutCuts}
+use Rattle.solve_laws.specs.Offers.{offered_pools, StaysOrGrows, stays, grows}
+use Rattle.solve_laws.proofs.Offers.{offers_hold, placed, ChangesAt, changes_at, as_before, changed}
+use Rattle.run_laws.proofs.Standing.{HasMember, PoolStands}
+
+pub weaker : (a b : ℕ) (pools : List Held) (n : ℕ) → a ≤ b → PoolStands a pools n → PoolStands b pools n
+weaker a b pools n l h = record { pool = h.pool; there = h.there; node = h.node; known = h.known; few = omega (arith, l, h.few) }
+
+-- before any cut
+empty_at : (k count j : ℕ) → j < count → slice_get (all_empty k count) j ≡ Some (no_cuts (k + j))
+empty_at k zero j less = absurd (omega (arith, less))
+empty_at k (suc count) zero less = let e : k ≡ k + 0 = omega arith in ap (λ i. Some (no_cuts i)) e
+empty_at k (suc count) (suc j) less = empty_at (suc k) count j (omega (arith, less)) ∙ (let e : suc k + j ≡ k + suc j = omega arith in ap (λ i. Some (no_cuts i)) e)
+
+pub empty_stand : (count n : ℕ) → n < count → PoolStands 0 (all_empty 0 count) n
+empty_stand count n less = record {
+  pool = no_cuts n;
+  there = empty_at 0 count n less ∙ (let e : 0 + n ≡ n = omega arith in ap (λ i. Some (no_cuts i)) e);
+  node = refl;
+  known = refl;
+  few = omega arith;
+}
+
+-- ---- a bank and the kind of a run
+bank_of : Kind → Bank
+bank_of Feasible = Plain
+bank_of Recession = Cone
+bank_of Cost = Plain
+
+-- a change of the pools of a run leaves the other bank
+with_in : (kind : Kind) (bank : Bank) (pools : List Held) (b : Banks)
+    → ((pools_in bank (with_pools kind pools b) ≡ pools) × (pools_in bank b ≡ pools_of kind b)) ⊎ (pools_in bank (with_pools kind pools b) ≡ pools_in bank b)
+with_in Feasible Plain pools b = inl (refl, refl)
+with_in Feasible Cone pools b = inr refl
+with_in Recession Plain pools b = inr refl
+with_in Recession Cone pools b = inl (refl, refl)
+with_in Cost Plain pools b = inl (refl, refl)
+with_in Cost Cone pools b = inr refl
+
+same_list : (most : ℕ) (old new : List Held) (n : ℕ) → new ≡ old → PoolStands most old n → PoolStands (most + 1) new n
+same_list most old new n e h = subst (λ (ps : List Held). PoolStands (most + 1) ps n) (sym e) (weaker most (most + 1) old n (omega arith) h)
+
+-- ---- an offer
+offered_stands : (most : ℕ) (cut : Stored) (trial : List Entry) (pools : List Held) (j : ℕ) → PoolStands most pools j
+    → PoolStands (most + 1) (offered_pools cut trial pools) j
+offered_stands most cut trial pools j h = go (offers_hold.places cut trial pools j)
+  where
+    go : StaysOrGrows cut pools (offered_pools cut trial pools) j → PoolStands (most + 1) (offered_pools cut trial pools) j
+    go (stays e) = record { pool = h.pool; there = e ∙ h.there; node = h.node; known = h.known; few = omega (arith, h.few) }
+    go (grows p at there now) =
+        let same : p ≡ h.pool = (let q : Some p ≡ Some h.pool = sym there ∙ h.there in cc) in
+        record {
+          pool = with_cut p cut;
+          there = now;
+          node = ap (λ (x : Held). x.node) same ∙ h.node;
+          known = ap (λ (x : Held). x.known) same ∙ h.known;
+          few = omega (arith, h.few, ap (λ (x : Held). x.number) same);
+        }
+
+pub offers_stand : (kind : Kind) (n : ℕ) (cut : Option Stored) (trial : List Entry) (old new : Banks) → OffersCut kind n cut trial old new
+    → (bank : Bank) (most j : ℕ) → PoolStands most (pools_in bank old) j → PoolStands (most + 1) (pools_in bank new) j
+offers_stand kind zero cut trial old new e bank most j h = same_list most (pools_in bank old) (pools_in bank new) j (ap (pools_in bank) e) h
+offers_stand kind (suc n) None trial old new e bank most j h = same_list most (pools_in bank old) (pools_in bank new) j (ap (pools_in bank) e) h
+offers_stand kind (suc n) (Some cut) trial old new o bank most j h = go (with_in kind bank (offered_pools cut trial (pools_of kind old)) old)
+  where
+    go : ((pools_in bank (with_pools kind (offered_pools cut trial (pools_of kind old)) old) ≡ offered_pools cut trial (pools_of kind old))
+        × (pools_in bank old ≡ pools_of kind old)) ⊎ (pools_in bank (with_pools kind (offered_pools cut trial (pools_of kind old)) old) ≡ pools_in bank old)
+        → PoolStands (most + 1) (pools_in bank new) j
+    go (inl (e, f)) = subst (λ (ps : List Held). PoolStands (most + 1) ps j) (sym (ap (pools_in bank) o.banks ∙ e))
+        (offered_stands most cut trial (pools_of kind old) j (subst (λ (ps : List Held). PoolStands most ps j) f h))
+    go (inr e) = same_list most (pools_in bank old) (pools_in bank new) j (ap (pools_in bank) o.banks ∙ e) h
+
+-- where no touch is known no stamp is stale
+none_known : (xs : List Stamp) → first_stale [] xs ≡ None
+none_known [] = refl
+none_known (a ∷ xs) = none_known xs
+
+-- a cut that is offered to such a pool isn't refused
+pub never_refused : (most : ℕ) (pools : List Held) (trial : List Entry) (cut : Stored) (n : ℕ) → PoolStands most pools n → (source_of cut).node ≡ n
+    → most < 18446744073709551615 → IsRefused pools trial cut → ⊥
+never_refused most pools trial cut n h at small refused = go refused
+  where
+    takes : may_take cut h.pool ≡ true
+    takes = ap₂ ◌&&◌ (eq-eqb h.pool.node (source_of cut).node (h.node ∙ sym at)) (lt-ltb h.pool.number 18446744073709551615 (omega (arith, h.few, small)))
+
+    pool_there : (ps : List Held) (k : ℕ) → slice_get ps k ≡ Some h.pool → pool_if (may_take cut) k ps ≡ Some h.pool
+    pool_there [] k e = absurd (cc)
+    pool_there (p ∷ ps) zero e =
+        let same : p ≡ h.pool = cc in
+        ap (λ (b : Bool). pick b (Some p) None) (ap (may_take cut) same ∙ takes) ∙ ap Some same
+    pool_there (p ∷ ps) (suc k) e = pool_there ps k e
+
+    found : pool_if (may_take cut) (source_of cut).node pools ≡ Some h.pool
+    found = ap (λ k. pool_if (may_take cut) k pools) at ∙ pool_there pools n h.there
+
+    no_stale : (stale : Option Stamp) → stale ≡ None → IsStale (offer_by stale h.pool cut trial) → ⊥
+    no_stale (Some a) e s = absurd (cc)
+    no_stale None e s = by (value_walk cut trial) s
+      where
+        judged_not : (v : ℚ) (best : Option ℚ) → IsStale (judged v best) → ⊥
+        judged_not v None s = s
+        judged_not v (Some b) s = which (at_most v b) s
+          where
+            which : (t : Bool) → IsStale (pick t (NotNeeded b) Added) → ⊥
+            which true s = s
+            which false s = s
+
+        by_best : (v : ℚ) (w : Result (Option ℚ) Operation) → IsStale (or_passed (then_walk w (λ best. Ok (judged v best)))) → ⊥
+        by_best v (Ok best) s = judged_not v best s
+        by_best v (Err o) s = s
+
+        by : (w : Result ℚ Operation) → IsStale (or_passed (then_walk w (λ v. then_walk
+            (best_from (source_of cut).kind trial (least_of (source_of cut).kind) h.pool.cuts) (λ best. Ok (judged v best))))) → ⊥
+        by (Ok v) s = by_best v (best_from (source_of cut).kind trial (least_of (source_of cut).kind) h.pool.cuts) s
+        by (Err o) s = s
+
+    go : IsRefused pools trial cut → ⊥
+    go (by_none e) = let q : None ≡ Some h.pool = sym e ∙ found in absurd (cc)
+    go (by_pool pool e stale) =
+        let same : pool ≡ h.pool = (let q : Some pool ≡ Some h.pool = sym e ∙ found in cc) in
+        no_stale (first_stale h.pool.known (support cut)) (ap (λ ts. first_stale ts (support cut)) h.known ∙ none_known (support cut))
+        (subst (λ (p : Held). IsStale (offer_of p cut trial)) same stale)
+
+-- ---- the first cuts of a run
+-- a cut at each place of a list is about the node of the place, the first of which is k
+abbrev pub AreAt : ℕ → List (Option Stored) → Type 0
+AreAt k [] = Unit {0}
+AreAt k (place ∷ places) = IfSome place (λ c. (source_of c).node ≡ k) × AreAt (suc k) places
+
+-- a cut in the pool of node n: the other bank and the other nodes' pools stay
+put_stands : (kind : Kind) (n : ℕ) (cut : Stored) (b : Banks) (bank : Bank) (most j : ℕ) → PoolStands most (pools_in bank b) j
+    → PoolStands (most + 1) (pools_in bank (put_in_pool kind n cut b)) j
+put_stands kind zero cut b bank most j h = weaker most (most + 1) (pools_in bank b) j (omega arith) h
+put_stands kind (suc n) cut b bank most j h = go (with_in kind bank (with_pool (may_put cut) (λ p. with_cut p cut) (suc n) (pools_of kind b)) b)
+  where
+    new : List Held
+    new = with_pool (may_put cut) (λ p. with_cut p cut) (suc n) (pools_of kind b)
+
+    by : PoolStands most (pools_of kind b) j → ChangesAt (λ p. with_cut p cut) (pools_of kind b) (with_pool (may_put cut) (λ p. with_cut p cut) (suc n) (pools_of kind b)) (suc n) j
+        → PoolStands (most + 1) (with_pool (may_put cut) (λ p. with_cut p cut) (suc n) (pools_of kind b)) j
+    by g (as_before e) = record { pool = g.pool; there = e ∙ g.there; node = g.node; known = g.known; few = omega (arith, g.few) }
+    by g (changed p at there now) =
+        let same : p ≡ g.pool = (let q : Some p ≡ Some g.pool = sym there ∙ g.there in cc) in
+        record {
+          pool = with_cut p cut;
+          there = now;
+          node = ap (λ (x : Held). x.node) same ∙ g.node;
+          known = ap (λ (x : Held). x.known) same ∙ g.known;
+          few = omega (arith, g.few, ap (λ (x : Held). x.number) same);
+        }
+
+    go : ((pools_in bank (with_pools kind (with_pool (may_put cut) (λ p. with_cut p cut) (suc n) (pools_of kind b)) b)
+        ≡ with_pool (may_put cut) (λ p. with_cut p cut) (suc n) (pools_of kind b)) × (pools_in bank b ≡ pools_of kind b))
+        ⊎ (pools_in bank (with_pools kind (with_pool (may_put cut) (λ p. with_cut p cut) (suc n) (pools_of kind b)) b) ≡ pools_in bank b)
+        → PoolStands (most + 1) (pools_in bank (put_in_pool kind (suc n) cut b)) j
+    go (inl (e, f)) = subst (λ (ps : List Held). PoolStands (most + 1) ps j) (sym e)
+        (by (subst (λ (ps : List Held). PoolStands most ps j) f h) (changes_at (may_put cut) (λ p. with_cut p cut) (suc n) j (pools_of kind b)))
+    go (inr e) = same_list most (pools_in bank b) _ j e h
+
+-- the pool of another node stays
+put_other : (kind : Kind) (n : ℕ) (cut : Stored) (b : Banks) (bank : Bank) (j : ℕ) → (j ≡ n → ⊥)
+    → slice_get (pools_in bank (put_in_pool kind n cut b)) j ≡ slice_get (pools_in bank b) j
+put_other kind zero cut b bank j ne = refl
+put_other kind (suc n) cut b bank j ne = go (with_in kind bank (with_pool (may_put cut) (λ p. with_cut p cut) (suc n) (pools_of kind b)) b)
+  where
+    by : ChangesAt (λ p. with_cut p cut) (pools_of kind b) (with_pool (may_put cut) (λ p. with_cut p cut) (suc n) (pools_of kind b)) (suc n) j
+        → slice_get (with_pool (may_put cut) (λ p. with_cut p cut) (suc n) (pools_of kind b)) j ≡ slice_get (pools_of kind b) j
+    by (as_before e) = e
+    by (changed p at there now) = absurd (ne at)
+
+    go : ((pools_in bank (with_pools kind (with_pool (may_put cut) (λ p. with_cut p cut) (suc n) (pools_of kind b)) b)
+        ≡ with_pool (may_put cut) (λ p. with_cut p cut) (suc n) (pools_of kind b)) × (pools_in bank b ≡ pools_of kind b))
+        ⊎ (pools_in bank (with_pools kind (with_pool (may_put cut) (λ p. with_cut p cut) (suc n) (pools_of kind b)) b) ≡ pools_in bank b)
+        → slice_get (pools_in bank (put_in_pool kind (suc n) cut b)) j ≡ slice_get (pools_in bank b) j
+    go (inl (e, f)) = ap (λ ps. slice_get ps j) e ∙ by (changes_at (may_put cut) (λ p. with_cut p cut) (suc n) j (pools_of kind b))
+        ∙ ap (λ ps. slice_get ps j) (sym f)
+    go (inr e) = ap (λ ps. slice_get ps j) e
+
+-- the pools of nodes before the first place stay
+puts_before : (kind : Kind) (k : ℕ) (places : List (Option Stored)) (b : Banks) (bank : Bank) (j : ℕ) → AreAt k places → j < k
+    → slice_get (pools_in bank (put_cuts kind places b)) j ≡ slice_get (pools_in bank b) j
+puts_before kind k [] b bank j h less = refl
+puts_before kind k (None ∷ places) b bank j h less = puts_before kind (suc k) places b bank j h.1 (omega (arith, less))
+puts_before kind k (Some cut ∷ places) b bank j h less =
+    puts_before kind (suc k) places (put_in_pool kind (source_of cut).node cut b) bank j h.1 (omega (arith, less))
+    ∙ put_other kind (source_of cut).node cut b bank j (λ e. omega (arith, e, h.0, less))
+
+stays_there : (most : ℕ) (old new : List Held) (j : ℕ) → slice_get new j ≡ slice_get old j → PoolStands most old j → PoolStands most new j
+stays_there most old new j e h = record { pool = h.pool; there = e ∙ h.there; node = h.node; known = h.known; few = h.few }
+
+-- each pool gets one cut at most
+pub puts_stand : (kind : Kind) (k : ℕ) (places : List (Option Stored)) (b : Banks) (bank : Bank) (most j : ℕ) → AreAt k places → k ≤ j
+    → PoolStands most (pools_in bank b) j → PoolStands (most + 1) (pools_in bank (put_cuts kind places b)) j
+puts_stand kind k [] b bank most j at less h = weaker most (most + 1) (pools_in bank b) j (omega arith) h
+puts_stand kind k (place ∷ places) b bank most j at less h =
+    go (λ c l g. puts_stand kind (suc k) places c bank most j at.1 l g) (cases_eq j k) place at.0
+  where
+    go : ((c : Banks) → suc k ≤ j → PoolStands most (pools_in bank c) j → PoolStands (most + 1) (pools_in bank (put_cuts kind places c)) j)
+        → (j ≡ k) ⊎ (j ≡ k → ⊥) → (place : Option Stored) → IfSome place (λ c. (source_of c).node ≡ k)
+        → PoolStands (most + 1) (pools_in bank (put_cuts kind places (put_cut kind place b))) j
+    go rest (inl e) None a = stays_there (most + 1) (pools_in bank b) _ j (puts_before kind (suc k) places b bank j at.1 (omega (arith, e)))
+        (weaker most (most + 1) (pools_in bank b) j (omega arith) h)
+    go rest (inl e) (Some cut) a = stays_there (most + 1) (pools_in bank (put_in_pool kind (source_of cut).node cut b)) _ j
+        (puts_before kind (suc k) places (put_in_pool kind (source_of cut).node cut b) bank j at.1 (omega (arith, e)))
+        (put_stands kind (source_of cut).node cut b bank most j h)
+    go rest (inr ne) None a = rest b (omega (arith, less, ne)) h
+    go rest (inr ne) (Some cut) a = rest (put_in_pool kind (source_of cut).node cut b) (omega (arith, less, ne))
+        (stays_there most (pools_in bank b) (pools_in bank (put_in_pool kind (source_of cut).node cut b)) j
+        (put_other kind (source_of cut).node cut b bank j (λ e. ne (e ∙ a))) h)
+
+-- ---- the cut of each place is in its pool
+-- where the pool may take it
+put_there : (kind : Kind) (n : ℕ) (cut : Stored) (b : Banks) → 0 < n → CanPutInPool kind n cut b
+    → HasMember (pools_of kind (put_in_pool kind n cut b)) n (λ c. c ≡ cut)
+put_there kind zero cut b low can = absurd (omega (arith, low))
+put_there kind (suc n) cut b low can =
+    let p = test_there (pools_of kind b) (suc n) can in
+    record {
+      pool = with_cut p.0 cut;
+      there = ap (λ ps. slice_get ps (suc n)) (pools_set kind _ b) ∙ placed (may_put cut) (λ p. with_cut p cut) (suc n) (pools_of kind b) p.0 p.1;
+      cut = cut;
+      member = last_member p.0.cuts;
+      holds = refl;
+    }
+  where
+    pools_set : (kind : Kind) (ps : List Held) (b : Banks) → pools_of kind (with_pools kind ps b) ≡ ps
+    pools_set Feasible ps b = refl
+    pools_set Recession ps b = refl
+    pools_set Cost ps b = refl
+
+    test_there : (ps : List Held) (k : ℕ) → passes_at (may_put cut) k ps ≡ true → (p : Held) × (pool_if (may_put cut) k ps ≡ Some p)
+    test_there [] k e = absurd (cc)
+    test_there (p ∷ ps) zero e = (p, ap (λ (t : Bool). pick t (Some p) None) e)
+    test_there (p ∷ ps) (suc k) e = test_there ps k e
+
+    last_member : (cs : List Stored) → Contains (cs ++ cut ∷ []) cut
+    last_member [] = (0, omega arith, refl)
+    last_member (c ∷ cs) = let r = last_member cs in (suc r.0, omega (arith, r.1), r.2)
+
+same_member : (old new : List Held) (n : ℕ) (P : Stored → Type 0) → slice_get new n ≡ slice_get old n → HasMember old n P → HasMember new n P
+same_member old new n P e h = record { pool = h.pool; there = e ∙ h.there; cut = h.cut; member = h.member; holds = h.holds }
+
+of_kind : (kind : Kind) (b : Banks) → pools_in (bank_of kind) b ≡ pools_of kind b
+unfolding bank_of
+of_kind Feasible b = refl
+of_kind Recession b = refl
+of_kind Cost b = refl
+
+before_of : (kind : Kind) (k : ℕ) (places : List (Option Stored)) (b : Banks) (j : ℕ) → AreAt k places → j < k
+    → slice_get (pools_of kind (put_cuts kind places b)) j ≡ slice_get (pools_of kind b) j
+before_of kind k places b j at less = ap (λ ps. slice_get ps j) (sym (of_kind kind (put_cuts kind places b)))
+    ∙ puts_before kind k places b (bank_of kind) j at less ∙ ap (λ ps. slice_get ps j) (of_kind kind b)
+
+pub puts_there : (kind : Kind) (k : ℕ) (places : List (Option Stored)) (b : Banks) → AreAt k places → CanPutCuts kind places b → (i n : ℕ) (cut : Stored)
+    → slice_index_or places i None ≡ Some cut → n ≡ k + i → 0 < n → HasMember (pools_of kind (put_cuts kind places b)) n (λ c. c ≡ cut)
+puts_there kind k [] b at can i n cut e f low = absurd (cc)
+puts_there kind k (place ∷ places) b at can zero n cut e f low =
+    let same : place ≡ Some cut = e in
+    let node : (source_of cut).node ≡ k = subst (λ o. IfSome o (λ c. (source_of c).node ≡ k)) same at.0 in
+    let here : n ≡ k = omega (arith, f) in
+    subst (λ o. HasMember (pools_of kind (put_cuts kind places (put_cut kind o b))) n (λ c. c ≡ cut)) (sym same)
+    (same_member (pools_of kind (put_in_pool kind (source_of cut).node cut b)) _ n (λ c. c ≡ cut)
+    (before_of kind (suc k) places (put_in_pool kind (source_of cut).node cut b) n at.1 (omega (arith, here)))
+    (subst (λ j. HasMember (pools_of kind (put_in_pool kind (source_of cut).node cut b)) j (λ c. c ≡ cut)) (node ∙ sym here)
+    (put_there kind (source_of cut).node cut b (omega (arith, node, here, low)) (subst (λ o. CanPutCut kind o b) same can.0))))
+puts_there kind k (place ∷ places) b at can (suc i) n cut e f low =
+    puts_there kind (suc k) places (put_cut kind place b) at.1 can.1 i n cut e (omega (arith, f)) low
+
+-- the cuts that a run begins with stand at the places of their nodes
+at_places : (k : ℕ) (places : List (Option Stored)) → ((i : ℕ) (cut : Stored) → slice_index_or places i None ≡ Some cut → (source_of cut).node ≡ k + i)
+    → AreAt k places
+at_places k [] h = tt
+at_places k (place ∷ places) h = (
+  own place (λ cut e. h 0 cut e),
+  at_places (suc k) places (λ i cut e. h (suc i) cut e ∙ (let q : k + suc i ≡ suc k + i = omega arith in q)),
+)
+  where
+    own : (o : Option Stored) → ((cut : Stored) → o ≡ Some cut → (source_of cut).node ≡ k + 0) → IfSome o (λ c. (source_of c).node ≡ k)
+    own None f = tt
+    own (Some cut) f = f cut refl ∙ (let q : k + 0 ≡ k = omega arith in q)
+
+pub first_at : (kind : Kind) (p : Program) (tree : Tree) (versions : List Version) (dual : List At) (cuts : List (Option Stored))
+    → AreFirstCuts kind p tree versions dual cuts → AreAt 0 cuts
+first_at kind p tree versions dual cuts h = at_places 0 cuts (λ i cut e. go i cut e (h.there i (h.only i cut e)))
+  where
+    go : (i : ℕ) (cut : Stored) → slice_index_or cuts i None ≡ Some cut
+        → (c : Stored) × ((slice_index_or cuts i None ≡ Some c) × IsFirstCut kind p tree versions dual cuts i c) → (source_of cut).node ≡ 0 + i
+    go i cut e (c, (f, walk)) =
+        let same : cut ≡ c = (let q : Some cut ≡ Some c = sym e ∙ f in cc) in
+        ap (λ (x : Stored). (source_of x).node) same
+        ∙ ap (λ (s : Source). s.node) (parts (datum_in kind p i (version_of versions i)) (get_or tree.chances.totals i zero_ℚ) dual
+        (cuts_there cuts (children_in (frame_of p) i)) c walk).1
+        ∙ (let q : i ≡ 0 + i = omega arith in q)
