@@ -46,7 +46,8 @@ use Rattle.run_ends.specs.Ends.{cheaper, greater_end, after_root, after_policy}
 use Rattle.pass_core.specs.declared.state.State.{State}
 use Rattle.pass_core.specs.Left.{OffersCut, IsOffered, ends_behind, ends_without, TakesPolicy, TakesComplete, LeavesPoint, LeavesNone, LeavesBy}
 use Rattle.pass_core.specs.Tabled.{IsTabledBy, committed_with}
-use Rattle.pass_core.specs.Turns.{datum_in, IsTaskOf, PassesInJoin, EndsBy, SolvesNode}
+use Rattle.pass_core.specs.Reasons.{PassesInJoin}
+use Rattle.pass_core.specs.Turns.{datum_in, IsTaskOf, EndsBy, SolvesNode}
 use Rattle.pass_core.proofs.Parentage.{children_are}
 use Rattle.policy_laws.specs.Points.{AllMeet}
 use Rattle.policy_laws.proofs.Policies.{policies_join}
