@@ -14,7 +14,7 @@ use Rattle.run_ends.specs.declared.last.Lasts.{Lasts}
 use Rattle.pass_table.specs.Machine.{Machine}
 use Rattle.pass_core.specs.declared.budget.Budget.{Budget}
 use Rattle.pass_core.specs.declared.state.State.{State}
-use Rattle.pass_core.specs.Beginning.{IsBeginning, StartsOver}
+use Rattle.pass_core.specs.Beginning.{IsBeginning}
 use Rattle.pass_core.specs.Counting.{with_commit, after_report}
 use Rattle.pass_core.specs.Explained.{IsUnstopped}
 use Rattle.pass_core.specs.Reasons.{HasReason, IsAtSolve, IsStuck, IsOfSolve, IsOfOpening, IsLasting, GainsReasons}

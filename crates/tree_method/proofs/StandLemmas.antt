@@ -1,5 +1,5 @@
 -- What stands on a program stands, behind an edit, on the program after it.
-use Rattle.std.proofs.Common.{◌≡◌, ◌⊎◌, ℕ, ◌<◌, ◌≤◌, ◌^◌, zero, suc, leb, ◌||◌, is_some, Bool, true, false, List, [], ◌∷◌, map, length, replicate, Option, Some, None, IfSome}
+use Rattle.std.proofs.Common.{◌≡◌, ◌⊎◌, ℕ, ◌<◌, ◌≤◌, ◌^◌, zero, suc, leb, ◌||◌, is_some, Bool, true, false, List, [], ◌∷◌, map, length, Option, Some, None, IfSome}
 use Rattle.std.proofs.Common.{refl, sym, ap, subst, ◌∙◌, inl, inr, Result, Ok, Err, OnOk, arith}
 use Rattle.std.proofs.lemmas.Bool.{leb-false, lt-leb}
 use Rattle.std.proofs.lemmas.List.{length-replicate}
