@@ -26,7 +26,8 @@ use Rattle.tree_method.specs.declared.found.Found.{Found}
 use Rattle.tree_method.specs.declared.method.Method.{Method}
 use Rattle.tree_method.specs.declared.method.Method.TheVariants.{Working as AtWork, Idle}
 use Rattle.tree_method.specs.declared.method.Working.{Working}
-use Rattle.tree_method.specs.Stands.{HasFewNodes, StandsOn, Begins, HasSolve, StandsCleared, closing, FindsBySolves, WorksAnew, WorksBySteps, is_spent, after_telling}
+use Rattle.tree_method.specs.Stands.{HasFewNodes, StandsOn, Begins, HasSolve, StandsCleared, EndsAt, closing}
+use Rattle.tree_method.specs.Stands.{FindsBySolves, WorksAnew, WorksBySteps, is_spent, after_telling}
 use Rattle.tree_method.proofs.StandLemmas.{more_counted, solves_behind}
 use Rattle.tree_method.proofs.Numbers.{pivots_arise, pass_arises, closing_pivots, closing_passed, told_cleared}
 use Rattle.smps_session.specs.Reasons.{told_reasons}
@@ -39,24 +40,28 @@ claimed_so : (program : Program) (number solves : ℕ) (place place' : Place) (w
 claimed_so program number solves place place' why why' claim claim' report n p w k c = record { is = cc (n, p, w, k, c.is) }
 
 shows_one : (budget : Budget) (program : Program) (old new : Method) (found : Found) (number : ℕ) (report : Report)
-    → FindsBySolves (content program) old new found → WorksBySteps (content program) old new → report.number ≡ number
+    → FindsBySolves (content program) old new found → EndsAt (content program) new → WorksBySteps (content program) old new
+    → report.number ≡ number
     → IsClaimed program number found.place found.why budget.solves found.claim report
     → IsTrue (view_of (content program)) (given found.why budget.solves) report → ShowsFound budget program old new report
-shows_one budget program (AtWork old) (AtWork new) found number report f steps n c t = record {
+shows_one budget program (AtWork old) (AtWork new) found number report f ends steps n c t = record {
   solves = f.solves;
+  ends = ends;
   claimed = claimed_so program number budget.solves found.place _ found.why _ found.claim _ report n f.place f.why f.claim c;
   truth = subst (λ (why : Open). IsTrue (view_of (content program)) (given why budget.solves) report) f.why t;
 }
-shows_one budget program (AtWork old) (Idle why own) found number report f steps n c t = f
-shows_one budget program (Idle why own) new found number report f steps n c t = steps
+shows_one budget program (AtWork old) (Idle why own) found number report f ends steps n c t = f
+shows_one budget program (Idle why own) new found number report f ends steps n c t = steps
 
 pub shows_found : {E : Type 0} (budget : Budget) (program : Program) (old new : Method) (found : Found) (number : ℕ) (result : Result Report E)
-    → FindsBySolves (content program) old new found → WorksBySteps (content program) old new → IfOk result (λ report. report.number ≡ number)
+    → FindsBySolves (content program) old new found → EndsAt (content program) new → WorksBySteps (content program) old new
+    → IfOk result (λ report. report.number ≡ number)
     → IfOk result (IsClaimed program number found.place found.why budget.solves found.claim)
     → IfOk result (IsTrue (view_of (content program)) (given found.why budget.solves))
     → IfOk result (ShowsFound budget program old new)
-shows_found budget program old new found number (Ok report) f steps n c t = shows_one budget program old new found number report f steps n c t
-shows_found budget program old new found number (Err e) f steps n c t = tt
+shows_found budget program old new found number (Ok report) f ends steps n c t =
+    shows_one budget program old new found number report f ends steps n c t
+shows_found budget program old new found number (Err e) f ends steps n c t = tt
 
 -- ---- a program that is begun anew until its solves have ended
 -- so many solves at least are counted
@@ -97,13 +102,14 @@ round_counts budget program k (AtWork old) (AtWork mid) (AtWork next) (AtWork ne
     let p = content program in
     let less : mid.state.counts.since_report < mid.state.budget.solves = leb-false mid.state.budget.solves mid.state.counts.since_report left in
     let allowed : mid.state.budget.solves ≡ budget.solves = ap (λ (b : Budget). b.solves) stands.budget_is in
-    let anew = works less in
+    let anew = works less shows.ends in
     let raised : next.state.counts.since_report ≡ one_solve_more mid.state.counts.since_report = ap (λ (c : Counts). c.since_report) anew.counts in
     let one : next.state.counts.since_report ≡ mid.state.counts.since_report + 1 = omega (arith, raised, less, allowed, bits) in
     let bound : next.state.counts.since_report < 2 ^ 64 = omega (arith, one, less, allowed, bits) in
     let later = more_counted p next.state new.state bound shows'.solves in (
       record {
         solves = solves_behind p old.state mid.state new.state shows.solves (solves_behind p mid.state next.state new.state anew.solves shows'.solves);
+        ends = shows'.ends;
         claimed = shows'.claimed;
         truth = shows'.truth;
       },

@@ -18,7 +18,8 @@ use Rattle.tree_method.specs.declared.method.Method.{Method}
 use Rattle.tree_method.specs.declared.method.Method.TheVariants.{Working as AtWork, Idle}
 use Rattle.tree_method.specs.declared.method.Working.{Working}
 use Rattle.tree_method.specs.Edited.{HasNoTree}
-use Rattle.tree_method.specs.Stands.{HasFewNodes, SolvesNodes, HasSolve, WorksBySolves, GoesOn, Begins, closing, is_spent, after_telling}
+use Rattle.tree_method.specs.Stands.{HasFewNodes, IsAtEnd, SolvesNodes, HasSolve, WorksBySolves, GoesOn, Begins, closing}
+use Rattle.tree_method.specs.Stands.{is_spent, after_telling}
 
 -- left open by the number of solves
 abbrev pub tells_solves : Finding → Bool
@@ -33,10 +34,11 @@ tells_solves (OpenPassed place o) = false
 abbrev pub is_unfinished : Finding → Method → Bool
 is_unfinished finding method = tells_solves finding && not (is_spent method)
 
--- what is claimed behind solves of the program's nodes is tested, and the report tells what was shown, and is true for the reason that is
--- claimed with it
+-- what is claimed behind solves of the program's nodes, where the method can't go on, is tested, and the report tells what was shown, and
+-- is true for the reason that is claimed with it
 pub record ShowsClosing (budget : Budget) (program : ProgramOf) (old new : State) (report : Report) : Type 0 where
   pub solves : SolvesNodes (content program) old new
+  pub ends : IsAtEnd (content program) new
   pub claimed : IsClaimed program report.number (Cost new.counts.all) (closing new).why budget.solves (closing new).claim report
   pub truth : IsTrue (view_of (content program)) (given (closing new).why budget.solves) report
 

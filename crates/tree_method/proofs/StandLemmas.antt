@@ -52,7 +52,8 @@ use Rattle.tree_method.specs.declared.method.Method.{Method}
 use Rattle.tree_method.specs.declared.method.Method.TheVariants.{Working as AtWork}
 use Rattle.tree_method.specs.Edited.{is_grown, KeepsTabled, IsEdited, HasNoTree}
 use Rattle.tree_method.specs.Laws.{TouchesCarry}
-use Rattle.tree_method.specs.Stands.{LeavesOpen, TellsWhy, IsInBudget, WorksOn, StandsOn, settled_in, IsAtEnd, SolvesNodes, none, more, anew, SolvesAnew}
+use Rattle.tree_method.specs.Stands.{LeavesOpen, TellsWhy, IsInBudget, WorksOn, StandsOn, settled_in}
+use Rattle.tree_method.specs.Stands.{IsAtEnd, SolvesNodes, none, more, anew, SolvesAnew}
 use Rattle.tree_method.proofs.Standing.{touches_stand, versions_behind}
 
 -- ---- the frame
@@ -288,8 +289,8 @@ pub solves_anew : (p : Program) (old mid new : State) (told : Bool) → IsProgra
     → mid.counts.since_report < mid.budget.solves
     → ((m : Machine) → IsTabledBy p mid m → MakesStep p mid m new told) → KeepsBooks p mid new → SolvesAnew p old new
 solves_anew p old mid new told i ends over tabled less step keeps = record {
-  solves = more mid new tabled.0 told (anew old mid none ends over) (begun_open p old.budget mid over.beginning less) tabled.1 (step tabled.0 tabled.1)
-      keeps;
+  solves = more mid new tabled.0 told (anew old mid none ends over) (begun_open p old.budget mid over.beginning less) tabled.1
+      (step tabled.0 tabled.1) keeps;
   counts = first_counted p mid i new told over.beginning.frame over.beginning.is_begun tabled step ∙ ap with_commit over.counts;
 }
 

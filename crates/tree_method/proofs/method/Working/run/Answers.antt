@@ -104,7 +104,9 @@ returns-clause-ends c = elim c.then-is_ripe.branch [
 ]
 
 pub steps-smaller : goal.steps-smaller
-steps-smaller c = leaves_fewer c.steps.self.state c.advance.new.self (omega (arith, c.allowed-allowed.ensures, c.allowed-allowed.type_inv)) (not_ripe c.args.work _ _ (sym c.is_ripe.ensures ∙ c.if-is_ripe.false))
+steps-smaller c = leaves_fewer c.steps.self.state c.advance.new.self
+    (omega (arith, c.allowed-allowed.ensures, c.allowed-allowed.type_inv))
+    (not_ripe c.args.work _ _ (sym c.is_ripe.ensures ∙ c.if-is_ripe.false))
     (c.in_ok-advance.ensures.progress c.if-not-branch.false)
 
 pub returns-clause-endless : goal.returns-clause-endless
@@ -114,7 +116,8 @@ returns-clause-endless c = elim c.then-is_ripe.branch [
       let s = c.steps.self.state in
       let ends = ripe_ends p c.args.work s (sym c.is_ripe.ensures ∙ way.if-is_ripe.true) in
       subst (λ (working : Working). IsAtEnd p working.state) (sym way.self-is)
-      (ends_anyhow p s c.args.work all (omega (arith, c.allowed-allowed.ensures, c.allowed-allowed.type_inv)) ((c.steps.invariant.0 budget w).counted i few).item ends)
+      (ends_anyhow p s c.args.work all (omega (arith, c.allowed-allowed.ensures, c.allowed-allowed.type_inv))
+      ((c.steps.invariant.0 budget w).counted i few).item ends)
   | then-is_ripe-via-else-is_ripe+in_ok-advance+then-not-branch way ↦ λ all budget i few w.
       let p = content c.args.program.now in
       let works = c.steps.invariant.0 budget w in
