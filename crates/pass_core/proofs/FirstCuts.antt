@@ -1,6 +1,6 @@
 -- The cuts that a run begins with: made from the greatest number on, and put into the pools one after the other.
-use Rattle.std.proofs.Common.{◌≡◌, ℕ, zero, suc, ◌+◌, ◌<◌, ◌≤◌, Bool, true, false, eqb, List, [], ◌∷◌, ◌++◌, length, drop, get_or, replicate}
-use Rattle.std.proofs.Common.{Option, Some, None, Result, Ok, Err, IfOk, slice_index_or, slice_set}
+use Rattle.std.proofs.Common.{◌≡◌, ℕ, zero, suc, ◌+◌, ◌<◌, ◌≤◌, Bool, true, false, eqb, List, [], ◌∷◌, ◌++◌, length, drop}
+use Rattle.std.proofs.Common.{get_or, replicate, Option, Some, None, Result, Ok, Err, IfOk, slice_index_or, slice_set}
 use Rattle.std.proofs.Common.{arith, refl, sym, ap, subst, ◌∙◌, eqb-true, eq-eqb, drop-cons}
 use Rattle.std.specs.Option.{option_to_list}
 use Rattle.std.proofs.lemmas.List.{get_or-set_same, get_or-set_other}
@@ -58,7 +58,8 @@ module _ (kind : Kind) (p : Program) (tree : Tree) (versions : List Version) (du
   none_first nodes k cuts l e = record {
     there = λ m le live. let w : m < length p.nodes = passes-within is_live m p.nodes live in absurd (omega (arith, w, l, le));
     only = λ m cut is.
-        let empty : slice_index_or cuts m None ≡ None = ap (λ (cs : List (Option Stored)). slice_index_or cs m None) e ∙ at_replicate k None m in
+        let empty : slice_index_or cuts m None ≡ None =
+        ap (λ (cs : List (Option Stored)). slice_index_or cs m None) e ∙ at_replicate k None m in
         let no : None ≡ Some cut = sym empty ∙ is in absurd (cc);
   }
 
@@ -101,7 +102,8 @@ module _ (kind : Kind) (p : Program) (tree : Tree) (versions : List Version) (du
           → (other : Stored) × ((slice_index_or new m None ≡ Some other) × IsFirstCut kind p tree versions dual new m other)
       there m le live true q =
           let e : m ≡ n = eqb-true m n q in
-          subst (λ (k : ℕ). (other : Stored) × ((slice_index_or new k None ≡ Some other) × IsFirstCut kind p tree versions dual new k other))
+          subst (λ (k : ℕ).
+          (other : Stored) × ((slice_index_or new k None ≡ Some other) × IsFirstCut kind p tree versions dual new k other))
           (sym e) (cut, (get_or-set_same cuts n (Some cut) None l, still n cut (omega arith) lives first))
       there m le live false q =
           let ne : m ≡ n → ⊥ = unlike m q in

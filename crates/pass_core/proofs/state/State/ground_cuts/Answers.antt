@@ -28,7 +28,8 @@ loop-node-init c = record {
   first = λ i walk frame.
       let p = content c.args.program.now in
       none_first c.args.kind p c.args.tree.now c.args.self.now.versions c.args.dual.now c.nodes-nodes.result c.nodes-nodes.result
-      c.in_ok-cuts.cuts.items (places_of_nodes p c.args.self.now.frame c.nodes-nodes.result i frame c.nodes-nodes.ensures) c.in_ok-cuts.ensures;
+      c.in_ok-cuts.cuts.items (places_of_nodes p c.args.self.now.frame c.nodes-nodes.result i frame c.nodes-nodes.ensures)
+      c.in_ok-cuts.ensures;
 }
 
 pub loop-node-preserved-then-not-is_live : goal.loop-node-preserved-then-not-is_live
