@@ -1,17 +1,16 @@
 -- Before any solve of a run it stands.
-use Rattle.std.proofs.Common.{◌≡◌, ℕ, zero, suc, ◌+◌, ◌<◌, ◌≤◌, Bool, true, false, List, [], ◌∷◌, Option, Some, None, Ok, IfSome, get_or, length, replicate, refl, sym, ap, subst, ◌∙◌, arith}
+use Rattle.std.proofs.Common.{◌≡◌, ℕ, ◌<◌, Bool, true, false, Some, None, length, refl, sym, ap, subst, ◌∙◌, arith}
 use Rattle.std.proofs.lemmas.List.{length-map, length-replicate}
 use Rattle.scen_defs.specs.Lists.{passes_at}
 use Rattle.scen_defs.specs.Program.{Program, is_live}
-use Rattle.scen_defs.specs.Valid.{IsProgram, Lives}
+use Rattle.scen_defs.specs.Valid.{IsProgram}
 use Rattle.scen_defs.specs.declared.report.Kind.TheVariants.{Feasible}
 use Rattle.scen_tree.specs.Trees.{Tree}
 use Rattle.run_ends.specs.declared.ends.Priced.{Priced}
 use Rattle.edit_defs.proofs.Lists.{passes-within}
-use Rattle.pass_table.specs.Machine.{Machine, unsolved, IsLive, IsGood, IsComplete, IsValid}
+use Rattle.pass_table.specs.Machine.{Machine, unsolved, IsGood}
 use Rattle.pass_table.specs.Fits.{IsStart, Fits, lists_of}
 use Rattle.run_data.specs.Frames.{Frame, parent_of, frame_of}
-use Rattle.run_ends.specs.declared.last.Last.{Last}
 use Rattle.run_ends.specs.declared.last.Lasts.{Lasts}
 use Rattle.pass_core.specs.declared.state.State.{State}
 use Rattle.pass_table.specs.Marks.{nothing}

@@ -1,9 +1,9 @@
 -- The ends behind a policy and behind a root value.
-use Rattle.std.proofs.Common.{◌≡◌, Option, Some, None, IfSome, refl, sym, ap, subst, ◌∙◌}
+use Rattle.std.proofs.Common.{◌≡◌, Option, Some, None, IfSome, refl, sym}
 use Rattle.std.specs.declared.cmp.Ordering.{Ordering}
 use Rattle.std.specs.declared.cmp.Ordering.TheVariants.{Less, Equal, Greater}
 use Rattle.std.specs.Ordering.{is_lt, MatchOrdering}
-use Rattle.rationals.specs.Rational.{ℚ, ◌≤ℚ◌, ◌<ℚ◌, lt_le_ℚ, le_refl_ℚ, le_of_same_ℚ}
+use Rattle.rationals.specs.Rational.{◌≤ℚ◌, ◌<ℚ◌, lt_le_ℚ, le_refl_ℚ, le_of_same_ℚ}
 use Rattle.rationals.specs.Order.{compare}
 use Rattle.rationals.proofs.OrderMeaning.{compare_means}
 use Rattle.scen_defs.specs.Lists.{pick}

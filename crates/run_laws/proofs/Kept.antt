@@ -1,9 +1,7 @@
 -- Behind solves of a program that nothing stopped its run stands.
-use Rattle.std.proofs.Common.{◌≡◌, ℕ, ◌+◌, ◌^◌, ◌<◌, ◌≤◌, ◌⊎◌, inl, inr, Bool, true, false, List, [], ◌∷◌, Option, Some, None, Ok, IfSome, length, replicate, refl, sym, ap, subst, ◌∙◌, arith}
+use Rattle.std.proofs.Common.{◌≡◌, ℕ, ◌+◌, ◌^◌, ◌<◌, ◌≤◌, Bool, true, false, List, [], Option, Some, None, Ok, length, replicate, refl, sym, ap, subst, ◌∙◌, arith}
 use Rattle.std.proofs.lemmas.List.{length-replicate}
-use Rattle.rationals.specs.Rational.{ℚ, ◌≤ℚ◌, le_trans_ℚ, le_of_same_ℚ, le_antisym_ℚ}
-use Rattle.scen_defs.specs.Program.{Program, is_live, view_of}
-use Rattle.scen_defs.specs.Flat.{Feasible, cost}
+use Rattle.scen_defs.specs.Program.{Program, is_live}
 use Rattle.scen_defs.specs.Valid.{IsProgram, Lives}
 use Rattle.scen_defs.specs.declared.report.Kind.{Kind}
 use Rattle.scen_defs.specs.declared.report.Kind.TheVariants as run_kind
@@ -20,20 +18,20 @@ use Rattle.run_ends.specs.declared.ends.Priced.{Priced}
 use Rattle.run_ends.specs.declared.ends.Ends.{Ends}
 use Rattle.run_ends.specs.declared.settled.Settled.{Settled}
 use Rattle.run_ends.specs.Ends.{no_ends}
-use Rattle.run_ends.specs.Settled.{settled, shown, ended, or_case}
+use Rattle.run_ends.specs.Settled.{shown, ended, or_case}
 use Rattle.pass_core.specs.declared.budget.Budget.{Budget}
 use Rattle.pass_core.specs.declared.state.Counts.{Counts}
 use Rattle.pass_core.specs.declared.state.State.{State}
-use Rattle.pass_core.specs.Beginning.{IsBeginning, StartsOver}
-use Rattle.pass_core.specs.Left.{StaysInRun, OpensRun, next_kind, places_in}
-use Rattle.pass_core.specs.Made.{BankBooks, script_books, AreBooksOf, CutsAreMade, KeepsBooks}
+use Rattle.pass_core.specs.Beginning.{IsBeginning}
+use Rattle.pass_core.specs.Left.{OpensRun, next_kind, places_in}
+use Rattle.pass_core.specs.Made.{script_books, AreBooksOf, CutsAreMade}
 use Rattle.pass_core.specs.Tabled.{IsTabledBy, Opens, not_opened, is_opened}
 use Rattle.pass_core.proofs.MadeAfterEdits.{all_made_at_start}
 use Rattle.cut_defs.specs.Data.{IsRight}
 use Rattle.edit_defs.specs.Data.{view_in, book}
 use Rattle.edit_defs.proofs.Programs.{edits_keep_programs}
 use Rattle.edit_defs.proofs.Books.{node-right}
-use Rattle.pass_core.specs.Turns.{AreFirstCuts, PutsFirstCuts, AreReady, SolvesNode, StaysReady, MakesStep, begins_none, opens_run, solves}
+use Rattle.pass_core.specs.Turns.{AreFirstCuts, PutsFirstCuts, MakesStep, begins_none, opens_run, solves}
 use Rattle.tree_method.specs.Stands.{SolvesNodes, none, more, anew, settled_in}
 use Rattle.run_laws.proofs.Standing.{Known, known_of, HasMember, PoolStands, runs_before, HasFirstCuts, EndsHold, StandsBy}
 use Rattle.run_laws.proofs.PoolSteps.{weaker, empty_stand, AreAt, first_at, puts_stand, puts_there}
@@ -43,10 +41,9 @@ use Rattle.cut_banks.specs.Banks.{pools_of, pools_in as pools_of_bank, empty_ban
 use Rattle.cut_defs.specs.declared.kinds.Bank.{Bank}
 use Rattle.cut_defs.specs.declared.kinds.Bank.TheVariants.{Plain, Cone}
 use Rattle.edit_defs.proofs.Lists.{passes-within}
-use Rattle.scen_defs.specs.Lists.{passes_at}
 use Rattle.run_laws.proofs.Same.{stands_too}
 use Rattle.run_laws.proofs.Moved.{known}
-use Rattle.run_laws.proofs.Begun.{IsUnsolved, unsolved_stands, unused_unsolved, unused_uncommitted, places_of, IsReadyState, ready_stands}
+use Rattle.run_laws.proofs.Begun.{unsolved_stands, unused_unsolved, unused_uncommitted, places_of, IsReadyState, ready_stands}
 use Rattle.tree_method.proofs.StandLemmas.{goes_on}
 use Rattle.run_laws.proofs.Turned.{turn_commits}
 use Rattle.run_laws.proofs.Solved.{StandsBehind, solve_stands}
@@ -113,7 +110,7 @@ module _ (p : Program) (tree : Tree) (i : IsProgram p) (few : length p.nodes < n
       let r : IsReadyState p tree old new.lasts m = ready_stands p tree old new.lasts m i few h.frame table (h.stands m table) h.long ready.ready in
       let same : known_of new ≡ known_of (record old { lasts = new.lasts })
       = same_known old.kind old.frame old.versions new.lasts.nodes.items old.banks old.ends new.kind new.frame new.versions new.banks new.ends
-          ready.run.kind ready.run.frame ready.run.versions ready.banks ready.ends in
+      ready.run.kind ready.run.frame ready.run.versions ready.banks ready.ends in
       record {
         frame = ready.run.frame ∙ h.frame;
         long = λ e. r.long;
@@ -259,9 +256,15 @@ module _ (p : Program) (tree : Tree) (i : IsProgram p) (few : length p.nodes < n
         most = λ k t. omega (arith, h.most m table, same_commits new (opened m number) k fits t, ap (λ (c : Counts). c.since_report) reasons.counts);
       }
   step_counted old new m told small h open_yet table (solves lasts n ready solve) stop = record {
-    most = λ k t. omega (arith, h.most m table, same_commits new solve.ends.machine k solve.ends.tabled t,
-        turn_commits m solve.ends.machine table.valid table.idle solve.ends.turn, goes_on old open_yet, small,
-        ap (λ (c : Counts). c.since_report) solve.reasons.counts);
+    most = λ k t. omega (
+      arith,
+      h.most m table,
+      same_commits new solve.ends.machine k solve.ends.tabled t,
+      turn_commits m solve.ends.machine table.valid table.idle solve.ends.turn,
+      goes_on old open_yet,
+      small,
+      ap (λ (c : Counts). c.since_report) solve.reasons.counts,
+    );
   }
 
   pub solves_counted : (budget : Budget) (old new : State) → new.budget.solves < 2 ^ 63 → IsBeginning p budget old → SolvesNodes p old new → new.stop ≡ None

@@ -1,42 +1,37 @@
 -- In a closed Cost run the ends meet.
-use Rattle.std.proofs.Common.{◌≡◌, ℕ, ◌<◌, ◌≤◌, Bool, true, false, List, [], Option, Some, None, Ok, IfSome, length, map, refl, sym, ap, subst, ◌∙◌, arith}
+use Rattle.std.proofs.Common.{◌≡◌, ◌<◌, ◌≤◌, Bool, true, [], Some, Ok, IfSome, length, refl, sym, ap, subst, ◌∙◌, arith}
 use Rattle.std.proofs.lemmas.List.{length-map}
 use Rattle.std.specs.declared.cmp.Ordering.{Ordering}
 use Rattle.std.specs.declared.cmp.Ordering.TheVariants.{Less, Equal, Greater}
 use Rattle.std.specs.Ordering.{is_eq, MatchOrdering}
-use Rattle.rationals.specs.Rational.{ℚ, ◌≤ℚ◌, ◌<ℚ◌, le_trans_ℚ, le_of_same_ℚ, le_antisym_ℚ, not_le_of_lt_ℚ}
+use Rattle.rationals.specs.Rational.{ℚ, ◌≤ℚ◌, ◌<ℚ◌, le_trans_ℚ, le_of_same_ℚ, not_le_of_lt_ℚ}
 use Rattle.rationals.specs.Order.{compare, same}
 use Rattle.rationals.proofs.OrderMeaning.{compare_means}
-use Rattle.scen_defs.specs.Lists.{pick, passes_at}
-use Rattle.scen_defs.specs.Program.{Program, is_live, view_of}
+use Rattle.scen_defs.specs.Program.{Program, view_of}
 use Rattle.scen_defs.specs.Flat.{Feasible, cost, IsGood, value}
 use Rattle.scen_defs.specs.Values.{at}
-use Rattle.scen_defs.specs.Valid.{IsProgram, Lives}
+use Rattle.scen_defs.specs.Valid.{IsProgram}
 use Rattle.scen_defs.specs.declared.report.Kind.{Kind}
 use Rattle.scen_defs.specs.declared.report.Kind.TheVariants as run_kind
 use Rattle.scen_defs.proofs.Duality.{weak_duality}
 use Rattle.scen_tree.specs.Trees.{Tree, tree_walk}
 use Rattle.cut_defs.specs.Cuts.{priced}
-use Rattle.cut_defs.specs.Stored.{Stored, source_of, constant_of}
+use Rattle.cut_defs.specs.Stored.{source_of, constant_of}
 use Rattle.cut_defs.specs.declared.kinds.CutKind.{CutKind}
 use Rattle.cut_defs.specs.declared.kinds.CutKind.TheVariants.{Bound}
 use Rattle.cut_banks.specs.Banks.{pools_of}
 use Rattle.edit_defs.specs.Data.{view_in, book}
 use Rattle.node_lp.specs.Problem.{is_priced}
-use Rattle.pass_table.specs.Machine.{Machine, IsLive, IsOpen, IsClosed, IsComplete}
+use Rattle.pass_table.specs.Machine.{Machine, IsOpen, IsClosed, IsComplete}
 use Rattle.pass_table.specs.Marks.{nothing}
-use Rattle.run_data.specs.Frames.{Frame, parent_of, frame_of}
+use Rattle.run_data.specs.Frames.{Frame, parent_of}
 use Rattle.run_ends.specs.declared.ends.Priced.{Priced}
 use Rattle.run_ends.specs.declared.ends.Bounded.{Bounded}
-use Rattle.run_ends.specs.declared.ends.Ends.{Ends}
-use Rattle.run_ends.specs.declared.settled.Settled.{Settled}
 use Rattle.run_ends.specs.declared.settled.Settled.TheVariants.{Optimal}
 use Rattle.run_ends.specs.Ends.{meet}
 use Rattle.run_ends.specs.Lasts.{joined_points}
-use Rattle.run_ends.specs.Settled.{settled, shown, ended, or_case, where_so}
-use Rattle.pass_core.specs.declared.budget.Budget.{Budget}
+use Rattle.run_ends.specs.Settled.{settled, ended, or_case, where_so}
 use Rattle.pass_core.specs.declared.state.State.{State}
-use Rattle.pass_core.specs.Beginning.{IsBeginning}
 use Rattle.pass_core.specs.Made.{IsMadeAbout}
 use Rattle.pass_core.specs.Tabled.{IsTabledBy}
 use Rattle.pass_core.proofs.Parentage.{root_lives}
@@ -44,10 +39,10 @@ use Rattle.pass_core.proofs.Assembling.{root_is_worth}
 use Rattle.policy_laws.proofs.Places.{tree_in}
 use Rattle.policy_laws.proofs.Costs.{joined_points_cost}
 use Rattle.tree_method.specs.Stands.{settled_in}
-use Rattle.run_laws.specs.Laws.{IsReached, ClosedRunsMeet}
-use Rattle.run_laws.proofs.Standing.{Known, known_of, pools_in, HasLast, EndsHold, HasCost, StandsBy}
+use Rattle.run_laws.specs.Laws.{ClosedRunsMeet}
+use Rattle.run_laws.proofs.Standing.{Known, known_of, HasLast, HasCost, StandsBy}
 use Rattle.run_laws.proofs.Kept.{IsStanding, IsMadeHere, solves_stand, solves_made}
-use Rattle.run_laws.proofs.Policies.{all_meet, complete, value_of, cost_below, root_value}
+use Rattle.run_laws.proofs.Policies.{all_meet, complete, cost_below, root_value}
 
 -- numbers of which each is at most the other compare as the same
 both_same : (a b : ℚ) → a ≤ℚ b → b ≤ℚ a → same a b ≡ true

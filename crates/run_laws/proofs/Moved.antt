@@ -1,9 +1,8 @@
 -- A node's last solve stands on, where another node is solved.
-use Rattle.std.proofs.Common.{◌≡◌, ℕ, zero, suc, ◌+◌, ◌<◌, ◌⊎◌, inl, inr, ◌↔◌, Bool, true, false, List, [], ◌∷◌, Option, Some, None, get_or, slice_index, slice_get, refl, sym, ap, subst, ◌∙◌, arith}
+use Rattle.std.proofs.Common.{◌≡◌, ℕ, zero, suc, ◌+◌, ◌⊎◌, inl, inr, Bool, List, [], ◌∷◌, Option, Some, None, get_or, slice_index, slice_get, refl, sym, ap, subst, ◌∙◌, arith}
 use Rattle.std.specs.List.{Contains}
 use Rattle.std.proofs.lemmas.Bool.{cases_eq}
-use Rattle.rationals.specs.Rational.{ℚ, ◌≤ℚ◌, le_refl_ℚ, le_trans_ℚ}
-use Rattle.rationals.specs.Sparse.{Entry}
+use Rattle.rationals.specs.Rational.{◌≤ℚ◌, le_refl_ℚ, le_trans_ℚ}
 use Rattle.scen_defs.specs.Program.{Program}
 use Rattle.scen_defs.specs.declared.report.Kind.{Kind}
 use Rattle.scen_defs.specs.declared.report.Kind.TheVariants.{Cost}
@@ -12,7 +11,7 @@ use Rattle.cut_pool.specs.Held.{Held}
 use Rattle.cut_banks.specs.declared.banks.Banks.{Banks}
 use Rattle.cut_banks.specs.Banks.{pools_of}
 use Rattle.cut_banks.specs.Pools.{numbers_of, cuts_read}
-use Rattle.pass_table.specs.Machine.{IsAbove, next, Last as LastOf, Machine, IsLive, IsChild, IsMade, HasPoint, IsValid}
+use Rattle.pass_table.specs.Machine.{next, Last as LastOf, Machine, IsLive, IsChild, IsMade, IsValid}
 use Rattle.pass_table.specs.Fits.{AreRead}
 use Rattle.one_worker.specs.Turn.{AreChildren}
 use Rattle.run_data.specs.declared.versions.Version.{Version}
@@ -21,7 +20,7 @@ use Rattle.run_ends.specs.declared.last.Last.{Last}
 use Rattle.run_ends.specs.declared.ends.Bounded.{Bounded}
 use Rattle.run_ends.specs.declared.ends.Ends.{Ends}
 use Rattle.run_ends.specs.Lasts.{last_at, trial_of}
-use Rattle.run_laws.proofs.Standing.{Known, pools_in, HasMember, IsAtLeast, IsAbove as IsRayAbove, ShowsNone, HasLast, HasNone}
+use Rattle.run_laws.proofs.Standing.{Known, HasMember, IsAtLeast, IsAbove as IsRayAbove, ShowsNone, HasLast, HasNone}
 use Rattle.run_laws.proofs.Turned.{IsTurned, made_before}
 use Rattle.run_laws.proofs.Places.{trial_same, PoolsGo, member_goes, reads_same}
 

@@ -1,40 +1,35 @@
 -- Where no node may be begun, and the run isn't settled, it is closed.
-use Rattle.std.proofs.Common.{◌≡◌, ℕ, zero, suc, ◌<◌, ◌≤◌, ◌⊎◌, inl, inr, Bool, true, false, List, [], ◌∷◌, Option, Some, None, Ok, IfSome, get_or, slice_get, length, is_some, refl, sym, ap, subst, ◌∙◌, arith}
+use Rattle.std.proofs.Common.{◌≡◌, ℕ, zero, suc, ◌<◌, ◌≤◌, inl, inr, Bool, true, false, List, [], ◌∷◌, Option, Some, None, Ok, IfSome, get_or, slice_get, length, is_some, refl, sym, ap, subst, ◌∙◌, arith}
 use Rattle.std.proofs.lemmas.List.{length-map}
 use Rattle.std.specs.List.{Contains}
-use Rattle.rationals.specs.Rational.{ℚ, zero_ℚ, one_ℚ, neg_ℚ, ◌+ℚ◌, ◌*ℚ◌, ◌≤ℚ◌, ◌<ℚ◌, le_refl_ℚ, le_of_same_ℚ, le_trans_ℚ, lt_by, mul_zero_ℚ, lt_le_ℚ, zero_lt_one_ℚ, by_linear, terms}
+use Rattle.rationals.specs.Rational.{ℚ, zero_ℚ, one_ℚ, neg_ℚ, ◌≤ℚ◌, le_refl_ℚ, le_of_same_ℚ, le_trans_ℚ, lt_by, mul_zero_ℚ, lt_le_ℚ, zero_lt_one_ℚ, by_linear, terms}
 use Rattle.rationals.specs.Ring.Given.{nothing as no_more, fact}
-use Rattle.rationals.specs.Sums.{sum_ℚ, sum-zero}
+use Rattle.rationals.specs.Sums.{sum-zero}
 use Rattle.rationals.specs.Sparse.{Entry, product}
-use Rattle.scen_defs.specs.Lists.{Each, pick, passes_at}
+use Rattle.scen_defs.specs.Lists.{Each}
 use Rattle.scen_defs.specs.Ends.{AtLeast, AtMost, Between}
 use Rattle.scen_defs.specs.Program.{Program, View, is_live, view_of}
-use Rattle.scen_defs.specs.Flat.{FeasibleAt, Feasible, cost, IsGood, value, without_costs, recession, zero_end, zero_row, ShowsInfeasible}
+use Rattle.scen_defs.specs.Flat.{FeasibleAt, Feasible, cost, IsGood, value, without_costs, recession, zero_end, zero_row}
 use Rattle.scen_defs.specs.Values.{at}
 use Rattle.scen_defs.specs.Valid.{IsProgram, Lives}
 use Rattle.scen_defs.specs.declared.program.NodeRow.{NodeRow}
 use Rattle.scen_defs.specs.declared.report.Kind.{Kind}
 use Rattle.scen_defs.specs.declared.report.Kind.TheVariants as run_kind
-use Rattle.scen_defs.proofs.SumLaws.{each-map, sum-ext}
+use Rattle.scen_defs.proofs.SumLaws.{sum-ext}
 use Rattle.scen_defs.proofs.Duality.{infeasibility_shown}
 use Rattle.cut_defs.proofs.Present.{each_mapped}
 use Rattle.scen_tree.specs.Trees.{Tree, tree_walk}
 use Rattle.cut_defs.specs.Cuts.{priced}
-use Rattle.cut_defs.specs.Stored.{Stored, source_of, constant_of}
+use Rattle.cut_defs.specs.Stored.{Stored, constant_of}
 use Rattle.cut_defs.specs.declared.kinds.CutKind.{CutKind}
-use Rattle.cut_defs.specs.declared.kinds.CutKind.TheVariants.{Bound, Ray}
 use Rattle.cut_banks.specs.Banks.{pools_of}
 use Rattle.edit_defs.specs.Data.{view_in, book}
 use Rattle.edit_defs.proofs.Lists.{passes-within}
-use Rattle.pass_table.specs.Machine.{IsAbove, next, Machine, IsLive, IsChild, IsFresh, IsOpen, IsFlying, IsClosed, MayBegin, IsTop}
+use Rattle.pass_table.specs.Machine.{next, Machine, IsLive, IsChild, IsFresh, IsOpen, IsClosed, MayBegin, IsTop}
 use Rattle.pass_table.specs.Marks.{nothing}
 use Rattle.pass_table.proofs.Agree.{all_below, fresh_told, open_told}
-use Rattle.one_worker.specs.Turn.{AreChildren}
-use Rattle.run_data.specs.Frames.{Frame, parent_of, frame_of, parent_in, children_in}
-use Rattle.run_ends.specs.declared.last.Last.{Last}
+use Rattle.run_data.specs.Frames.{Frame, parent_of, parent_in, children_in}
 use Rattle.run_ends.specs.declared.ends.Priced.{Priced}
-use Rattle.run_ends.specs.declared.ends.Ends.{Ends}
-use Rattle.run_ends.specs.declared.settled.Settled.{Settled}
 use Rattle.run_ends.specs.declared.settled.Settled.TheVariants.{Infeasible, Optimal}
 use Rattle.run_ends.specs.Lasts.{trial_of}
 use Rattle.run_ends.specs.Settled.{settled, ended, or_case, where_so}
@@ -45,8 +40,8 @@ use Rattle.pass_core.proofs.Parentage.{children_are}
 use Rattle.pass_core.proofs.Assembling.{root_is_worth}
 use Rattle.policy_laws.proofs.Places.{tree_in}
 use Rattle.tree_method.specs.Stands.{settled_in}
-use Rattle.run_laws.proofs.Standing.{Known, known_of, pools_in, ShowsNone, HasLast, HasNone, EndsHold, StandsBy}
-use Rattle.run_laws.specs.Laws.{IsReached, IsFollowed, RunsGoOn, EndsAreSettled}
+use Rattle.run_laws.proofs.Standing.{known_of, ShowsNone, HasLast, HasNone, StandsBy}
+use Rattle.run_laws.specs.Laws.{IsFollowed, RunsGoOn, EndsAreSettled}
 use Rattle.pass_core.specs.Turns.{IsAtRest}
 use Rattle.run_laws.proofs.Kept.{IsStanding, IsMadeHere, unstopped, solves_stand, solves_made}
 use Rattle.run_laws.proofs.Meeting.{closed_runs_meet}
@@ -161,8 +156,8 @@ module _ (p : Program) (tree : Tree) (i : IsProgram p) (few : length p.nodes < n
       let child : IsChild m a n = record { live = live; lower = low; parent = up } in
       let at : Contains (children_in s.frame a) n
       = subst (λ (f : Frame). Contains (children_in f a) n) (sym standing.frame)
-          ((children_are p m i table.machine.live (λ q. ap (λ (g : ℕ → ℕ). g q) table.machine.parent ∙ ap (λ (f : Frame). get_or f.parents q 0) standing.frame)
-          a la n).0 child) in
+      ((children_are p m i table.machine.live (λ q. ap (λ (g : ℕ → ℕ). g q) table.machine.parent ∙ ap (λ (f : Frame). get_or f.parents q 0) standing.frame)
+      a la n).0 child) in
       no_ray_above p i (known_of s) m standing.frame table.machine.live stands.lasts (enough s.kind) a n la u at h.trial
       (sym (h.made fresh.made ∙ ap (trial_of s.lasts.nodes.items) (parent_is n refl low))) (h.offered low)
     where
@@ -203,8 +198,8 @@ pub runs_go_on : RunsGoOn
 runs_go_on p s m r table open_yet fails =
     let stop : s.stop ≡ None = unstopped s open_yet in
     let closed : IsClosed m = is_closed p r.tree r.program r.few r.walk s m
-        (solves_stand p r.tree r.program r.few r.walk r.budget r.first s r.begins r.solves stop)
-        (solves_made p r.tree r.program r.few r.walk r.budget r.first s r.begins r.solves stop) table open_yet fails in
+    (solves_stand p r.tree r.program r.few r.walk r.budget r.first s r.begins r.solves stop)
+    (solves_made p r.tree r.program r.few r.walk r.budget r.first s r.begins r.solves stop) table open_yet fails in
     record {
       closed = closed;
       earlier = λ costly. let q : None ≡ Some Optimal = sym open_yet ∙ closed_runs_meet p s m r table closed costly stop in absurd (cc);

@@ -6,10 +6,9 @@ use Rattle.rationals.specs.Sparse.{Entry}
 use Rattle.scen_defs.specs.declared.report.Kind.{Kind}
 use Rattle.scen_defs.specs.declared.report.Kind.TheVariants.{Feasible, Recession, Cost}
 use Rattle.cut_defs.specs.Stored.{Stored, source_of}
-use Rattle.cut_defs.specs.declared.kinds.CutKind.{CutKind}
 use Rattle.cut_defs.specs.declared.kinds.CutKind.TheVariants.{Bound, Ray}
 use Rattle.cut_pool.specs.Held.{Held}
-use Rattle.cut_pool.specs.Pool.{with_cut, offer_of}
+use Rattle.cut_pool.specs.Pool.{with_cut}
 use Rattle.cut_pool.specs.declared.offer.Offer.{Offer}
 use Rattle.cut_pool.specs.declared.offer.Offer.TheVariants.{Added, NotNeeded, Stale, Passed}
 use Rattle.cut_banks.specs.declared.banks.Banks.{Banks}
@@ -17,7 +16,7 @@ use Rattle.cut_banks.specs.Banks.{pools_of, with_pools}
 use Rattle.cut_banks.specs.Pools.{numbers_of}
 use Rattle.node_lp.specs.Answers.{value_at_trial}
 use Rattle.pass_core.specs.Left.{IsTaken, IsOffered, OffersCut}
-use Rattle.solve_laws.specs.Offers.{offered_pools, IsCompared, HoldsAsMuch, by_cut, by_zero, StaysOrGrows, stays, grows, KeepsCuts, HoldsOffer}
+use Rattle.solve_laws.specs.Offers.{offered_pools, IsCompared, HoldsAsMuch, by_cut, by_zero, StaysOrGrows, stays, grows, HoldsOffer}
 use Rattle.solve_laws.proofs.Offers.{offers_hold}
 use Rattle.run_laws.proofs.Standing.{HasMember, IsAtLeast, IsAbove}
 use Rattle.run_laws.proofs.Places.{PoolsGo, pools_stay}
@@ -54,9 +53,9 @@ module _ (cut : Stored) (trial : List Entry) (pools : List Held) where
           ⊎ (get_or (numbers_of (offered_pools cut trial pools)) (source_of cut).node 0 ≡ get_or (numbers_of pools) (source_of cut).node 0 + 1)
       mine (stays e) = inl e
       mine (grows p q there now) = inr (
-        let a = number_got (offered_pools cut trial pools) (source_of cut).node (with_cut p cut) now in
-        let b = number_got pools (source_of cut).node p there in
-        omega (arith, a, b))
+          let a = number_got (offered_pools cut trial pools) (source_of cut).node (with_cut p cut) now in
+          let b = number_got pools (source_of cut).node p there in
+          omega (arith, a, b))
 
 same_pools : (old next : List Held) (n : ℕ) → next ≡ old → PoolsGo old next n
 same_pools old next n e = subst (λ (ps : List Held). PoolsGo old ps n) (sym e) (pools_stay old n)

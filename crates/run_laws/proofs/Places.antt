@@ -1,10 +1,10 @@
 -- The places of last solves and of pools, where one of them changes.
-use Rattle.std.proofs.Common.{◌≡◌, ℕ, zero, suc, ◌+◌, ◌<◌, ◌⊎◌, inl, inr, List, [], ◌∷◌, ◌++◌, Option, Some, None, get_or, length, length-set, replicate, map, slice_get, slice_set, refl, sym, ap, ap₂, subst, ◌∙◌, arith}
+use Rattle.std.proofs.Common.{◌≡◌, ℕ, zero, suc, ◌+◌, ◌<◌, ◌⊎◌, inl, List, [], ◌∷◌, ◌++◌, Option, Some, None, get_or, length, length-set, slice_get, refl, ap, ap₂, ◌∙◌, arith}
 use Rattle.std.specs.List.{Contains}
 use Rattle.std.specs.Option.{option_map, option_to_list}
 use Rattle.cut_defs.specs.Stored.{Stored}
 use Rattle.cut_pool.specs.Held.{Held}
-use Rattle.cut_banks.specs.Pools.{numbers_of, cuts_at, cuts_read}
+use Rattle.cut_banks.specs.Pools.{numbers_of, cuts_read}
 use Rattle.run_data.specs.Frames.{Frame, parent_in}
 use Rattle.run_ends.specs.declared.last.Last.{Last}
 use Rattle.run_ends.specs.Lasts.{last_at, along_of, trial_of, with_last}

@@ -1,8 +1,8 @@
 -- In a complete run the points of all nodes are a policy; in a closed one its cost is at most the root's value.
-use Rattle.std.proofs.Common.{◌≡◌, ℕ, zero, suc, ◌+◌, ◌<◌, ◌≤◌, ◌⊎◌, inl, inr, Bool, true, false, List, [], ◌∷◌, Option, Some, None, Ok, get_or, length, map, slice_get, refl, sym, ap, ap₂, subst, ◌∙◌, arith}
+use Rattle.std.proofs.Common.{◌≡◌, ℕ, zero, suc, ◌+◌, ◌<◌, ◌≤◌, ◌⊎◌, inl, inr, Bool, true, false, List, [], ◌∷◌, Option, Some, None, Ok, length, map, slice_get, refl, sym, ap, subst, ◌∙◌, arith}
 use Rattle.std.specs.List.{Contains}
 use Rattle.rationals.specs.Rational.{ℚ, zero_ℚ, one_ℚ, ◌+ℚ◌, ◌*ℚ◌, ◌≤ℚ◌, le_trans_ℚ, not_le_of_lt_ℚ, by_linear_eq, terms}
-use Rattle.rationals.specs.Ring.Given.{nothing, fact, equal}
+use Rattle.rationals.specs.Ring.Given.{nothing, equal}
 use Rattle.rationals.specs.Sums.{sum_ℚ}
 use Rattle.rationals.specs.Sparse.{Entry, coefficient, product}
 use Rattle.rationals.specs.Forms.{add_scaled_walk}
@@ -10,8 +10,8 @@ use Rattle.rationals.proofs.WalkLaws.{sum_coefficient}
 use Rattle.scen_defs.specs.Lists.{Each, passes_at}
 use Rattle.scen_defs.specs.Ends.{Between}
 use Rattle.scen_defs.specs.Values.{at}
-use Rattle.scen_defs.specs.Program.{Program, View, view_of, is_live, IsTree, IsLive as IsLiveIn}
-use Rattle.scen_defs.specs.Flat.{Feasible, cost, is_child, children, share}
+use Rattle.scen_defs.specs.Program.{Program, View, view_of, is_live, IsLive as IsLiveIn}
+use Rattle.scen_defs.specs.Flat.{cost, is_child, children, share}
 use Rattle.scen_defs.proofs.Subtrees.{ChildIs, child-is}
 use Rattle.scen_tree.specs.Trees.{position_of, children_of}
 use Rattle.cut_defs.proofs.CutLaws.{each-child}
@@ -21,29 +21,25 @@ use Rattle.scen_defs.specs.declared.program.NodeRow.{NodeRow}
 use Rattle.scen_defs.specs.declared.report.Kind.{Kind}
 use Rattle.scen_defs.specs.declared.report.Kind.TheVariants as run_kind
 use Rattle.scen_defs.proofs.SumLaws.{each-map, each-both, sum-ext}
-use Rattle.cut_defs.specs.Data.{Datum}
 use Rattle.cut_defs.specs.Stored.{Stored, source_of}
 use Rattle.cut_defs.specs.declared.kinds.CutKind.TheVariants.{Bound, Ray}
 use Rattle.cut_pool.specs.Held.{Held}
-use Rattle.cut_banks.specs.Pools.{cuts_of, cuts_read}
+use Rattle.cut_banks.specs.Pools.{cuts_read}
 use Rattle.edit_defs.specs.Data.{view_in}
 use Rattle.edit_defs.proofs.Lists.{passes-within}
 use Rattle.node_lp.specs.Problem.{is_priced}
-use Rattle.node_lp.specs.Weighed.{Weighed}
-use Rattle.node_lp.specs.Answers.{value_at_trial, PointAnswer, HasCut}
-use Rattle.node_lp.specs.declared.task.Task.{Task}
-use Rattle.pass_table.specs.Machine.{Machine, IsLive, IsChild, IsMade, IsFresh, IsOpen, IsGood, HasPoint, IsClosed, IsComplete}
-use Rattle.pass_table.specs.Fits.{AreRead}
+use Rattle.node_lp.specs.Answers.{value_at_trial, HasCut}
+use Rattle.pass_table.specs.Machine.{Machine, IsLive, IsMade, IsOpen, IsGood, HasPoint, IsClosed, IsComplete}
 use Rattle.run_data.specs.Counts.{version_of}
 use Rattle.run_data.specs.Frames.{frame_of, parent_in, children_in}
 use Rattle.run_data.specs.declared.versions.Version.{Version}
 use Rattle.run_data.proofs.TreeReads.{children_at, children_are}
 use Rattle.run_ends.specs.declared.last.Last.{Last}
-use Rattle.run_ends.specs.Lasts.{last_at, last_point, along_of, trial_of, joined_points}
+use Rattle.run_ends.specs.Lasts.{last_point, along_of, trial_of, joined_points}
 use Rattle.dual_assemble.specs.Values.{point_entries}
 use Rattle.pass_core.specs.Turns.{datum_in}
 use Rattle.pass_core.proofs.Making.{children_after}
-use Rattle.policy_laws.specs.Points.{MeetsAt, AllMeet, point_at, CoversAt, AllCover}
+use Rattle.policy_laws.specs.Points.{MeetsAt, AllMeet, CoversAt}
 use Rattle.policy_laws.proofs.Places.{IsFramed, framed_in, tree_in}
 use Rattle.policy_laws.proofs.Policies.{values_cover}
 use Rattle.solve_laws.specs.Points.{IsDatumIn, PointMeets}
@@ -133,9 +129,9 @@ module _ (p : Program) (i : IsProgram p) (w : Known) (m : Machine) (frame : w.fr
         let same : children_in w.frame n ≡ children (view_in w.kind p) n = own_same n l in
         let below : Each (λ c. c < length (pools_in w)) (children (view_in w.kind p) n)
         = subst (Each (λ c. c < length (pools_in w))) (ap (λ f. children_in f n) (sym frame) ∙ same)
-            (each-map {Q = λ c. c < length (pools_in w)} (λ c h. let q = passes-within is_live c p.nodes h.0 in omega (arith, q, pools)) (children_in (frame_of p) n) (children_after p i n l)) in
+        (each-map {Q = λ c. c < length (pools_in w)} (λ c h. let q = passes-within is_live c p.nodes h.0 in omega (arith, q, pools)) (children_in (frame_of p) n) (children_after p i n l)) in
         values_cover_pools (view_in w.kind p) n (pools_in w) h.task h.last.point h.last.along h.value h.cut (datum n h) h.fits
-            (h.cuts (u.open_is.0.below) ∙ ap (cuts_read (pools_in w)) same) below h.answer (adds_up h.task.trial h.last.point h.last.along h.along)
+        (h.cuts (u.open_is.0.below) ∙ ap (cuts_read (pools_in w)) same) below h.answer (adds_up h.task.trial h.last.point h.last.along h.along)
 
     -- no Ray cut about a child is above 0 at its point
     pub no_ray_above : (a n : ℕ) → Lives p a → UpToDate a → Contains (children_in w.frame a) n → (trial : List Entry)
@@ -144,7 +140,7 @@ module _ (p : Program) (i : IsProgram p) (w : Known) (m : Machine) (frame : w.fr
         let c = costs a l u in
         let b : RaysBelow u.last.last.along h.pool.cuts
         = each_found (λ (k : ℕ). (q : Held) → slice_get (pools_in w) k ≡ Some q → RaysBelow u.last.last.along q.cuts) (children (view_in w.kind p) a) n c.rays
-            (subst (λ (cs : List ℕ). Contains cs n) (own_same a l) at) h.pool h.there in
+        (subst (λ (cs : List ℕ). Contains cs n) (own_same a l) at) h.pool h.there in
         let r : value_at_trial h.cut u.last.last.along ≤ℚ zero_ℚ
         = each_found (λ (cut : Stored). (source_of cut).kind ≡ Ray → value_at_trial cut u.last.last.along ≤ℚ zero_ℚ) h.pool.cuts h.cut b h.member h.holds.0 in
         not_le_of_lt_ℚ h.holds.1 (subst (λ (t : List Entry). value_at_trial h.cut t ≤ℚ zero_ℚ) (sym (ap along_of u.last.there) ∙ e) r)

@@ -1,10 +1,9 @@
 -- The pools of both banks through the steps of runs: each is of its node, no edit touched it, and its number stays low.
-use Rattle.std.proofs.Common.{◌≡◌, ℕ, zero, suc, ◌+◌, ◌<◌, ◌≤◌, ◌⊎◌, inl, inr, Bool, true, false, ◌&&◌, eqb, ltb, is_none, List, [], ◌∷◌, ◌++◌, Option, Some, None, Result, Ok, Err, IfSome, get_or, slice_get, slice_index_or, length, refl, sym, ap, ap₂, subst, ◌∙◌, arith, eq-eqb, eqb-true}
+use Rattle.std.proofs.Common.{◌≡◌, ℕ, zero, suc, ◌+◌, ◌<◌, ◌≤◌, ◌⊎◌, inl, inr, Bool, true, false, ◌&&◌, List, [], ◌∷◌, ◌++◌, Option, Some, None, Result, Ok, Err, IfSome, get_or, slice_get, slice_index_or, refl, sym, ap, ap₂, subst, ◌∙◌, arith, eq-eqb}
 use Rattle.std.specs.List.{Contains}
 use Rattle.std.proofs.lemmas.Bool.{lt-ltb, cases_eq}
 use Rattle.scen_defs.specs.Lists.{pick, passes_at}
 use Rattle.scen_defs.specs.Program.{Program}
-use Rattle.scen_defs.specs.Valid.{Lives}
 use Rattle.scen_defs.specs.declared.report.Kind.{Kind}
 use Rattle.scen_defs.specs.declared.report.Kind.TheVariants.{Feasible, Recession, Cost}
 use Rattle.rationals.specs.Sparse.{Entry}
@@ -28,8 +27,8 @@ use Rattle.cut_sums.specs.Walks.{value_walk}
 use Rattle.cut_defs.specs.declared.versions.Stamp.{Stamp}
 use Rattle.cut_pool.specs.declared.offer.Offer.TheVariants.{Added, NotNeeded}
 use Rattle.cut_banks.specs.declared.banks.Banks.{Banks}
-use Rattle.cut_banks.specs.Banks.{pools_of, with_pools, pools_in, empty_banks}
-use Rattle.cut_banks.specs.Pools.{no_cuts, all_empty, may_change, may_take, may_put, pool_if, with_pool}
+use Rattle.cut_banks.specs.Banks.{pools_of, with_pools, pools_in}
+use Rattle.cut_banks.specs.Pools.{no_cuts, all_empty, may_take, may_put, pool_if, with_pool}
 use Rattle.pass_core.specs.Left.{OffersCut}
 use Rattle.pass_core.specs.Reasons.{IsStale, IsRefused, by_none, by_pool}
 use Rattle.pass_core.specs.Grounds.{put_in_pool, put_cut, put_cuts, CanPutInPool, CanPutCut, CanPutCuts}

@@ -1,25 +1,19 @@
 -- A cut that a solve gives is never refused by the pool of its node.
-use Rattle.std.proofs.Common.{◌≡◌, ℕ, zero, suc, ◌+◌, ◌^◌, ◌<◌, ◌≤◌, Option, Some, None, refl, sym, ap, subst, ◌∙◌, arith}
-use Rattle.scen_defs.specs.Program.{Program}
+use Rattle.std.proofs.Common.{◌≡◌, ℕ, zero, suc, ◌+◌, ◌<◌, ◌≤◌, Some, None, refl, sym, ap, subst, ◌∙◌, arith}
 use Rattle.scen_defs.specs.Valid.{Lives}
 use Rattle.scen_defs.specs.declared.report.Kind.{Kind}
 use Rattle.scen_defs.specs.declared.report.Kind.TheVariants as run_kind
 use Rattle.cut_defs.specs.Data.{Datum}
 use Rattle.cut_defs.specs.Stored.{Source, Stored, source_of}
-use Rattle.cut_defs.specs.declared.kinds.Bank.{Bank}
 use Rattle.cut_defs.specs.declared.kinds.Bank.TheVariants.{Plain, Cone}
 use Rattle.cut_banks.specs.Banks.{pools_of}
 use Rattle.node_lp.specs.declared.solved.Solved.{Solved}
 use Rattle.node_lp.specs.declared.solved.Solved.TheVariants as solved
 use Rattle.node_lp.specs.Told.{node_solved}
-use Rattle.node_lp.specs.Answers.{HasCut, IsAnswer}
-use Rattle.pass_table.specs.Machine.{Machine}
-use Rattle.run_ends.specs.declared.last.Lasts.{Lasts}
-use Rattle.pass_core.specs.declared.state.State.{State}
+use Rattle.node_lp.specs.Answers.{IsAnswer}
 use Rattle.pass_core.specs.Explained.{cut_given}
 use Rattle.pass_core.specs.Reasons.{RefusesCut}
-use Rattle.pass_core.specs.Turns.{SolvesNode}
-use Rattle.run_laws.specs.Laws.{IsReached, NeverRefuses}
+use Rattle.run_laws.specs.Laws.{NeverRefuses}
 use Rattle.run_laws.proofs.Standing.{PoolStands, runs_before, known_of, StandsBy}
 use Rattle.tree_method.proofs.StandLemmas.{goes_on}
 use Rattle.run_laws.proofs.Kept.{IsStanding, IsCounted, unstopped, solves_stand, solves_counted}

@@ -1,8 +1,8 @@
 -- Two machines that a table fits agree on what the table tells.
-use Rattle.std.proofs.Common.{◌≡◌, ℕ, ◌+◌, ◌<◌, ◌↔◌, true, arith, sym, ap, subst, ◌∙◌}
+use Rattle.std.proofs.Common.{◌≡◌, ℕ, ◌+◌, ◌<◌, arith, sym, subst, ◌∙◌}
 use Rattle.scen_defs.specs.Program.{Program}
-use Rattle.pass_table.specs.Machine.{Machine, IsLive, IsMade, IsFresh, IsChild, HasPoint, IsComplete, IsValid}
-use Rattle.pass_table.specs.Fits.{Lists, lists_of, AreRead}
+use Rattle.pass_table.specs.Machine.{Machine, IsLive, IsMade, IsComplete}
+use Rattle.pass_table.specs.Fits.{lists_of, AreRead}
 use Rattle.pass_table.proofs.Agree.{made_is, made_at}
 use Rattle.pass_core.specs.declared.state.State.{State}
 use Rattle.pass_core.specs.Tabled.{IsTabledBy}

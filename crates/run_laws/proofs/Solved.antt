@@ -1,12 +1,11 @@
 -- A solve behind which nothing stops the method leaves a run that stands.
-use Rattle.std.proofs.Common.{◌≡◌, ℕ, zero, suc, ◌+◌, ◌<◌, ◌≤◌, ◌⊎◌, inl, inr, ◌↔◌, Bool, true, false, List, [], ◌∷◌, Option, Some, None, Ok, Err, Result, IfSome, get_or, slice_index, length, map, refl, sym, ap, ap₂, subst, ◌∙◌, arith}
+use Rattle.std.proofs.Common.{◌≡◌, ℕ, zero, suc, ◌+◌, ◌<◌, ◌⊎◌, inl, inr, Bool, true, false, List, [], Option, Some, None, Ok, Err, Result, IfSome, get_or, length, refl, sym, ap, subst, ◌∙◌, arith}
 use Rattle.std.proofs.lemmas.Bool.{cases_eq}
-use Rattle.rationals.specs.Rational.{ℚ, zero_ℚ, one_ℚ, ◌+ℚ◌, ◌≤ℚ◌, ◌<ℚ◌, le_refl_ℚ, le_trans_ℚ, add_zero_ℚ, mul_zero_ℚ}
+use Rattle.rationals.specs.Rational.{ℚ, zero_ℚ, one_ℚ, ◌+ℚ◌, ◌≤ℚ◌, ◌<ℚ◌, add_zero_ℚ, mul_zero_ℚ}
 use Rattle.rationals.specs.Sums.{sum-zero}
 use Rattle.rationals.specs.Passes.{Operation, then_value}
 use Rattle.rationals.specs.Forms.{add_scaled_walk}
-use Rattle.rationals.specs.Sparse.{Entry, coefficient, product}
-use Rattle.scen_defs.specs.Lists.{pick, passes_at}
+use Rattle.rationals.specs.Sparse.{Entry}
 use Rattle.scen_defs.specs.Program.{Program, View, is_live, view_of}
 use Rattle.scen_defs.specs.Flat.{FeasibleAt, Feasible, cost, without_costs}
 use Rattle.scen_defs.proofs.SumLaws.{each-map, sum-ext}
@@ -17,24 +16,19 @@ use Rattle.scen_defs.specs.declared.report.Kind.TheVariants as run_kind
 use Rattle.scen_tree.specs.Trees.{Tree, tree_walk}
 use Rattle.cut_defs.specs.Stored.{Source, Stored, source_of, constant_of, form_of}
 use Rattle.cut_defs.specs.Data.{Datum}
-use Rattle.cut_defs.specs.declared.kinds.CutKind.{CutKind}
-use Rattle.cut_defs.specs.declared.kinds.CutKind.TheVariants.{Bound, Ray}
-use Rattle.cut_banks.specs.declared.banks.Banks.{Banks}
+use Rattle.cut_defs.specs.declared.kinds.CutKind.TheVariants.{Bound}
 use Rattle.cut_banks.specs.Banks.{pools_of}
-use Rattle.cut_banks.specs.Pools.{numbers_of, cuts_of, cuts_read}
+use Rattle.cut_banks.specs.Pools.{numbers_of}
 use Rattle.edit_defs.specs.Data.{view_in}
 use Rattle.edit_defs.proofs.Lists.{passes-within}
 use Rattle.node_lp.specs.declared.task.Task.{Task}
 use Rattle.node_lp.specs.declared.solved.Solved.{Solved}
 use Rattle.node_lp.specs.declared.solved.Solved.TheVariants as solved
 use Rattle.node_lp.specs.Problem.{IsProblem, problem_of, is_priced}
-use Rattle.node_lp.specs.Weighed.{Weighed}
 use Rattle.node_lp.specs.Told.{node_solved}
-use Rattle.node_lp.specs.Answers.{value_at_trial, IsCutOf, HasCut, PointAnswer, RayAnswer, IsAnswer}
-use Rattle.pass_table.specs.Machine.{Machine, Flight, begun, IsLive, IsMade, HasPoint, IsGood, IsComplete, IsValid}
-use Rattle.pass_table.specs.Fits.{AreRead}
+use Rattle.node_lp.specs.Answers.{value_at_trial, HasCut, PointAnswer, RayAnswer, IsAnswer}
+use Rattle.pass_table.specs.Machine.{Machine, begun, IsLive, HasPoint, IsGood, IsComplete}
 use Rattle.one_worker.specs.Turn.{AreChildren, first_flight, read_by_each, read_each}
-use Rattle.run_data.specs.Counts.{version_of}
 use Rattle.run_data.specs.Frames.{Frame, frame_of, parent_in, children_in}
 use Rattle.run_ends.specs.declared.last.Last.{Last}
 use Rattle.run_ends.specs.declared.last.Lasts.{Lasts}
@@ -42,17 +36,16 @@ use Rattle.run_ends.specs.declared.ends.Priced.{Priced}
 use Rattle.run_ends.specs.declared.ends.Bounded.{Bounded}
 use Rattle.run_ends.specs.declared.ends.Ends.{Ends}
 use Rattle.run_ends.specs.Lasts.{last_at, trial_of, with_last, kept, joined_points}
-use Rattle.run_ends.specs.Ends.{cheaper, greater_end, after_root, after_policy}
+use Rattle.run_ends.specs.Ends.{after_policy}
 use Rattle.pass_core.specs.declared.state.State.{State}
-use Rattle.pass_core.specs.Left.{OffersCut, IsOffered, ends_behind, ends_without, TakesPolicy, TakesComplete, LeavesPoint, LeavesNone, LeavesBy}
+use Rattle.pass_core.specs.Left.{OffersCut, ends_behind, ends_without, TakesComplete, LeavesPoint, LeavesNone, LeavesBy}
 use Rattle.pass_core.specs.Tabled.{IsTabledBy, committed_with}
-use Rattle.pass_core.specs.Reasons.{PassesInJoin}
-use Rattle.pass_core.specs.Turns.{datum_in, IsTaskOf, EndsBy, SolvesNode}
+use Rattle.pass_core.specs.Turns.{IsTaskOf, EndsBy, SolvesNode}
 use Rattle.pass_core.proofs.Parentage.{children_are}
 use Rattle.policy_laws.specs.Points.{AllMeet}
 use Rattle.policy_laws.proofs.Policies.{policies_join}
 use Rattle.policy_laws.proofs.Costs.{joined_points_cost}
-use Rattle.run_laws.proofs.Standing.{Known, known_of, pools_in, PoolStands, runs_before, HasFirstCuts, HasMember, IsAtLeast, IsAbove, ShowsNone, HasLast, HasNone, EndsHold, HasCost, StandsBy}
+use Rattle.run_laws.proofs.Standing.{Known, known_of, PoolStands, runs_before, HasFirstCuts, HasMember, IsAtLeast, IsAbove, ShowsNone, HasLast, HasNone, EndsHold, HasCost, StandsBy}
 use Rattle.run_laws.proofs.Turned.{IsTurned, turned}
 use Rattle.run_laws.proofs.Places.{last_set, last_other, last_long, trial_same, PoolsGo, member_goes, reads_same}
 use Rattle.run_laws.proofs.Moved.{known, LowerGoes, NowhereGoes, lower_stays, turns_leave, turns_leave_none}
@@ -329,18 +322,20 @@ module _ (p : Program) (tree : Tree) (i : IsProgram p) (t : tree_walk p ≡ Ok t
         go None h z c e = absurd (cc)
         go (Some d) h z c e =
             let same : d ≡ c = cc in
-            let trial : task.trial ≡ [] = is_task.trial ∙ no_trial old.lasts.nodes.items old.frame n z in
-            (sym h.value_is ∙ ap (value_at_trial d) trial ∙ plain_value d ∙ ap constant_of same,
-            subst (λ (x : Stored). (source_of x).kind ≡ Bound) same (ap (λ (s : Source). s.kind) h.cut_of.source))
+            let trial : task.trial ≡ [] = is_task.trial ∙ no_trial old.lasts.nodes.items old.frame n z in (
+              sym h.value_is ∙ ap (value_at_trial d) trial ∙ plain_value d ∙ ap constant_of same,
+              subst (λ (x : Stored). (source_of x).kind ≡ Bound) same (ap (λ (s : Source). s.kind) h.cut_of.source),
+            )
 
     ends_hold : (b : Bool) → new.table.complete ≡ b
         → TakesComplete b p tree old.kind new.lasts.nodes.items (ends_behind old.kind n value cut old.ends) new.ends → EndsHold p new.ends
     ends_hold true e h =
         let c : IsComplete k = behind.fits.complete.0 e in
         subst (EndsHold p) (sym h.ends) (policy_holds p old.kind (ends_behind old.kind n value cut old.ends)
-        (record { cost = h.cost; policy = joined_points new.lasts.nodes.items }) middle_holds
-        (policies_join old.kind p new.lasts.nodes.items i (meets c),
-        sym (joined_points_cost old.kind p new.lasts.nodes.items tree h.cost i (meets c) t h.costs)))
+        (record { cost = h.cost; policy = joined_points new.lasts.nodes.items }) middle_holds (
+          policies_join old.kind p new.lasts.nodes.items i (meets c),
+          sym (joined_points_cost old.kind p new.lasts.nodes.items tree h.cost i (meets c) t h.costs),
+        ))
     ends_hold false e h = subst (EndsHold p) (sym h) middle_holds
 
     has_cost : (b : Bool) → new.table.complete ≡ b → IsComplete k
@@ -359,7 +354,7 @@ module _ (p : Program) (tree : Tree) (i : IsProgram p) (t : tree_walk p ≡ Ok t
         → (u : Priced) × (old.ends.upper ≡ Some u) → (u : Priced) × (new.ends.upper ≡ Some u)
     has_policy true h u =
         let v = policy_stays old.kind (ends_behind old.kind n value cut old.ends)
-            (record { cost = h.cost; policy = joined_points new.lasts.nodes.items }) u.0 (upper_behind old.kind n value cut old.ends ∙ u.1) in
+        (record { cost = h.cost; policy = joined_points new.lasts.nodes.items }) u.0 (upper_behind old.kind n value cut old.ends ∙ u.1) in
         (v.0, ap (λ (e : Ends). e.upper) h.ends ∙ v.1)
     has_policy false h u = (u.0, ap (λ (e : Ends). e.upper) h ∙ upper_behind old.kind n value cut old.ends ∙ u.1)
 

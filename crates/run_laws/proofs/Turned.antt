@@ -1,10 +1,9 @@
 -- The machine behind a turn that leaves a last solve.
-use Rattle.std.proofs.Common.{◌≡◌, ℕ, ◌+◌, ◌<◌, ◌≤◌, Bool, true, false, List, refl, sym, ap, subst, ◌∙◌, arith}
-use Rattle.scen_defs.specs.Lists.{pick}
-use Rattle.pass_table.specs.Machine.{IsAbove, Last, Flight, Machine, IsMade, IsValid, IsNext, begun, with_at, committed, raised}
+use Rattle.std.proofs.Common.{◌≡◌, ℕ, ◌+◌, ◌<◌, Bool, true, false, List, refl, sym, ap, subst, ◌∙◌, arith}
+use Rattle.pass_table.specs.Machine.{IsAbove, Last, Flight, Machine, IsMade, IsValid, IsNext, begun}
 use Rattle.pass_table.proofs.Stale.{same_at, other_at}
 use Rattle.one_worker.specs.Turn.{IsIdle, first_flight, read_by_each, read_each, EndsTurn, drops, commits, adds, TakesTurn}
-use Rattle.one_worker.proofs.Turning.{AreReads, node_read, turn_reads}
+use Rattle.one_worker.proofs.Turning.{node_read, turn_reads}
 use Rattle.pass_core.specs.Tabled.{committed_with}
 
 -- node n has another last solve, of the commit that comes next, and no other node has
@@ -42,7 +41,7 @@ pub turned : (m k : Machine) (n : ℕ) (cs : List ℕ) (point added : Bool) → 
 turned m k n cs point added valid idle next e =
     let reads = turn_reads m n cs valid idle next in
     let c = committed_turns (read_each (begun m 0 n) (first_flight m n) cs) (read_by_each m.number (first_flight m n) cs) point added n
-        (node_read m.number (first_flight m n) cs) in
+    (node_read m.number (first_flight m n) cs) in
     subst (λ (k : Machine). IsTurned m k n point) (sym e) (record {
       live = c.live ∙ reads.live;
       parent = c.parent ∙ reads.parent;
@@ -55,10 +54,13 @@ turned m k n cs point added valid idle next e =
 -- what is made behind the turn doesn't stand below the node, and was made before
 pub made_before : (m k : Machine) (n j : ℕ) (point : Bool) → IsValid m → IsTurned m k n point → (j ≡ n → ⊥) → IsMade k j
     → IsMade m j × (IsAbove m.parent n j → ⊥)
-made_before m k n j point valid turn ne made = (record {
-  solved = subst (λ (l : Last). 0 < l.commit) (turn.others j ne) made.solved;
-  above = λ a up. go a up;
-}, below)
+made_before m k n j point valid turn ne made = (
+  record {
+    solved = subst (λ (l : Last). 0 < l.commit) (turn.others j ne) made.solved;
+    above = λ a up. go a up;
+  },
+  below,
+)
   where
     seen : (a : ℕ) → IsAbove m.parent a j → (k.last a).commit ≡ (m.last j).above a
     seen a up = made.above a (subst (λ (p : ℕ → ℕ). IsAbove p a j) (sym turn.parent) up) ∙ ap (λ (l : Last). l.above a) (turn.others j ne)

@@ -45,7 +45,8 @@ RunsGoOn = (p : Program) (s : State) (m : Machine) → IsReached p s → IsTable
 
 -- so where the method can't go on, and there is room for the number of another solve, nothing is left to find
 abbrev pub EndsAreSettled : Type 0
-EndsAreSettled = (p : Program) (s : State) (m : Machine) → IsReached p s → IsTabledBy p s m → HasRoom m → IsAtEnd p s → settled_in s ≡ None → ⊥
+EndsAreSettled = (p : Program) (s : State) (m : Machine) → IsReached p s → IsTabledBy p s m → HasRoom m → IsAtEnd p s
+    → settled_in s ≡ None → ⊥
 
 -- while something is left to find, and fewer than 2^63 solves are allowed, a cut that a solve offers is never refused
 abbrev pub NeverRefuses : Type 0

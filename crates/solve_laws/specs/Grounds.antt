@@ -20,5 +20,6 @@ pub record GroundsAreMade : Type 0 where
       → ground_walk d total dual cuts ≡ Ok (Some cut) → uses_of cut ≡ uses_of_children No_stored d.shares cuts
   -- so where these are cuts of a task with the node's datum, it is a Bound cut that is made of cuts of the task
   pub bound : (t : Task) (total : ℚ) (dual : List At) (cuts : List Stored) (cut : Stored) → IsProblem (problem_of t)
-      → ground_walk t.datum total dual cuts ≡ Ok (Some cut) → IsMadeFrom t.datum (source_of cut) (uses_of cut) (constant_of cut) (form_of cut)
+      → ground_walk t.datum total dual cuts ≡ Ok (Some cut)
+      → IsMadeFrom t.datum (source_of cut) (uses_of cut) (constant_of cut) (form_of cut)
       → Each (StandsAmong t.children.items) cuts → IsBoundOf t (source_of cut) (uses_of cut) (constant_of cut) (form_of cut)
