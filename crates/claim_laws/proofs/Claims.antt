@@ -26,7 +26,7 @@ use Rattle.proved_report.specs.declared.claim.Claim.TheVariants.{Ends, Nowhere, 
 use Rattle.proved_report.specs.Open.{finding_of}
 use Rattle.proved_report.specs.Tested.{or_before, by_cost, policy_test, dual_test, direction_test, ray_test}
 use Rattle.proved_report.specs.Reports.{blank_report, ends_report, ray_report, falling_report, claimed_report}
-use Rattle.claim_laws.specs.Held.{EndsMeet, RayHolds, CostFalls, ClaimHolds, finding_for, TellsTest}
+use Rattle.claim_laws.specs.Held.{OptimumHolds, RayHolds, CostFalls, ClaimHolds, finding_for, TellsTest}
 use Rattle.claim_laws.specs.Laws.{ClaimsShow}
 use Rattle.claim_laws.proofs.Passing.{IsWide}
 use Rattle.claim_laws.proofs.Tests.{ComesTo, policy_comes, dual_comes, direction_comes, ray_comes}
@@ -89,7 +89,7 @@ module _ (program : Program) (number nodes scenarios : ℕ) (place : Place) (why
   ends_told policy dual (inr (o, inl a)) = inr (record { told = place; operation = o; finding = a.1; passes = inl (refl, a.0) })
   ends_told policy dual (inr (o, inr b)) = inr (record { told = Dual; operation = o; finding = b.1; passes = inr (refl, b.0) })
 
-  by_ends : (policy dual : List At) → EndsMeet program policy dual
+  by_ends : (policy dual : List At) → OptimumHolds program policy dual
       → IsShownBy (Ends (Some policy) (Some dual)) (report_of (Ends (Some policy) (Some dual)))
   by_ends policy dual h =
       let equal : same (value v (at dual)) (cost v (at policy)) ≡ true = is_same (value v (at dual)) (cost v (at policy))

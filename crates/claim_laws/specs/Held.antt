@@ -25,7 +25,7 @@ abbrev pub FitsRows : Program → List At → Type 0
 FitsRows program values = all_fit (content program) true values ≡ true
 
 -- the policy is feasible, the dual is good, and the policy costs no more than the dual is worth
-pub record EndsMeet (program : Program) (policy dual : List At) : Type 0 where
+pub record OptimumHolds (program : Program) (policy dual : List At) : Type 0 where
   pub policy_fits : FitsColumns program policy
   pub dual_fits : FitsRows program dual
   pub feasible : Feasible (seen program) (at policy)
@@ -46,7 +46,7 @@ pub record CostFalls (program : Program) (policy direction : List At) : Type 0 w
 
 -- what is claimed is there, and is so
 abbrev pub ClaimHolds : Program → Claim → Type 0
-ClaimHolds program (Ends (Some policy) (Some dual)) = EndsMeet program policy dual
+ClaimHolds program (Ends (Some policy) (Some dual)) = OptimumHolds program policy dual
 ClaimHolds program (Ends (Some policy) None) = ⊥
 ClaimHolds program (Ends None dual) = ⊥
 ClaimHolds program (Nowhere ray) = RayHolds program ray

@@ -19,7 +19,7 @@ use Rattle.pass_core.specs.Turns.{SolvesNode}
 use Rattle.tree_method.specs.Stands.{HasFewNodes, SolvesNodes, IsAtEnd, settled_in}
 
 -- a program with its tree was begun, and its nodes solved one behind the other, up to this state
-pub record IsReached (p : Program) (s : State) : Type 0 where
+pub record IsRunTo (p : Program) (s : State) : Type 0 where
   pub program : IsProgram p
   pub few : HasFewNodes p
   pub tree : Tree
@@ -31,7 +31,7 @@ pub record IsReached (p : Program) (s : State) : Type 0 where
 
 -- where a run for the least cost is closed, and nothing stops the method, both ends are there and equal
 abbrev pub ClosedRunsMeet : Type 0
-ClosedRunsMeet = (p : Program) (s : State) (m : Machine) → IsReached p s → IsTabledBy p s m → IsClosed m → s.kind ≡ Cost → s.stop ≡ None
+ClosedRunsMeet = (p : Program) (s : State) (m : Machine) → IsRunTo p s → IsTabledBy p s m → IsClosed m → s.kind ≡ Cost → s.stop ≡ None
     → settled_in s ≡ Some Optimal
 
 -- a run in which something is left to find, and no node may be begun, is closed, and another run follows it
@@ -40,17 +40,17 @@ pub record IsFollowed (s : State) (m : Machine) : Type 0 where
   pub earlier : s.kind ≡ Cost → ⊥
 
 abbrev pub RunsGoOn : Type 0
-RunsGoOn = (p : Program) (s : State) (m : Machine) → IsReached p s → IsTabledBy p s m → settled_in s ≡ None → ((n : ℕ) → MayBegin m n → ⊥)
+RunsGoOn = (p : Program) (s : State) (m : Machine) → IsRunTo p s → IsTabledBy p s m → settled_in s ≡ None → ((n : ℕ) → MayBegin m n → ⊥)
     → IsFollowed s m
 
 -- so where the method can't go on, and there is room for the number of another solve, nothing is left to find
 abbrev pub EndsAreSettled : Type 0
-EndsAreSettled = (p : Program) (s : State) (m : Machine) → IsReached p s → IsTabledBy p s m → HasRoom m → IsAtEnd p s
+EndsAreSettled = (p : Program) (s : State) (m : Machine) → IsRunTo p s → IsTabledBy p s m → HasRoom m → IsAtEnd p s
     → settled_in s ≡ None → ⊥
 
 -- while something is left to find, and fewer than 2^63 solves are allowed, a cut that a solve offers is never refused
 abbrev pub NeverRefuses : Type 0
-NeverRefuses = (p : Program) (s : State) (m : Machine) (lasts : Lasts) (n : ℕ) (new : State) (cut : Stored) → IsReached p s
+NeverRefuses = (p : Program) (s : State) (m : Machine) (lasts : Lasts) (n : ℕ) (new : State) (cut : Stored) → IsRunTo p s
     → s.budget.solves < 2 ^ 63 → IsTabledBy p s m → settled_in s ≡ None
     → (solve : SolvesNode p (record s { lasts = lasts }) m n new) → cut_given (node_solved solve.task) ≡ Some cut
     → RefusesCut s.kind s.banks n solve.task.trial (Some cut) → ⊥
