@@ -2,3 +2,4 @@ pub mod Directions
 pub mod Passing
 pub mod Tests
 pub mod Claims
+pub mod Unsettled

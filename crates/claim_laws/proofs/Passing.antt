@@ -25,7 +25,7 @@ EndsIn holds (Ok x) = Unit {0}
 EndsIn holds (Err p) = holds p
 
 module _ {P : Type 0} (holds : P → Type 0) where
-  then_ends : {X Y : Type 0} (first : Result X P) (next : X → Result Y P) → EndsIn holds first → ((x : X) → EndsIn holds (next x))
+  pub then_ends : {X Y : Type 0} (first : Result X P) (next : X → Result Y P) → EndsIn holds first → ((x : X) → EndsIn holds (next x))
       → EndsIn holds (then_walk first next)
   then_ends (Ok x) next h k = k x
   then_ends (Err p) next h k = h
@@ -35,7 +35,7 @@ module _ {P : Type 0} (holds : P → Type 0) where
   fold_ends f h s [] = tt
   fold_ends f h s (x ∷ xs) = then_ends (f s x) (λ t. fold_walk f t xs) (h s x) (λ t. fold_ends f h t xs)
 
-  pick_ends : {X : Type 0} (b : Bool) (x y : Result X P) → EndsIn holds x → EndsIn holds y → EndsIn holds (pick b x y)
+  pub pick_ends : {X : Type 0} (b : Bool) (x y : Result X P) → EndsIn holds x → EndsIn holds y → EndsIn holds (pick b x y)
   pick_ends true x y h k = h
   pick_ends false x y h k = k
 
@@ -54,10 +54,10 @@ ends_so (Err o) h = h o refl
 walk_so : (op : Op) (a b : ℚ) → (o : Operation) → walk op a b ≡ Err o → IsWide o
 walk_so op a b o e = let h = walk_passes op a b o e in rw h.1 h.0
 
-walk_ends : (op : Op) (a b : ℚ) → EndsIn IsWide (walk op a b)
+pub walk_ends : (op : Op) (a b : ℚ) → EndsIn IsWide (walk op a b)
 walk_ends op a b = ends_so (walk op a b) (walk_so op a b)
 
-step_ends : (op : Op) (s a b : ℚ) → EndsIn IsWide (step_walk op s a b)
+pub step_ends : (op : Op) (s a b : ℚ) → EndsIn IsWide (step_walk op s a b)
 step_ends op s a b = ends_so (step_walk op s a b) (λ o e. (step_passes op s a b o e).1)
 
 stopping_ends : {X : Type 0} (w : Result X Operation) → EndsIn IsWide w → EndsIn StopsWide (stopping w)
@@ -65,12 +65,12 @@ stopping_ends (Ok x) h = tt
 stopping_ends (Err o) h = h
 
 -- ---- costs
-product_ends : (x : ℕ → ℚ) (s : ℚ) (es : List Entry) → EndsIn IsWide (product_from x s es)
+pub product_ends : (x : ℕ → ℚ) (s : ℚ) (es : List Entry) → EndsIn IsWide (product_from x s es)
 product_ends x s [] = tt
 product_ends x s (d ∷ es) = then_ends IsWide (add_product_walk s d.value (x d.column)) (λ t. product_from x t es)
     (step_ends Add s d.value (x d.column)) (λ t. product_ends x t es)
 
-total_ends : (n : ℕ) (s : ℚ) (cs : List Scenario) → EndsIn IsWide (total_from n s cs)
+pub total_ends : (n : ℕ) (s : ℚ) (cs : List Scenario) → EndsIn IsWide (total_from n s cs)
 total_ends n s [] = tt
 total_ends n s (c ∷ cs) =
     pick_ends IsWide (is_in n c.path) (then_walk (add_walk s c.probability) (λ t. total_from n t cs)) (total_from n s cs)
@@ -105,7 +105,7 @@ rows_end y s [] = tt
 rows_end y s (r ∷ rs) = then_ends StopsWide (worth_step r.low r.high (y r.row) s) (λ t. rows_from y t rs)
     (end_ends s (y r.row) (used_end r.low r.high (y r.row))) (λ t. rows_end y t rs)
 
-less_ends : (j : ℕ) (y : ℕ → ℚ) (s : ℚ) (rs : List NodeRow) → EndsIn IsWide (less_from j y s rs)
+pub less_ends : (j : ℕ) (y : ℕ → ℚ) (s : ℚ) (rs : List NodeRow) → EndsIn IsWide (less_from j y s rs)
 less_ends j y s [] = tt
 less_ends j y s (r ∷ rs) = then_ends IsWide (less_product_walk s (coefficient r.entries j) (y r.row)) (λ t. less_from j y t rs)
     (step_ends Sub s (coefficient r.entries j) (y r.row)) (λ t. less_ends j y t rs)

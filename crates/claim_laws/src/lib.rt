@@ -1,7 +1,7 @@
-//! What is claimed of a program, and is so, is shown by the report of the claim, but where a sum of a test passes 128 bits. No code that
-//! runs.
+//! What is claimed of a program, and is so, is shown by the report of the claim, but where a sum of a test passes 128 bits; and why the
+//! report of any claim is left open. No code that runs.
 #![tactic(auto)]
 
 mod laws;
 
-pub use laws::{claims_show, recession_points_are_directions};
+pub use laws::{claims_show, passes_are_met, recession_points_are_directions, solves_are_reasons};

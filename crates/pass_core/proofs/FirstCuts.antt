@@ -1,46 +1,49 @@
 -- The cuts that a run begins with: made from the greatest number on, and put into the pools one after the other.
 use Rattle.std.proofs.Common.{◌≡◌, ℕ, zero, suc, ◌+◌, ◌<◌, ◌≤◌, Bool, true, false, eqb, List, [], ◌∷◌, ◌++◌, length, drop}
-use Rattle.std.proofs.Common.{get_or, replicate, Option, Some, None, Result, Ok, Err, IfOk, slice_index_or, slice_set}
+use Rattle.std.proofs.Common.{get_or, replicate, Option, Some, None, Result, Ok, Err, IfErr, IsErrAnd, slice_index_or, slice_set}
 use Rattle.std.proofs.Common.{arith, refl, sym, ap, subst, ◌∙◌, eqb-true, eq-eqb, drop-cons}
 use Rattle.std.specs.Option.{option_to_list}
 use Rattle.std.proofs.lemmas.List.{get_or-set_same, get_or-set_other}
 use Rattle.rationals.specs.Rational.{ℚ, zero_ℚ}
+use Rattle.rationals.specs.Passes.{Operation}
 use Rattle.scen_defs.specs.Lists.{Each, passes_at}
 use Rattle.scen_defs.specs.Program.{Program, is_live}
 use Rattle.scen_defs.specs.Valid.{IsProgram, Lives}
 use Rattle.scen_defs.specs.Values.{At}
 use Rattle.scen_defs.specs.declared.report.Kind.{Kind}
+use Rattle.scen_defs.specs.declared.report.Kind.TheVariants.{Recession}
 use Rattle.scen_defs.proofs.SumLaws.{each-map}
 use Rattle.scen_tree.specs.Trees.{Tree}
 use Rattle.edit_defs.proofs.Lists.{passes-within}
+use Rattle.frac128.specs.declared.form.FormFault.{FormFault}
+use Rattle.frac128.specs.declared.form.FormFault.TheVariants as form_fault
+use Rattle.frac128.specs.Faults.{FaultOf}
 use Rattle.cut_defs.specs.Data.{Datum}
 use Rattle.cut_defs.specs.Stored.{Stored, source_of}
 use Rattle.cut_proof.specs.declared.fault.CutFault.{CutFault}
+use Rattle.cut_proof.specs.declared.fault.CutFault.TheVariants as fault
 use Rattle.cut_proof.specs.Answers.{Makes}
+use Rattle.cut_proof.specs.Faults.{fault_of}
 use Rattle.cut_pool.specs.Pool.{with_cut}
 use Rattle.cut_banks.specs.declared.banks.Banks.{Banks}
 use Rattle.cut_banks.specs.Banks.{pools_of, with_pools}
 use Rattle.cut_banks.specs.Pools.{may_put, with_pool}
 use Rattle.dual_assemble.specs.Ground.{ground_walk}
+use Rattle.dual_assemble.specs.Values.{assembled}
 use Rattle.pass_table.proofs.Opens.{at_replicate}
 use Rattle.run_data.specs.Frames.{children_in, frame_of}
 use Rattle.run_data.specs.declared.versions.Version.{Version}
 use Rattle.run_data.specs.Counts.{version_of}
 use Rattle.pass_core.specs.declared.state.State.{State}
 use Rattle.pass_core.specs.Made.{cuts_there}
-use Rattle.pass_core.specs.Grounds.{OpeningDual, put_in_pool, put_cuts, CanPutInPool, CanPutCuts, PutsCut, PutsCuts}
+use Rattle.pass_core.specs.Grounds.{OpeningDual, FaultsDual, put_in_pool, put_cut, put_cuts, CanPutInPool, CanPutCuts}
+use Rattle.pass_core.specs.Grounds.{OneIsNotPut, PutsCut, PutsCuts}
 use Rattle.pass_core.specs.Left.{next_kind}
-use Rattle.pass_core.specs.Turns.{datum_in, IsFirstCut, AreFirstCuts, PutsFirstCuts}
+use Rattle.pass_core.specs.Turns.{datum_in, first_walk, IsFirstCut, AreFirstFrom, AreFirstCuts, FaultsFirst, PutsFirstCuts}
+use Rattle.pass_core.specs.Turns.{IsStuckBefore, not_made, not_put, by_dual, by_first, FaultsBefore}
 use Rattle.pass_core.proofs.Making.{children_after}
 
 -- ---- the cuts, from the greatest number on
--- those of the live nodes from n on are made, and each is of a live node
-pub record AreFirstFrom (kind : Kind) (p : Program) (tree : Tree) (versions : List Version) (dual : List At) (n : ℕ)
-    (cuts : List (Option Stored)) : Type 0 where
-  pub there : (m : ℕ) → n ≤ m → Lives p m
-      → (cut : Stored) × ((slice_index_or cuts m None ≡ Some cut) × IsFirstCut kind p tree versions dual cuts m cut)
-  pub only : (m : ℕ) (cut : Stored) → slice_index_or cuts m None ≡ Some cut → Lives p m
-
 -- a cut at a place before these changes none of them
 below_set : (cuts : List (Option Stored)) (n : ℕ) (x : Option Stored) (ns : List ℕ) → Each (λ (m : ℕ). n < m) ns
     → cuts_there (slice_set cuts n x) ns ≡ cuts_there cuts ns
@@ -122,12 +125,45 @@ module _ (kind : Kind) (p : Program) (tree : Tree) (versions : List Version) (du
   pub first_made : (n : ℕ) (cuts : List (Option Stored)) (d : Datum) (total : ℚ) (below : List Stored) (r : Result Stored CutFault)
       → d ≡ datum_in kind p n (version_of versions n) → total ≡ get_or tree.chances.totals n zero_ℚ
       → below ≡ cuts_there cuts (children_in (frame_of p) n) → Makes (ground_walk d total dual below) r
-      → IfOk r (IsFirstCut kind p tree versions dual cuts n)
-  first_made n cuts d total below (Err f) stated t b walk = tt
-  first_made n cuts d total below (Ok cut) stated t b walk =
-      sym (ap (λ (x : Datum). ground_walk x total dual below) stated
+      → Makes (first_walk kind p tree versions dual cuts n) r
+  first_made n cuts d total below r stated t b walk =
+      subst (λ (w : Result (Option Stored) Operation). Makes w r)
+      (ap (λ (x : Datum). ground_walk x total dual below) stated
       ∙ ap (λ (x : ℚ). ground_walk (datum_in kind p n (version_of versions n)) x dual below) t
-      ∙ ap (ground_walk (datum_in kind p n (version_of versions n)) (get_or tree.chances.totals n zero_ℚ) dual) b) ∙ walk
+      ∙ ap (ground_walk (datum_in kind p n (version_of versions n)) (get_or tree.chances.totals n zero_ℚ) dual) b) walk
+
+  -- where it answers no cut they end
+  pub first_ends : (n : ℕ) (cuts : List (Option Stored)) (f : CutFault) → Lives p n → AreFirstFrom kind p tree versions dual (n + 1) cuts
+      → Makes (first_walk kind p tree versions dual cuts n) (Err f) → FaultsFirst kind p tree versions dual f
+  first_ends n cuts fault.NotGood lives behind walk = record { node = n; lives = lives; cuts = cuts; behind = behind; walk = walk }
+  first_ends n cuts (fault.Passed o) lives behind walk = record { node = n; lives = lives; cuts = cuts; behind = behind; walk = walk }
+  first_ends n cuts fault.Memory lives behind walk = tt
+
+  pub first_fails : {X : Type 0} (f : CutFault) (r : Result X CutFault) → IsErrAnd r (λ e. e ≡ f) → FaultsFirst kind p tree versions dual f
+      → IfErr r (FaultsFirst kind p tree versions dual)
+  first_fails f (Ok x) is h = absurd is
+  first_fails f (Err e) is h = subst (FaultsFirst kind p tree versions dual) (sym is) h
+
+-- ---- where there are none
+pub dual_faults : (cut : Stored) (f : FormFault) → FaultOf (assembled cut) f → FaultsDual Recession (Some cut) (fault_of f)
+dual_faults cut (form_fault.Passed o) h = h
+dual_faults cut form_fault.Memory h = tt
+
+pub fault_before : (p : Program) (tree : Tree) (s : State) (f : CutFault) → FaultsDual s.kind s.ends.root f → FaultsBefore p tree s f
+fault_before p tree s fault.NotGood h = absurd h
+fault_before p tree s (fault.Passed o) h = by_dual h
+fault_before p tree s fault.Memory h = tt
+
+pub first_before : {X : Type 0} (p : Program) (tree : Tree) (s : State) (kind : Kind) (dual : List At) (r : Result X CutFault)
+    → kind ≡ next_kind s.kind → OpeningDual s.kind s.ends.root dual → IfErr r (FaultsFirst kind p tree s.versions dual)
+    → IfErr r (FaultsBefore p tree s)
+first_before p tree s kind dual (Ok x) k opening h = tt
+first_before p tree s kind dual (Err f) k opening h = go f (subst (λ (x : Kind). FaultsFirst x p tree s.versions dual f) k h)
+  where
+    go : (f : CutFault) → FaultsFirst (next_kind s.kind) p tree s.versions dual f → FaultsBefore p tree s f
+    go fault.NotGood q = not_made dual opening q
+    go (fault.Passed o) q = by_first dual opening q
+    go fault.Memory q = tt
 
 -- ---- the pools with these cuts
 -- what is left at a place begins with what stands there
@@ -155,6 +191,17 @@ root_put kind cut b e = record { can = can (source_of cut).node e; banks = banks
     banks zero q = refl
     banks (suc n) q = absurd (omega (arith, q))
 
+-- the banks behind a cut of another node than the root, whether its pool takes it or not
+pub pool_banks : (kind : Kind) (cut : Stored) (old new : Banks) → ((source_of cut).node ≡ 0 → ⊥)
+    → new ≡ with_pools kind (with_pool (may_put cut) (λ p. with_cut p cut) (source_of cut).node (pools_of kind old)) old
+    → new ≡ put_cut kind (Some cut) old
+pool_banks kind cut old new above e = e ∙ banks (source_of cut).node above
+  where
+    banks : (n : ℕ) → (n ≡ 0 → ⊥)
+        → with_pools kind (with_pool (may_put cut) (λ p. with_cut p cut) n (pools_of kind old)) old ≡ put_in_pool kind n cut old
+    banks zero ne = absurd (ne refl)
+    banks (suc n) ne = refl
+
 -- that of another node takes the cut
 pub pool_put : (kind : Kind) (cut : Stored) (old new : Banks) → ((source_of cut).node ≡ 0 → ⊥)
     → true ≡ passes_at (may_put cut) (source_of cut).node (pools_of kind old)
@@ -162,17 +209,12 @@ pub pool_put : (kind : Kind) (cut : Stored) (old new : Banks) → ((source_of cu
     → PutsCut kind (Some cut) old new
 pool_put kind cut old new above t e = record {
   can = can (source_of cut).node above t;
-  banks = e ∙ banks (source_of cut).node above;
+  banks = pool_banks kind cut old new above e;
 }
   where
     can : (n : ℕ) → (n ≡ 0 → ⊥) → true ≡ passes_at (may_put cut) n (pools_of kind old) → CanPutInPool kind n cut old
     can zero ne q = tt
     can (suc n) ne q = sym q
-
-    banks : (n : ℕ) → (n ≡ 0 → ⊥)
-        → with_pools kind (with_pool (may_put cut) (λ p. with_cut p cut) n (pools_of kind old)) old ≡ put_in_pool kind n cut old
-    banks zero ne = absurd (ne refl)
-    banks (suc n) ne = refl
 
 -- ---- the opening
 pub puts_first : (p : Program) (tree : Tree) (kind : Kind) (old new : State) (cuts : List (Option Stored)) → kind ≡ next_kind old.kind
@@ -186,6 +228,13 @@ puts_first p tree kind old new cuts k d h = record {
   can = subst (λ (x : Kind). CanPutCuts x cuts old.banks) k h.can;
   banks = h.banks ∙ ap (λ (x : Kind). put_cuts x cuts old.banks) k;
 }
+
+-- a first cut isn't put
+pub refused_before : (p : Program) (tree : Tree) (kind : Kind) (s : State) (cuts : List (Option Stored)) → kind ≡ next_kind s.kind
+    → (dual : List At) × (OpeningDual s.kind s.ends.root dual × AreFirstCuts kind p tree s.versions dual cuts)
+    → OneIsNotPut kind cuts s.banks → IsStuckBefore p tree s
+refused_before p tree kind s cuts k d h = not_put d.0 cuts d.1.0 (subst (λ (x : Kind). AreFirstCuts x p tree s.versions d.0 cuts) k d.1.1)
+    (subst (λ (x : Kind). OneIsNotPut x cuts s.banks) k h)
 
 -- places for last solves don't touch it
 pub ready_puts : (p : Program) (tree : Tree) (old s new : State) → s ≡ record old { lasts = s.lasts; is_begun = s.is_begun }

@@ -45,11 +45,13 @@ opened_progresses (Ok x) Is old new unlike g h =
     record { budget = h.budget; way = inr (record { counts = g.counts; way = inr (unlike, h.kind) }) }
 opened_progresses (Err o) Is old new unlike g h = tt
 
-pub stopped_progresses : {X E : Type 0} (r : Result X E) (Is : Open → Type 0) (old new : State) → OnOk r (GainsReasons Is old new)
-    → OnOk r (new.stop ≡ None → ⊥) → OnOk r (new.budget ≡ old.budget) → OnOk r (Progresses old new)
-stopped_progresses (Ok x) Is old new g h b =
-    record { budget = b; way = inr (record { counts = g.counts; way = inl (unlike_none new.stop h) }) }
-stopped_progresses (Err o) Is old new g h b = tt
+pub stopped_progresses : {X E : Type 0} (r : Result X E) (old new : State) → OnOk r (new.stop ≡ None → ⊥)
+    → OnOk r (new ≡ record old { stop = new.stop }) → OnOk r (Progresses old new)
+stopped_progresses (Ok x) old new h e = record {
+  budget = ap (λ (x : State). x.budget) e;
+  way = inr (record { counts = ap (λ (x : State). x.counts) e; way = inl (unlike_none new.stop h) });
+}
+stopped_progresses (Err o) old new h e = tt
 
 -- ---- behind places for last solves
 pub ready_progresses : (old s : State) (table : Table) (new : State) → s ≡ record old { lasts = s.lasts; is_begun = s.is_begun }

@@ -1,5 +1,6 @@
 -- A turn is the solve of the program of its node.
-use Rattle.std.proofs.Common.{◌≡◌, ℕ, true, None, Result, Ok, Err, OnOk, sym, subst, ◌∙◌}
+use Rattle.std.proofs.Common.{◌≡◌, ℕ, true, List, None, Result, Ok, Err, OnOk, sym, subst, ◌∙◌}
+use Rattle.rationals.specs.Sparse.{Entry}
 use Rattle.scen_defs.specs.Program.{Program}
 use Rattle.scen_defs.specs.Valid.{IsProgram}
 use Rattle.scen_tree.specs.Trees.{Tree, tree_walk}
@@ -14,11 +15,12 @@ use Rattle.pass_table.specs.Machine.{Machine}
 use Rattle.pass_core.specs.declared.state.Counts.{Counts}
 use Rattle.pass_core.specs.declared.state.State.{State}
 use Rattle.pass_core.specs.Counting.{with_commit}
-use Rattle.pass_core.specs.Reasons.{IsStuck, IsOfSolve, GainsReasons}
+use Rattle.pass_core.specs.Reasons.{PassesAtCost, solve_halts, IsOfSolve, GainsReasons}
 use Rattle.pass_core.specs.Tabled.{EndsSolve, IsBegunBy}
-use Rattle.pass_core.specs.Turns.{PointsStand, KeepsPoints, IsTaskOf, EndsBy, SolvesNode, AreReady, MakesStep}
+use Rattle.pass_core.specs.Turns.{PointsStand, KeepsPoints, IsTaskOf, EndsBy, node_halts, SolvesNode, AreReady, MakesStep}
 use Rattle.pass_core.specs.Turns.MakesStep.{solves}
 use Rattle.pass_core.specs.Left.{StaysInRun, LeavesBy}
+use Rattle.pass_core.proofs.Reasoning.{IsWithin, stuck_wider}
 use Rattle.pass_core.proofs.Leaving.{leaves_before, leaves_ready, left_by}
 use Rattle.pass_core.proofs.Tabling.{read_machine, begun_flight, solve_ends, told_ends}
 
@@ -26,6 +28,17 @@ on_five : {X E : Type 0} (r : Result X E) (A B C D F G : Type 0) → (A → B �
     → OnOk r D → OnOk r F → OnOk r G
 on_five (Ok x) A B C D F G f a b c d e = f a b c d e
 on_five (Err o) A B C D F G f a b c d e = tt
+
+-- the program has one tree
+by_tree : (p : Program) (tree : Tree) (s : State) (n : ℕ) (trial : List Entry) (all : Solved) → tree_walk p ≡ Ok tree
+    → IsWithin (solve_halts s.kind s.banks n trial all (PassesAtCost p tree s.lasts.nodes.items n trial all)) (node_halts p s n trial all)
+by_tree p tree s n trial all walk = record {
+  stuck = λ h. h;
+  in_offer = λ o h. h;
+  in_cost = λ o h other w.
+      let same : tree ≡ other = let both : Ok tree ≡ Ok other = sym walk ∙ w in cc in
+      subst (λ (t : Tree). PassesAtCost p t s.lasts.nodes.items n trial all o) same h;
+}
 
 -- a solve that is counted
 pub solved_by : (p : Program) (tree : Tree) (s : State) (counts : Counts) (m : Machine) (n : ℕ) (i : IsProgram p)
@@ -35,16 +48,17 @@ pub solved_by : (p : Program) (tree : Tree) (s : State) (counts : Counts) (m : M
     → IsAnswer t all
     → OnOk r (EndsSolve (EndsBy t.trial all) (record s { counts = counts }) new (read_machine p (record s { counts = counts }) m n i frame b)
     (begun_flight p (record s { counts = counts }) m n i frame b)) → OnOk r (KeepsPoints p (record s { counts = counts }) new)
-    → OnOk r (GainsReasons (IsOfSolve counts.all s.budget.solves all (IsStuck s.kind s.banks n t.trial all))
-    (record s { counts = counts }) new)
+    → OnOk r (GainsReasons (IsOfSolve counts.all s.budget.solves all (solve_halts s.kind s.banks n t.trial all
+    (PassesAtCost p tree s.lasts.nodes.items n t.trial all))) (record s { counts = counts }) new)
     → OnOk r (StaysInRun (record s { counts = counts }) new)
     → OnOk r (new.stop ≡ None → LeavesBy p tree n t.trial all (record s { counts = counts }) new) → OnOk r (SolvesNode p s m n new)
 solved_by p tree s counts m n i walk frame b t all new r raised task problem stand exact answer ends points reasons stays leaves =
     let counted : State = record s { counts = counts } in
     let rm = read_machine p counted m n i frame b in
     let bf = begun_flight p counted m n i frame b in
+    let halts = solve_halts s.kind s.banks n t.trial all (PassesAtCost p tree s.lasts.nodes.items n t.trial all) in
     on_five r (EndsSolve (EndsBy t.trial all) counted new rm bf) (KeepsPoints p counted new)
-    (GainsReasons (IsOfSolve counts.all s.budget.solves all (IsStuck s.kind s.banks n t.trial all)) counted new) (StaysInRun counted new)
+    (GainsReasons (IsOfSolve counts.all s.budget.solves all halts) counted new) (StaysInRun counted new)
     (new.stop ≡ None → LeavesBy p tree n t.trial all counted new)
     (SolvesNode p s m n new)
     (λ e k g y l. record {
@@ -54,9 +68,9 @@ solved_by p tree s counts m n i walk frame b t all new r raised task problem sta
       ends = solve_ends p counted m n i frame b (EndsBy t.trial (node_solved t)) new (told_ends t.trial (node_solved t) all counted new rm bf (sym exact) e);
       points = k stand;
       reasons = subst (λ (c : Counts). GainsReasons (IsOfSolve c.all s.budget.solves (node_solved t)
-          (IsStuck s.kind s.banks n t.trial (node_solved t))) (record s { counts = c }) new) raised
-          (subst (λ (x : Solved). GainsReasons (IsOfSolve counts.all s.budget.solves x
-          (IsStuck s.kind s.banks n t.trial x)) counted new) exact g);
+          (node_halts p s n t.trial (node_solved t))) (record s { counts = c }) new) raised
+          (subst (λ (x : Solved). GainsReasons (IsOfSolve counts.all s.budget.solves x (node_halts p s n t.trial x)) counted new) exact
+          (stuck_wider halts (node_halts p s n t.trial all) counts.all s.budget.solves all counted new (by_tree p tree s n t.trial all walk) g));
       stays = record { kind = y.kind; frame = y.frame; budget = y.budget; versions = y.versions };
       answer = subst (IsAnswer t) exact answer;
       leaves = λ other w stop.
@@ -101,7 +115,7 @@ step_solved p old s m n new e ready h = solves s.lasts n ready (record {
   reasons =
       let all = node_solved h.task in
       let k = subst (λ (x : State). GainsReasons (IsOfSolve (with_commit x.counts).all x.budget.solves all
-      (IsStuck x.kind x.banks n h.task.trial all))
+      (node_halts p x n h.task.trial all))
       (record x { counts = with_commit x.counts }) new) e h.reasons in
       record { counts = k.counts; stop = k.stop; lasting = k.lasting };
   stays = let k = subst (λ (x : State). StaysInRun x new) e h.stays in

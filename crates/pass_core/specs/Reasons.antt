@@ -1,52 +1,35 @@
--- Which solve a reason that a state keeps is told of, and where the method is stuck.
-use Rattle.std.specs.Prelude.{◌≡◌, ◌⊎◌, ℕ, zero, suc, false, List, Option, Some, None, Ok, Err, get_or}
-use Rattle.rationals.specs.Rational.{zero_ℚ, one_ℚ}
+-- Which solve a reason that a state keeps is told of, and where the method is stuck behind a solve.
+use Rattle.std.specs.Prelude.{◌≡◌, ◌⊎◌, ℕ, zero, suc, true, false, List, Option, Some, None, Result, Ok, Err}
+use Rattle.rationals.specs.Rational.{ℚ, one_ℚ}
 use Rattle.rationals.specs.Passes.{Operation}
 use Rattle.rationals.specs.Forms.{add_scaled_walk}
 use Rattle.rationals.specs.Sparse.{Entry}
-use Rattle.scen_defs.specs.Lists.{passes_at}
 use Rattle.scen_defs.specs.Program.{Program}
-use Rattle.scen_defs.specs.Valid.{Lives}
-use Rattle.scen_defs.specs.Values.{At}
 use Rattle.scen_defs.specs.declared.report.Kind.{Kind}
 use Rattle.scen_defs.specs.declared.report.Place.{Place}
 use Rattle.scen_defs.specs.declared.report.Place.TheVariants.{Solve, Cut, Cost, Ground, Dual, Check}
 use Rattle.scen_tree.specs.Trees.{Tree}
-use Rattle.cut_defs.specs.Data.{Datum, IsDatum}
 use Rattle.cut_defs.specs.Stored.{Stored, source_of}
-use Rattle.cut_proof.specs.declared.fault.CutFault.{CutFault}
-use Rattle.cut_proof.specs.declared.fault.CutFault.TheVariants as fault
 use Rattle.cut_pool.specs.declared.offer.Offer.{Offer}
 use Rattle.cut_pool.specs.declared.offer.Offer.TheVariants.{Added, NotNeeded, Stale, Passed as PassedOffer}
 use Rattle.cut_pool.specs.Held.{Held}
 use Rattle.cut_pool.specs.Pool.{offer_of}
 use Rattle.cut_banks.specs.declared.banks.Banks.{Banks}
 use Rattle.cut_banks.specs.Banks.{pools_of}
-use Rattle.cut_banks.specs.Pools.{may_take, may_put, pool_if}
+use Rattle.cut_banks.specs.Pools.{may_take, pool_if}
 use Rattle.node_lp.specs.declared.solved.Solved.{Solved}
 use Rattle.node_lp.specs.declared.solved.Solved.TheVariants as solved
-use Rattle.dual_assemble.specs.Ground.{ground_walk}
-use Rattle.run_data.specs.declared.versions.Version.{Version}
-use Rattle.run_data.specs.Counts.{version_of}
-use Rattle.run_data.specs.Frames.{Frame}
-use Rattle.run_data.specs.NodeData.{node_datum}
-use Rattle.pass_core.specs.Explained.{IsDatumOf}
+use Rattle.run_ends.specs.declared.last.Last.{Last}
+use Rattle.run_ends.specs.Lasts.{kept}
+use Rattle.run_ends.specs.Costs.{joined_cost}
 use Rattle.proved_report.specs.declared.open.Open.{Open}
 use Rattle.proved_report.specs.declared.open.Open.TheVariants as reason
+use Rattle.pass_core.specs.Explained.{cut_given}
 use Rattle.pass_core.specs.declared.state.State.{State}
 
 -- a reason that a state keeps stops the method, or lasts for the present run
 abbrev pub HasReason : State → Open → Type 0
 HasReason s why = (s.stop ≡ Some why) ⊎ (s.lasting ≡ Some why)
-
--- told of an operation of the solve that is counted as number k and comes to this, of its cut, or of the cost behind it
-abbrev pub IsAtSolve : ℕ → Solved → Operation → Place → Type 0
-IsAtSolve k all o (Solve j) = (j ≡ k) × (all ≡ solved.Passed false o)
-IsAtSolve k all o (Cut j) = j ≡ k
-IsAtSolve k all o (Cost j) = j ≡ k
-IsAtSolve k all o Ground = ⊥
-IsAtSolve k all o Dual = ⊥
-IsAtSolve k all o Check = ⊥
 
 -- ---- where the method is stuck behind a solve
 -- the point can't be kept beside the values of the columns before it, since an operation passes
@@ -82,56 +65,97 @@ IsStuck kind banks n trial solved.PivotsEnded = ⊥
 IsStuck kind banks n trial (solved.Passed in_cut o) = ⊥
 IsStuck kind banks n trial solved.NotGood = Unit {0}
 
--- ---- where the method is stuck before a run opens
--- some numbers of rows and some cuts make this of the datum of a live node in a run of this kind: a cut, or none, since an end that they
--- use isn't finite
-pub record GroundsTo (kind : Kind) (p : Program) (frame : Frame) (tree : Tree) (made : Option Stored) : Type 0 where
-  pub datum : Datum
-  pub is_datum : IsDatumOf kind p frame tree datum
-  pub dual : List At
-  pub cuts : List Stored
-  pub makes : ground_walk datum (get_or tree.chances.totals datum.node zero_ℚ) dual cuts ≡ Ok made
+-- ---- operations that pass behind a solve
+-- in the answer to the cut of the pool that may take it
+pub record PassesInPool (pools : List Held) (trial : List Entry) (cut : Stored) (o : Operation) : Type 0 where
+  pub pool : Held
+  pub there : pool_if (may_take cut) (source_of cut).node pools ≡ Some pool
+  pub passes : offer_of pool cut trial ≡ PassedOffer o
 
--- a live node has no datum of its version, or no cut is made for it
-pub data LacksGround (kind : Kind) (p : Program) (frame : Frame) (tree : Tree) (versions : List Version) : Type 0 where
-  no_datum : (n : ℕ) → Lives p n
-      → (IsDatum (node_datum kind p frame tree n (version_of versions n).rows (version_of versions n).costs) → ⊥)
-      → LacksGround kind p frame tree versions
-  no_cut : GroundsTo kind p frame tree None → LacksGround kind p frame tree versions
+-- so where the cut of a node is offered; the root's is offered to none
+abbrev pub PassesAtOffer : Kind → Banks → ℕ → List Entry → Option Stored → Operation → Type 0
+PassesAtOffer kind banks zero trial cut o = ⊥
+PassesAtOffer kind banks (suc n) trial None o = ⊥
+PassesAtOffer kind banks (suc n) trial (Some cut) o = PassesInPool (pools_of kind banks) trial cut o
 
--- where the cuts of a new run aren't good, it is so
-abbrev pub FaultsGround : Kind → Program → Frame → Tree → List Version → CutFault → Type 0
-FaultsGround kind p frame tree versions fault.NotGood = LacksGround kind p frame tree versions
-FaultsGround kind p frame tree versions (fault.Passed o) = Unit {0}
-FaultsGround kind p frame tree versions fault.Memory = Unit {0}
+-- the last solves behind a point of node n: with it; or as they were, where it can't be kept
+abbrev pub AreBehind : List (Option Last) → ℕ → List Entry → List Entry → List (Option Last) → Type 0
+AreBehind lasts n trial point new = (kept lasts n trial point ≡ Ok new) ⊎ (PassesInJoin trial point × (new ≡ lasts))
 
--- the cut of a node above the root can't be put into its pool in a run of this kind
-pub record IsNotPut (kind : Kind) (banks : Banks) (cut : Stored) : Type 0 where
-  pub above : (source_of cut).node ≡ 0 → ⊥
-  pub refused : passes_at (may_put cut) (source_of cut).node (pools_of kind banks) ≡ false
+-- in what the points of all nodes cost together behind it
+pub record PassesInCosts (p : Program) (tree : Tree) (lasts : List (Option Last)) (n : ℕ) (trial point : List Entry) (o : Operation)
+    : Type 0 where
+  pub new : List (Option Last)
+  pub behind : AreBehind lasts n trial point new
+  pub passes : joined_cost p.nodes tree.chances.totals new ≡ Err o
 
--- a cut that is made so can't be put
-pub record RefusesGround (kind : Kind) (p : Program) (frame : Frame) (tree : Tree) (banks : Banks) : Type 0 where
-  pub cut : Stored
-  pub ground : GroundsTo kind p frame tree (Some cut)
-  pub not_put : IsNotPut kind banks cut
-
--- the method is stuck before a run of this kind: a cut isn't made, or it can't be put into these pools
-abbrev pub IsStuckBefore : Kind → Program → Frame → Tree → List Version → Banks → Type 0
-IsStuckBefore kind p frame tree versions banks = LacksGround kind p frame tree versions ⊎ RefusesGround kind p frame tree banks
+-- so where the solve found a point
+abbrev pub PassesAtCost : Program → Tree → List (Option Last) → ℕ → List Entry → Solved → Operation → Type 0
+PassesAtCost p tree lasts n trial (solved.Point x value cut) o = PassesInCosts p tree lasts n trial x o
+PassesAtCost p tree lasts n trial (solved.NoPoint cut) o = ⊥
+PassesAtCost p tree lasts n trial solved.Loose o = ⊥
+PassesAtCost p tree lasts n trial solved.PivotsEnded o = ⊥
+PassesAtCost p tree lasts n trial (solved.Passed in_cut passed) o = ⊥
+PassesAtCost p tree lasts n trial solved.NotGood o = ⊥
 
 -- ---- what a reason is told of
--- told of that solve; or this is where the method is stuck, and so many solves are told as are allowed
-abbrev pub IsOfSolve : ℕ → ℕ → Solved → Type 0 → Open → Type 0
-IsOfSolve k allowed all Stuck (reason.Solves n) = (n ≡ allowed) × Stuck
-IsOfSolve k allowed all Stuck (reason.Pivots j) = (j ≡ k) × (all ≡ solved.PivotsEnded)
-IsOfSolve k allowed all Stuck (reason.Passed place o) = IsAtSolve k all o place
+-- what halts the method behind what a solve came to: it is stuck, or an operation passes in an offer or in a cost
+pub record Halts : Type 1 where
+  pub stuck : Type 0
+  pub in_offer : Operation → Type 0
+  pub in_cost : Operation → Type 0
 
--- told where a run doesn't open; or this is where the method is stuck, and so many solves are told as are allowed
-abbrev pub IsOfOpening : ℕ → Type 0 → Open → Type 0
-IsOfOpening allowed Stuck (reason.Solves n) = (n ≡ allowed) × Stuck
-IsOfOpening allowed Stuck (reason.Pivots j) = ⊥
-IsOfOpening allowed Stuck (reason.Passed place o) = place ≡ Ground
+-- behind the offer of a cut to these pools
+abbrev pub pool_halts : List Held → List Entry → Stored → Halts
+pool_halts pools trial cut =
+    record { stuck = IsRefused pools trial cut; in_offer = PassesInPool pools trial cut; in_cost = λ (o : Operation). ⊥ }
+
+-- where the cut of node n is offered, if it is
+abbrev pub cut_halts : Kind → Banks → ℕ → List Entry → Option Stored → Halts
+cut_halts kind banks n trial cut = record {
+  stuck = RefusesCut kind banks n trial cut;
+  in_offer = PassesAtOffer kind banks n trial cut;
+  in_cost = λ (o : Operation). ⊥;
+}
+
+-- where a point is kept
+abbrev pub point_halts : List Entry → List Entry → Halts
+point_halts trial point =
+    record { stuck = PassesInJoin trial point; in_offer = λ (o : Operation). ⊥; in_cost = λ (o : Operation). ⊥ }
+
+-- where points cost this together
+abbrev pub cost_halts : Result ℚ Operation → Halts
+cost_halts cost = record { stuck = ⊥; in_offer = λ (o : Operation). ⊥; in_cost = λ (o : Operation). cost ≡ Err o }
+
+-- behind the solve of node n, where this is what passes in a cost
+abbrev pub solve_halts : Kind → Banks → ℕ → List Entry → Solved → (Operation → Type 0) → Halts
+solve_halts kind banks n trial all InCost = record {
+  stuck = IsStuck kind banks n trial all;
+  in_offer = PassesAtOffer kind banks n trial (cut_given all);
+  in_cost = InCost;
+}
+
+-- told of an operation of the solve that is counted as number k and comes to this, of its cut, or of the cost behind it
+abbrev pub IsAtSolve : ℕ → Solved → Halts → Operation → Place → Type 0
+IsAtSolve k all halts o (Solve j) = (j ≡ k) × (all ≡ solved.Passed false o)
+IsAtSolve k all halts o (Cut j) = (j ≡ k) × ((all ≡ solved.Passed true o) ⊎ halts.in_offer o)
+IsAtSolve k all halts o (Cost j) = (j ≡ k) × halts.in_cost o
+IsAtSolve k all halts o Ground = ⊥
+IsAtSolve k all halts o Dual = ⊥
+IsAtSolve k all halts o Check = ⊥
+
+-- told of that solve; or the method is stuck, and so many solves are told as are allowed
+abbrev pub IsOfSolve : ℕ → ℕ → Solved → Halts → Open → Type 0
+IsOfSolve k allowed all halts (reason.Solves n) = (n ≡ allowed) × halts.stuck
+IsOfSolve k allowed all halts (reason.Pivots j) = (j ≡ k) × (all ≡ solved.PivotsEnded)
+IsOfSolve k allowed all halts (reason.Passed place o) = IsAtSolve k all halts o place
+
+-- told where a run doesn't open: of an operation that passes so; or this is where the method is stuck, and so many solves are told as are
+-- allowed
+abbrev pub IsOfOpening : ℕ → Type 0 → (Operation → Type 0) → Open → Type 0
+IsOfOpening allowed Stuck Passes (reason.Solves n) = (n ≡ allowed) × Stuck
+IsOfOpening allowed Stuck Passes (reason.Pivots j) = ⊥
+IsOfOpening allowed Stuck Passes (reason.Passed place o) = (place ≡ Ground) × Passes o
 
 -- one that lasts for a run is told of a cut or of a cost
 abbrev pub IsLasting : Open → Type 0

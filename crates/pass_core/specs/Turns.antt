@@ -1,7 +1,8 @@
 -- What a turn solves: the program of its node in the present run; and how the turn ends by what is told of it.
-use Rattle.std.specs.Prelude.{◌≡◌, ◌⊎◌, ℕ, Bool, true, false, leb, List, map, replicate, get_or, slice_index_or}
-use Rattle.std.specs.Prelude.{Option, Some, None, Ok, IfSome, IsSome, ⊤}
+use Rattle.std.specs.Prelude.{◌≡◌, ◌⊎◌, ℕ, ◌+◌, ◌≤◌, Bool, true, false, leb, List, map, replicate, get_or, slice_index_or}
+use Rattle.std.specs.Prelude.{Option, Some, None, Result, Ok, Err, IfSome, IsSome, ⊤}
 use Rattle.rationals.specs.Rational.{zero_ℚ}
+use Rattle.rationals.specs.Passes.{Operation}
 use Rattle.rationals.specs.Sparse.{Entry}
 use Rattle.scen_defs.specs.Lists.{Each, passes_at}
 use Rattle.scen_defs.specs.Program.{Program, View, node_at}
@@ -15,7 +16,8 @@ use Rattle.scen_tree.specs.Trees.{Tree, tree_walk}
 use Rattle.cut_defs.specs.Data.{Datum, bounds_of, share_of}
 use Rattle.cut_defs.specs.Stored.{Stored}
 use Rattle.edit_defs.specs.Data.{view_in}
-use Rattle.cut_banks.specs.declared.banks.Banks.{Banks}
+use Rattle.cut_proof.specs.declared.fault.CutFault.{CutFault}
+use Rattle.cut_proof.specs.declared.fault.CutFault.TheVariants as fault
 use Rattle.cut_banks.specs.Banks.{pools_of}
 use Rattle.cut_banks.specs.Pools.{cuts_of, cuts_read}
 use Rattle.dual_assemble.specs.Ground.{ground_walk}
@@ -26,6 +28,7 @@ use Rattle.node_lp.specs.Problem.{IsProblem, problem_of}
 use Rattle.node_lp.specs.Told.{node_solved}
 use Rattle.node_lp.specs.Answers.{IsAnswer}
 use Rattle.pass_table.specs.Machine.{Flight, Machine, IsClosed, MayBegin, dropped}
+use Rattle.proved_report.specs.declared.open.Open.{Open}
 use Rattle.run_data.specs.declared.versions.Version.{Version}
 use Rattle.run_data.specs.Counts.{version_of}
 use Rattle.run_data.specs.Frames.{parent_in, children_in, frame_of}
@@ -35,10 +38,10 @@ use Rattle.run_ends.specs.Lasts.{last_at, trial_of}
 use Rattle.pass_core.specs.declared.state.Counts.{Counts}
 use Rattle.pass_core.specs.declared.state.State.{State}
 use Rattle.pass_core.specs.Counting.{with_commit}
-use Rattle.pass_core.specs.Reasons.{PassesInJoin, IsStuck, IsStuckBefore, IsOfSolve, IsOfOpening, GainsReasons}
+use Rattle.pass_core.specs.Reasons.{PassesInJoin, PassesAtCost, Halts, solve_halts, IsOfSolve, IsOfOpening, GainsReasons}
 use Rattle.pass_core.specs.Tabled.{HasRoom, IsTabledBy, committed_with, EndsBegun, Opens}
 use Rattle.pass_core.specs.Left.{StaysInRun, LeavesBy, places_in, next_kind, OpensRun}
-use Rattle.pass_core.specs.Grounds.{OpeningDual, put_cuts, CanPutCuts}
+use Rattle.pass_core.specs.Grounds.{OpeningDual, PassesInDual, put_cuts, CanPutCuts, OneIsNotPut}
 use Rattle.pass_core.specs.Made.{cuts_there}
 
 -- ---- points
@@ -77,12 +80,22 @@ pub record IsTaskOf (p : Program) (s : State) (n : ℕ) (t : Task) : Type 0 wher
   pub pivots : t.pivots ≡ s.budget.pivots
 
 -- ---- first cuts
--- the cut of node n that a run of this kind begins with: the numbers of the dual at the node, over its total, make it with the cuts of
--- its children
-abbrev pub IsFirstCut : Kind → Program → Tree → List Version → List At → List (Option Stored) → ℕ → Stored → Type 0
-IsFirstCut kind p tree versions dual cuts n cut =
+-- what the numbers of the dual at node n, over its total, make with the cuts of its children: in a run of this kind its first cut
+abbrev pub first_walk : Kind → Program → Tree → List Version → List At → List (Option Stored) → ℕ → Result (Option Stored) Operation
+first_walk kind p tree versions dual cuts n =
     ground_walk (datum_in kind p n (version_of versions n)) (get_or tree.chances.totals n zero_ℚ) dual
-    (cuts_there cuts (children_in (frame_of p) n)) ≡ Ok (Some cut)
+    (cuts_there cuts (children_in (frame_of p) n))
+
+-- the cut of node n that a run of this kind begins with
+abbrev pub IsFirstCut : Kind → Program → Tree → List Version → List At → List (Option Stored) → ℕ → Stored → Type 0
+IsFirstCut kind p tree versions dual cuts n cut = first_walk kind p tree versions dual cuts n ≡ Ok (Some cut)
+
+-- those of the live nodes from n on are made, and each is of a live node
+pub record AreFirstFrom (kind : Kind) (p : Program) (tree : Tree) (versions : List Version) (dual : List At) (n : ℕ)
+    (cuts : List (Option Stored)) : Type 0 where
+  pub there : (m : ℕ) → n ≤ m → Lives p m
+      → (cut : Stored) × ((slice_index_or cuts m None ≡ Some cut) × IsFirstCut kind p tree versions dual cuts m cut)
+  pub only : (m : ℕ) (cut : Stored) → slice_index_or cuts m None ≡ Some cut → Lives p m
 
 -- the cuts that it begins with, by number: each live node has one, and no other place
 pub record AreFirstCuts (kind : Kind) (p : Program) (tree : Tree) (versions : List Version) (dual : List At) (cuts : List (Option Stored))
@@ -90,6 +103,21 @@ pub record AreFirstCuts (kind : Kind) (p : Program) (tree : Tree) (versions : Li
   pub there : (n : ℕ) → Lives p n
       → (cut : Stored) × ((slice_index_or cuts n None ≡ Some cut) × IsFirstCut kind p tree versions dual cuts n cut)
   pub only : (n : ℕ) (cut : Stored) → slice_index_or cuts n None ≡ Some cut → Lives p n
+
+-- they are made from the greatest number on until, at a live node, this comes of the dual in place of a cut
+pub record FirstCutsEnd (kind : Kind) (p : Program) (tree : Tree) (versions : List Version) (dual : List At)
+    (comes : Result (Option Stored) Operation) : Type 0 where
+  pub node : ℕ
+  pub lives : Lives p node
+  pub cuts : List (Option Stored)
+  pub behind : AreFirstFrom kind p tree versions dual (node + 1) cuts
+  pub walk : first_walk kind p tree versions dual cuts node ≡ comes
+
+-- at what fault they end so
+abbrev pub FaultsFirst : Kind → Program → Tree → List Version → List At → CutFault → Type 0
+FaultsFirst kind p tree versions dual fault.NotGood = FirstCutsEnd kind p tree versions dual (Ok None)
+FaultsFirst kind p tree versions dual (fault.Passed o) = FirstCutsEnd kind p tree versions dual (Err o)
+FaultsFirst kind p tree versions dual fault.Memory = ⊤
 
 -- the pools of the run that opens behind a closed one have its first cuts
 pub record PutsFirstCuts (p : Program) (tree : Tree) (old new : State) : Type 0 where
@@ -99,6 +127,27 @@ pub record PutsFirstCuts (p : Program) (tree : Tree) (old new : State) : Type 0 
   pub are : AreFirstCuts (next_kind old.kind) p tree old.versions dual cuts
   pub can : CanPutCuts (next_kind old.kind) cuts old.banks
   pub banks : new.banks ≡ put_cuts (next_kind old.kind) cuts old.banks
+
+-- ---- where no run opens
+-- the method is stuck before the run behind a closed one: a first cut isn't made, since an end that it uses isn't finite; or one can't be
+-- put into its pool
+pub data IsStuckBefore (p : Program) (tree : Tree) (s : State) : Type 0 where
+  not_made : (dual : List At) → OpeningDual s.kind s.ends.root dual
+      → FirstCutsEnd (next_kind s.kind) p tree s.versions dual (Ok None) → IsStuckBefore p tree s
+  not_put : (dual : List At) (cuts : List (Option Stored)) → OpeningDual s.kind s.ends.root dual
+      → AreFirstCuts (next_kind s.kind) p tree s.versions dual cuts → OneIsNotPut (next_kind s.kind) cuts s.banks → IsStuckBefore p tree s
+
+-- an operation passes before it: where the dual of the root's cut is assembled, or where a first cut is made
+pub data PassesBefore (p : Program) (tree : Tree) (s : State) (o : Operation) : Type 0 where
+  by_dual : PassesInDual s.kind s.ends.root o → PassesBefore p tree s o
+  by_first : (dual : List At) → OpeningDual s.kind s.ends.root dual
+      → FirstCutsEnd (next_kind s.kind) p tree s.versions dual (Err o) → PassesBefore p tree s o
+
+-- where there are no first cuts for this fault, it is so
+abbrev pub FaultsBefore : Program → Tree → State → CutFault → Type 0
+FaultsBefore p tree s fault.NotGood = IsStuckBefore p tree s
+FaultsBefore p tree s (fault.Passed o) = PassesBefore p tree s o
+FaultsBefore p tree s fault.Memory = ⊤
 
 -- ---- ends
 -- no last solve is left, and no pool changes
@@ -119,6 +168,15 @@ EndsBy trial solved.NotGood m f added k = EndsWithout m f added k
 abbrev pub EndsAnyhow : Machine → Flight → Bool → Machine → Type 0
 EndsAnyhow m f added k = ⊤
 
+-- so it is with each tree of the program
+abbrev pub ByTree : Program → (Tree → Type 0) → Type 0
+ByTree p Holds = (tree : Tree) → tree_walk p ≡ Ok tree → Holds tree
+
+-- what halts the method behind the solve of node n at this trial in this state
+abbrev pub node_halts : Program → State → ℕ → List Entry → Solved → Halts
+node_halts p s n trial all =
+    solve_halts s.kind s.banks n trial all (λ o. ByTree p (λ tree. PassesAtCost p tree s.lasts.nodes.items n trial all o))
+
 -- the worker's turn was the solve of the program of node n, and ended by what is told of it, which is an answer of that program; the run
 -- and the versions stay, the points go on standing, and one more solve is counted, of which each reason is told that the state gains;
 -- where nothing stops the method then, what the solve leaves is known
@@ -129,7 +187,7 @@ pub record SolvesNode (p : Program) (old : State) (m : Machine) (n : ℕ) (new :
   pub ends : EndsBegun (EndsBy task.trial (node_solved task)) p m n new
   pub points : PointsStand p new.lasts.nodes.items
   pub reasons : let counts : Counts = with_commit old.counts in
-      GainsReasons (IsOfSolve counts.all old.budget.solves (node_solved task) (IsStuck old.kind old.banks n task.trial (node_solved task)))
+      GainsReasons (IsOfSolve counts.all old.budget.solves (node_solved task) (node_halts p old n task.trial (node_solved task)))
       (record old { counts = counts }) new
   pub stays : StaysInRun old new
   pub answer : IsAnswer task (node_solved task)
@@ -150,9 +208,9 @@ pub record StaysReady (p : Program) (old : State) (m : Machine) (new : State) : 
   pub ready : AreReady old new.lasts
   pub tabled : IsTabledBy p new m
 
--- the method is stuck before the run behind the present one, with these pools
-abbrev pub IsStuckOpening : Program → State → Banks → Type 0
-IsStuckOpening p s banks = (tree : Tree) → tree_walk p ≡ Ok tree → IsStuckBefore (next_kind s.kind) p s.frame tree s.versions banks
+-- told where the run behind the present one doesn't open
+abbrev pub IsBeforeRun : Program → State → Open → Type 0
+IsBeforeRun p s = IsOfOpening s.budget.solves (ByTree p (λ tree. IsStuckBefore p tree s)) (λ o. ByTree p (λ tree. PassesBefore p tree s o))
 
 -- no node may be begun, and where the run is closed it is a Cost run, behind which none opens
 pub record IsAtRest (s : State) (m : Machine) : Type 0 where
@@ -164,9 +222,9 @@ pub record IsAtRest (s : State) (m : Machine) : Type 0 where
 -- of a node is solved, which alone is counted
 pub data MakesStep (p : Program) (old : State) (m : Machine) (new : State) : Bool → Type 0 where
   begins_none : (HasRoom m → IsAtRest old m) → PointsStand p new.lasts.nodes.items
-      → GainsReasons (IsOfOpening old.budget.solves ⊥) old new → StaysReady p old m new → MakesStep p old m new false
+      → GainsReasons (λ why. ⊥) old new → StaysReady p old m new → MakesStep p old m new false
   opens_run : IsClosed m → (old.kind ≡ Cost → ⊥) → Opens p m new → PointsStand p new.lasts.nodes.items
-      → GainsReasons (IsOfOpening old.budget.solves (IsStuckOpening p old new.banks)) old new
+      → GainsReasons (IsBeforeRun p old) old new
       → (new.stop ≡ None → OpensRun old new)
       → ((tree : Tree) → tree_walk p ≡ Ok tree → new.stop ≡ None → PutsFirstCuts p tree old new) → MakesStep p old m new true
   solves : (lasts : Lasts) (n : ℕ) → AreReady old lasts → SolvesNode p (record old { lasts = lasts }) m n new → MakesStep p old m new true

@@ -8,10 +8,12 @@ ghost use Rattle.cut_defs.specs.Stored.{source_of, IsMadeFor};
 ghost use Rattle.node_lp.specs.declared.solved.Solved.{Solved as SolvedOf};
 ghost use Rattle.node_lp.specs.Told.{node_solved};
 ghost use Rattle.cut_banks.specs.Banks.{pools_of};
-ghost use Rattle.pass_core.specs.Reasons.{PassesInJoin, IsRefused, RefusesCut, IsStuck, IsOfSolve, GainsReasons};
+ghost use Rattle.pass_core.specs.Reasons.{AreBehind, PassesAtCost, pool_halts, cut_halts, point_halts, cost_halts, solve_halts};
+ghost use Rattle.pass_core.specs.Reasons.{IsOfSolve, GainsReasons};
 ghost use Rattle.pass_table.specs.Machine.{Machine, Flight};
 ghost use Rattle.pass_table.specs.Fits.{Fits};
 ghost use Rattle.run_ends.specs.Lasts.{kept, joined_points};
+ghost use Rattle.run_ends.specs.Costs.{joined_cost};
 ghost use Rattle.run_ends.specs.Ends.{with_lower, cheaper, after_root, after_policy};
 ghost use Rattle.pass_core.specs.Counting.{first_stop, is_added, after_answer};
 ghost use Rattle.pass_core.specs.Made.{BankBooks, run_book, IsMadeAbout, KeepsMade};
@@ -64,8 +66,10 @@ impl State {
             → IfSome (point_found solved) (AreUpTo p (node_at p.nodes node).stage) → OnOk result (KeepsPoints p self.old self.new) }
         ensures made { (b : BankBooks) → IfSome (cut_given solved) (IsMadeAbout (run_book self.old.kind b) node)
             → OnOk result (KeepsMade b self.old self.new) }
-        ensures reasons { let stuck = IsStuck self.old.kind self.old.banks node begun.now.task.trial solved in
-            OnOk result (GainsReasons (IsOfSolve self.old.counts.all self.old.budget.solves solved stuck) self.old self.new) }
+        ensures reasons { let trial = begun.now.task.trial in
+            let in_cost = PassesAtCost (content program.now) tree.now self.old.lasts.nodes.items node trial solved in
+            let halts = solve_halts self.old.kind self.old.banks node trial solved in_cost in
+            OnOk result (GainsReasons (IsOfSolve self.old.counts.all self.old.budget.solves solved halts) self.old self.new) }
         ensures stays { OnOk result (StaysInRun self.old self.new) }
         ensures left { (m : Machine) (f : Flight) → IsSolving self.old m f begun.now.readings.items
             → ((k : ℕ) → m.number k ≡ pool_number self.old k) → f.node ≡ node → IsAbout node solved → OnOk result (self.new.stop ≡ None
@@ -134,8 +138,10 @@ impl State {
         ensures made { (b : BankBooks) → IfSome cut (IsMadeAbout (run_book self.old.kind b) node)
             → OnOk result (KeepsMade b self.old self.new) }
         ensures reasons { (all : SolvedOf) →
-            let stuck = IsStuck self.old.kind self.old.banks node begun.now.task.trial (Solved.Point point value cut) in
-            OnOk result (GainsReasons (IsOfSolve self.old.counts.all self.old.budget.solves all stuck) self.old self.new) }
+            let halts = solve_halts self.old.kind self.old.banks node begun.now.task.trial (Solved.Point point value cut) (λ o. ⊥) in
+            OnOk result (GainsReasons (IsOfSolve self.old.counts.all self.old.budget.solves all halts) self.old self.new) }
+        ensures behind { OnOk result
+            (AreBehind self.old.lasts.nodes.items node begun.now.task.trial point self.new.lasts.nodes.items) }
         ensures stays { OnOk result (StaysInRun self.old self.new) }
         ensures left { OnOk result (self.new.stop ≡ None → TakesPoint node begun.now.task.trial point value cut self.old self.new) }
     {
@@ -163,8 +169,8 @@ impl State {
             → OnOk result (KeepsMade b self.old self.new) }
         ensures lasts { OnOk result (self.new.lasts ≡ self.old.lasts) }
         ensures low { IfOk result (λ told. told ≡ true → 0 < node) }
-        ensures reasons { (all : SolvedOf) → let stuck = RefusesCut self.old.kind self.old.banks node trial.now cut in
-            OnOk result (GainsReasons (IsOfSolve self.old.counts.all self.old.budget.solves all stuck) self.old self.new) }
+        ensures reasons { (all : SolvedOf) → let halts = cut_halts self.old.kind self.old.banks node trial.now cut in
+            OnOk result (GainsReasons (IsOfSolve self.old.counts.all self.old.budget.solves all halts) self.old self.new) }
         ensures stays { OnOk result (StaysInRun self.old self.new) }
         ensures offers { OnOk result (self.new.stop ≡ None
             → OffersCut self.old.kind node cut trial.now self.old.banks self.new.banks) }
@@ -191,8 +197,8 @@ impl State {
         ensures points { (p : ProgramOf) → OnOk result (KeepsPoints p self.old self.new) }
         ensures made { (b : BankBooks) → IsMadeAbout (run_book self.old.kind b) node cut → OnOk result (KeepsMade b self.old self.new) }
         ensures reasons { (all : SolvedOf) →
-            let stuck = IsStuck self.old.kind self.old.banks node begun.now.task.trial (Solved.NoPoint cut) in
-            OnOk result (GainsReasons (IsOfSolve self.old.counts.all self.old.budget.solves all stuck) self.old self.new) }
+            let halts = solve_halts self.old.kind self.old.banks node begun.now.task.trial (Solved.NoPoint cut) (λ o. ⊥) in
+            OnOk result (GainsReasons (IsOfSolve self.old.counts.all self.old.budget.solves all halts) self.old self.new) }
         ensures stays { OnOk result (StaysInRun self.old self.new) }
         ensures left { OnOk result (self.new.stop ≡ None → LeavesNone node begun.now.task.trial cut self.old self.new) }
     {
@@ -211,8 +217,8 @@ impl State {
         ensures made { (b : BankBooks) → IsMadeAbout (run_book self.old.kind b) node cut → OnOk result (KeepsMade b self.old self.new) }
         ensures lasts { OnOk result (self.new.lasts ≡ self.old.lasts) }
         ensures low { IfOk result (λ told. told ≡ true → 0 < node) }
-        ensures reasons { (all : SolvedOf) → let stuck = RefusesCut self.old.kind self.old.banks node trial.now (Some cut) in
-            OnOk result (GainsReasons (IsOfSolve self.old.counts.all self.old.budget.solves all stuck) self.old self.new) }
+        ensures reasons { (all : SolvedOf) → let halts = cut_halts self.old.kind self.old.banks node trial.now (Some cut) in
+            OnOk result (GainsReasons (IsOfSolve self.old.counts.all self.old.budget.solves all halts) self.old self.new) }
         ensures stays { OnOk result (StaysInRun self.old self.new) }
         ensures offers { OnOk result (self.new.stop ≡ None
             → OffersCut self.old.kind node (Some cut) trial.now self.old.banks self.new.banks) }
@@ -238,8 +244,8 @@ impl State {
             → OnOk result (KeepsExplained p tree self.old self.new) }
         ensures err { OnErr result (self.new ≡ self.old) }
         ensures drops { result ≡ Ok false → Drops self.old.table self.new.table }
-        ensures reasons { (all : SolvedOf) → let stuck = PassesInJoin trial.now point in
-            OnOk result (GainsReasons (IsOfSolve self.old.counts.all self.old.budget.solves all stuck) self.old self.new) }
+        ensures reasons { (all : SolvedOf) → let halts = point_halts trial.now point in
+            OnOk result (GainsReasons (IsOfSolve self.old.counts.all self.old.budget.solves all halts) self.old self.new) }
     {
         match self.lasts.keep(node, trial, point) {
             Ok(()) => Ok(true),
@@ -286,8 +292,8 @@ impl State {
         ensures raises { IfOk result (λ told. RaisesPool told (source_of cut).node self.old self.new) }
         ensures made { (b : BankBooks) → IsMadeFor (run_book self.old.kind b) cut → OnOk result (KeepsMade b self.old self.new) }
         ensures lasts { OnOk result (self.new.lasts ≡ self.old.lasts) }
-        ensures reasons { (all : SolvedOf) → let stuck = IsRefused (pools_of self.old.kind self.old.banks) trial.now cut in
-            OnOk result (GainsReasons (IsOfSolve self.old.counts.all self.old.budget.solves all stuck) self.old self.new) }
+        ensures reasons { (all : SolvedOf) → let halts = pool_halts (pools_of self.old.kind self.old.banks) trial.now cut in
+            OnOk result (GainsReasons (IsOfSolve self.old.counts.all self.old.budget.solves all halts) self.old self.new) }
         ensures stays { OnOk result (StaysInRun self.old self.new) }
         ensures offered { OnOk result (self.new.stop ≡ None → IsOffered self.old.kind cut trial.now self.old.banks self.new.banks) }
         ensures ends { OnOk result (self.new.ends ≡ self.old.ends) }
@@ -341,7 +347,8 @@ impl State {
         ensures lasts { OnOk result (self.new.lasts ≡ self.old.lasts) }
         // behind a point that was kept and a cut that was offered the method isn't stuck
         ensures reasons { (all : SolvedOf)
-            → OnOk result (GainsReasons (IsOfSolve self.old.counts.all self.old.budget.solves all ⊥) self.old self.new) }
+            → let cost = joined_cost (content program.now).nodes tree.now.chances.totals self.old.lasts.nodes.items in
+            OnOk result (GainsReasons (IsOfSolve self.old.counts.all self.old.budget.solves all (cost_halts cost)) self.old self.new) }
         ensures stays { OnOk result (StaysInRun self.old self.new) }
         ensures banks { OnOk result (self.new.banks ≡ self.old.banks) }
         ensures left { (m : Machine) → Fits self.old.table m → OnOk result (self.new.stop ≡ None → (self.old.stop ≡ None)

@@ -6,9 +6,9 @@ ghost use Rattle.scen_defs.specs.Lists.{Each, passes_at};
 ghost use Rattle.scen_defs.specs.Program.{content, is_live, Program as ProgramOf};
 ghost use Rattle.scen_defs.specs.Valid.{IsProgram, Lives};
 ghost use Rattle.scen_defs.specs.Values.{At};
-ghost use Rattle.scen_defs.specs.declared.report.Kind.{Kind as KindOf};
 ghost use Rattle.scen_tree.specs.Trees.{Tree as TreeOf, tree_walk};
-ghost use Rattle.cut_defs.specs.Stored.{Stored, IsMadeFor};
+ghost use Rattle.cut_defs.specs.Stored.{IsMadeFor};
+ghost use Rattle.cut_proof.specs.Answers.{Makes};
 ghost use Rattle.dual_assemble.specs.Values.{assembled};
 ghost use Rattle.node_lp.specs.Problem.{is_priced};
 ghost use Rattle.run_data.specs.Frames.{Frame as FrameOf, frame_of};
@@ -16,11 +16,11 @@ ghost use Rattle.pass_table.specs.Machine.{Machine};
 ghost use Rattle.pass_core.specs.Explained.{AreExplained, FailsToOpen, IsCutOfSolve, KeepsExplained};
 ghost use Rattle.pass_core.specs.Made.{BankBooks, run_book, AreBooksOf, CutsAreMade, KeepsMade, IsGroundOf, HasGrounds, cuts_there};
 ghost use Rattle.pass_core.specs.Tabled.{IsTabledBy, KeepsTable, KeepsPools, Opens};
-ghost use Rattle.pass_core.specs.Reasons.{GroundsTo, LacksGround, FaultsGround, IsNotPut, RefusesGround};
-ghost use Rattle.pass_core.specs.Reasons.{IsStuckBefore, IsOfOpening, GainsReasons};
-ghost use Rattle.pass_core.specs.Turns.{KeepsPoints, Progresses, IsFirstCut, AreFirstCuts, PutsFirstCuts};
+ghost use Rattle.pass_core.specs.Reasons.{IsOfOpening, GainsReasons};
+ghost use Rattle.pass_core.specs.Turns.{KeepsPoints, Progresses, first_walk, AreFirstCuts, PutsFirstCuts};
+ghost use Rattle.pass_core.specs.Turns.{FaultsFirst, IsStuckBefore, PassesBefore, FaultsBefore};
 ghost use Rattle.pass_core.specs.Left.{next_kind, OpensRun};
-ghost use Rattle.pass_core.specs.Grounds.{OpeningDual, PutsCut, PutsCuts};
+ghost use Rattle.pass_core.specs.Grounds.{OpeningDual, FaultsDual, put_cut, IsNotPut, OneIsNotPut, PutsCut, PutsCuts};
 
 use crate::state::State;
 use cut_proof::{CutFault, SharedCut};
@@ -86,9 +86,8 @@ fn shared(
 fn dual_of(alloc: Global, cut: &SharedCut) -> Result<Values, CutFault>
     ensures fails { (p : ProgramOf) (frame : FrameOf) (tree : TreeOf) (pivots : ℕ)
         → IsCutOfSolve p frame tree pivots cut.now → IfErr result (FailsToOpen p frame tree pivots) }
-    // it is never not good
-    ensures good { IfErr result (λ fault. fault ≡ CutFault.NotGood → ⊥) }
     ensures walk { IfOk result (λ dual. assembled cut.now ≡ Ok dual) }
+    ensures faults { IfErr result (FaultsDual Kind.Recession (Some cut.now)) }
 {
     Ok(assemble(alloc, cut.cut())?)
 }
@@ -109,9 +108,9 @@ impl State {
         ensures made { let p = content program.now in (b : BankBooks) → IsProgram p → tree_walk p ≡ Ok tree.now
             → self.old.frame ≡ frame_of p → AreBooksOf p self.old.versions b → CutsAreMade b self.old
             → OnOk result (CutsAreMade b self.new) }
-        ensures reasons { let stuck = IsStuckBefore (next_kind self.old.kind) (content program.now) self.old.frame tree.now
-            self.old.versions self.new.banks in
-            OnOk result (GainsReasons (IsOfOpening self.old.budget.solves stuck) self.old self.new) }
+        ensures reasons { let p = content program.now in IsProgram p → tree_walk p ≡ Ok tree.now → self.old.frame ≡ frame_of p
+            → let told = IsOfOpening self.old.budget.solves (IsStuckBefore p tree.now self.old) (PassesBefore p tree.now self.old) in
+            OnOk result (GainsReasons told self.old self.new) }
         ensures opened { OnOk result (self.new.stop ≡ None → OpensRun self.old self.new) }
         ensures first { let p = content program.now in IsProgram p → tree_walk p ≡ Ok tree.now → self.old.frame ≡ frame_of p
             → OnOk result (self.new.stop ≡ None → PutsFirstCuts p tree.now self.old self.new) }
@@ -132,12 +131,11 @@ impl State {
         ensures pools { OnOk result (KeepsPools self.old self.new) }
         ensures made { (b : BankBooks) → OnOk result (KeepsMade b self.old self.new) }
         ensures points { (p : ProgramOf) → OnOk result (KeepsPoints p self.old self.new) }
-        ensures reasons { (kind : KindOf) (p : ProgramOf) (tree : TreeOf)
-            → FaultsGround kind p self.old.frame tree self.old.versions fault
-            → let stuck = LacksGround kind p self.old.frame tree self.old.versions in
-            OnOk result (GainsReasons (IsOfOpening self.old.budget.solves stuck) self.old self.new) }
+        ensures reasons { (p : ProgramOf) (tree : TreeOf) → FaultsBefore p tree self.old fault
+            → let told = IsOfOpening self.old.budget.solves (IsStuckBefore p tree self.old) (PassesBefore p tree self.old) in
+            OnOk result (GainsReasons told self.old self.new) }
         ensures stops { OnOk result (self.new.stop ≡ None → ⊥) }
-        ensures budget { OnOk result (self.new.budget ≡ self.old.budget) }
+        ensures others { OnOk result (self.new ≡ record self.old { stop = self.new.stop }) }
     {
         match fault {
             CutFault::Passed(passed) => {
@@ -162,12 +160,11 @@ impl State {
     ) -> Result<Vec<Option<SharedCut>>, CutFault>
         ensures fails { AreExplained (content program.now) tree.now self.now
             → IfErr result (FailsToOpen (content program.now) self.now.frame tree.now self.now.budget.pivots) }
-        ensures lacks { IfErr result (FaultsGround kind (content program.now) self.now.frame tree.now self.now.versions) }
-        ensures grounds { let p = content program.now in IfOk result (λ cuts.
-            Each (λ place. IfSome place (λ cut. GroundsTo kind p self.now.frame tree.now (Some cut))) cuts.items) }
         ensures made { let p = content program.now in (b : BankBooks) → is_priced kind ≡ true → IsProgram p → tree_walk p ≡ Ok tree.now
             → self.now.frame ≡ frame_of p → AreBooksOf p self.now.versions b
             → IfOk result (λ cuts. Each (λ place. IfSome place (IsMadeFor (run_book kind b))) cuts.items) }
+        ensures faults { let p = content program.now in IsProgram p → tree_walk p ≡ Ok tree.now → self.now.frame ≡ frame_of p
+            → kind ≡ next_kind self.now.kind → IfErr result (FaultsBefore p tree.now self.now) }
         ensures first { let p = content program.now in IsProgram p → tree_walk p ≡ Ok tree.now → self.now.frame ≡ frame_of p
             → IfOk result (λ cuts. (dual : List At) × (OpeningDual self.now.kind self.now.ends.root dual
             × AreFirstCuts kind p tree.now self.now.versions dual cuts.items)) }
@@ -182,7 +179,7 @@ impl State {
     fn opening_dual(&self, alloc: Global) -> Result<Values, CutFault>
         ensures fails { (p : ProgramOf) (tree : TreeOf) → AreExplained p tree self.now
             → IfErr result (FailsToOpen p self.now.frame tree self.now.budget.pivots) }
-        ensures good { IfErr result (λ fault. fault ≡ CutFault.NotGood → ⊥) }
+        ensures faults { IfErr result (FaultsDual self.now.kind self.now.ends.root) }
         ensures dual { IfOk result (λ dual. OpeningDual self.now.kind self.now.ends.root dual) }
     {
         match (self.kind, &self.ends.root) {
@@ -201,12 +198,11 @@ impl State {
         dual: &Values,
     ) -> Result<Vec<Option<SharedCut>>, CutFault>
         ensures fails { IfErr result (FailsToOpen (content program.now) self.now.frame tree.now self.now.budget.pivots) }
-        ensures lacks { IfErr result (FaultsGround kind (content program.now) self.now.frame tree.now self.now.versions) }
-        ensures grounds { let p = content program.now in IfOk result (λ cuts.
-            Each (λ place. IfSome place (λ cut. GroundsTo kind p self.now.frame tree.now (Some cut))) cuts.items) }
         ensures made { let p = content program.now in (b : BankBooks) → is_priced kind ≡ true → IsProgram p → tree_walk p ≡ Ok tree.now
             → self.now.frame ≡ frame_of p → AreBooksOf p self.now.versions b
             → IfOk result (λ cuts. Each (λ place. IfSome place (IsMadeFor (run_book kind b))) cuts.items) }
+        ensures faults { let p = content program.now in IsProgram p → tree_walk p ≡ Ok tree.now → self.now.frame ≡ frame_of p
+            → IfErr result (FaultsFirst kind p tree.now self.now.versions dual.now) }
         ensures first { let p = content program.now in IsProgram p → tree_walk p ≡ Ok tree.now → self.now.frame ≡ frame_of p
             → IfOk result (λ cuts. AreFirstCuts kind p tree.now self.now.versions dual.now cuts.items) }
     {
@@ -236,14 +232,11 @@ impl State {
         cuts: &[Option<SharedCut>],
     ) -> Result<SharedCut, CutFault>
         ensures fails { IfErr result (FailsToOpen (content program.now) self.now.frame tree.now self.now.budget.pivots) }
-        ensures lacks { let p = content program.now in Lives p node
-            → IfErr result (FaultsGround kind p self.now.frame tree.now self.now.versions) }
-        ensures makes { let p = content program.now in IfOk result (λ cut. GroundsTo kind p self.now.frame tree.now (Some cut)) }
         ensures ground { let p = content program.now in (b : BankBooks) → is_priced kind ≡ true → IsProgram p → tree_walk p ≡ Ok tree.now
             → self.now.frame ≡ frame_of p → AreBooksOf p self.now.versions b → Lives p node
             → HasGrounds p (run_book kind b) (node + 1) cuts.now → IfOk result (IsGroundOf (run_book kind b) node) }
         ensures first { let p = content program.now in IsProgram p → tree_walk p ≡ Ok tree.now → self.now.frame ≡ frame_of p → Lives p node
-            → IfOk result (IsFirstCut kind p tree.now self.now.versions dual.now cuts.now node) }
+            → Makes (first_walk kind p tree.now self.now.versions dual.now cuts.now node) result }
     {
         let version = self.versions.of(node);
         let Some(datum) = datum_of(alloc, program, &self.frame, tree, version, kind, node)? else {
@@ -266,10 +259,8 @@ impl State {
         ensures points { (p : ProgramOf) → OnOk result (KeepsPoints p self.old self.new) }
         ensures made { (b : BankBooks) → Each (λ place. IfSome place (IsMadeFor (run_book kind b))) cuts.items → CutsAreMade b self.old
             → OnOk result (CutsAreMade b self.new) }
-        ensures reasons { (p : ProgramOf) (tree : TreeOf)
-            → Each (λ place. IfSome place (λ cut. GroundsTo kind p self.old.frame tree (Some cut))) cuts.items
-            → let stuck = RefusesGround kind p self.old.frame tree self.new.banks in
-            OnOk result (GainsReasons (IsOfOpening self.old.budget.solves stuck) self.old self.new) }
+        ensures reasons { let stuck = OneIsNotPut kind cuts.items self.old.banks in
+            OnOk result (GainsReasons (IsOfOpening self.old.budget.solves stuck (λ o. ⊥)) self.old self.new) }
         ensures opened { kind ≡ next_kind self.old.kind → OnOk result (OpensRun self.old self.new) }
         ensures puts { OnOk result (self.new.stop ≡ None → PutsCuts kind cuts.items self.old.banks self.new.banks) }
     {
@@ -288,10 +279,8 @@ impl State {
         ensures kept { OnOk result (KeepsTable self.old self.new) }
         ensures made { (b : BankBooks) → Each (λ place. IfSome place (IsMadeFor (run_book kind b))) cuts.now
             → OnOk result (KeepsMade b self.old self.new) }
-        ensures reasons { (p : ProgramOf) (tree : TreeOf)
-            → Each (λ place. IfSome place (λ cut. GroundsTo kind p self.old.frame tree (Some cut))) cuts.now
-            → let stuck = RefusesGround kind p self.old.frame tree self.new.banks in
-            OnOk result (GainsReasons (IsOfOpening self.old.budget.solves stuck) self.old self.new) }
+        ensures reasons { let stuck = OneIsNotPut kind cuts.now self.old.banks in
+            OnOk result (GainsReasons (IsOfOpening self.old.budget.solves stuck (λ o. ⊥)) self.old self.new) }
         ensures others { OnOk result (self.new ≡ record self.old { banks = self.new.banks; stop = self.new.stop }) }
         ensures puts { OnOk result (self.new.stop ≡ None → PutsCuts kind cuts.now self.old.banks self.new.banks) }
     {
@@ -306,10 +295,9 @@ impl State {
         ensures explained { (p : ProgramOf) (tree : TreeOf) → OnOk result (KeepsExplained p tree self.old self.new) }
         ensures kept { OnOk result (KeepsTable self.old self.new) }
         ensures made { (b : BankBooks) → IfSome place.now (IsMadeFor (run_book kind b)) → OnOk result (KeepsMade b self.old self.new) }
-        ensures reasons { let stuck = IsSomeAnd place.now (IsNotPut kind self.new.banks) in
-            OnOk result (GainsReasons (IsOfOpening self.old.budget.solves stuck) self.old self.new) }
-        // a cut that couldn't be put can't be put from then on
-        ensures still { (cut : Stored) → IsNotPut kind self.old.banks cut → OnOk result (IsNotPut kind self.new.banks cut) }
+        ensures reasons { let stuck = IsSomeAnd place.now (IsNotPut kind self.old.banks) in
+            OnOk result (GainsReasons (IsOfOpening self.old.budget.solves stuck (λ o. ⊥)) self.old self.new) }
+        ensures banks { OnOk result (self.new.banks ≡ put_cut kind place.now self.old.banks) }
         ensures others { OnOk result (self.new ≡ record self.old { banks = self.new.banks; stop = self.new.stop }) }
         ensures puts { OnOk result (self.new.stop ≡ None → (self.old.stop ≡ None) × PutsCut kind place.now self.old.banks self.new.banks) }
     {

@@ -10,3 +10,4 @@ mod tested;
 pub use claim::Claim;
 pub use open::{Open, is_passing};
 pub use reports::report;
+pub use tested::Tested;

@@ -18,7 +18,7 @@ use std::alloc::Global;
 
 /// What a test of a list comes to.
 #[derive(Drop)]
-pub(crate) enum Tested {
+pub enum Tested {
     /// The list shows this number.
     Shows(Frac, Values),
     /// It doesn't show what is claimed.

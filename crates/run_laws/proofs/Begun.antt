@@ -39,13 +39,16 @@ unsolved_stands p tree w m i none live ends policy banks grounds = record {
       let z : (m.last 0).commit ≡ 0 = none 0 in absurd (omega (arith, g.0.solved, z));
 }
 
--- before anything is done a table fits no other machine: nothing was committed
-pub unused_uncommitted : (p : Program) (s : State) (m : Machine) → IsProgram p → s.frame ≡ frame_of p → IsTabledBy p s m → s.is_begun ≡ false → m.commits ≡ 0
-unused_uncommitted p s m i frame table idle =
+-- before anything is done a table fits no other machine: nothing was committed, in the first run
+pub unused_counts : (p : Program) (s : State) (m : Machine) → IsProgram p → s.frame ≡ frame_of p → IsTabledBy p s m → s.is_begun ≡ false
+    → (m.commits ≡ 0) × (m.run ≡ 1)
+unused_counts p s m i frame table idle =
     let fits : Fits s.table start = table.unused idle start is_start in
-    let same : (lists_of s.table).commits ≡ 0 = fits.agrees.commits in
-    let now : (lists_of s.table).commits ≡ m.commits = table.fits.agrees.commits in
-    omega (arith, same, now)
+    let none : (lists_of s.table).commits ≡ 0 = fits.agrees.commits in
+    let one : (lists_of s.table).run ≡ 1 = fits.agrees.run in
+    let commits : (lists_of s.table).commits ≡ m.commits = table.fits.agrees.commits in
+    let runs : (lists_of s.table).run ≡ m.run = table.fits.agrees.run in
+    (omega (arith, none, commits), omega (arith, one, runs))
   where
     start : Machine
     start = record {
@@ -73,6 +76,10 @@ unused_uncommitted p s m i frame table idle =
       last = λ j. refl;
       flight = λ w. refl;
     }
+
+pub unused_uncommitted : (p : Program) (s : State) (m : Machine) → IsProgram p → s.frame ≡ frame_of p → IsTabledBy p s m
+    → s.is_begun ≡ false → m.commits ≡ 0
+unused_uncommitted p s m i frame table idle = (unused_counts p s m i frame table idle).0
 
 -- with places for last solves the run stands as it did
 pub record IsReadyState (p : Program) (tree : Tree) (s : State) (lasts : Lasts) (m : Machine) : Type 0 where

@@ -93,7 +93,7 @@ module _ (p : Program) (tree : Tree) (i : IsProgram p) (few : length p.nodes < n
   }
 
   -- places for last solves don't touch the table
-  with_places : (s : State) (lasts : Lasts) (m : Machine) → IsTabledBy p s m → IsTabledBy p (record s { lasts = lasts }) m
+  pub with_places : (s : State) (lasts : Lasts) (m : Machine) → IsTabledBy p s m → IsTabledBy p (record s { lasts = lasts }) m
   with_places s lasts m h = record {
     valid = h.valid;
     fits = h.fits;

@@ -13,3 +13,14 @@ pub mod Meeting
 pub mod NoDead
 pub mod PoolSteps
 pub mod Refusals
+pub mod Rooms
+pub mod Finished
+pub mod FirstCutsMade
+pub mod SolvesUsed
+pub mod Forms
+pub mod Shown
+pub mod Claimed
+pub mod GoodDuals
+pub mod Openings
+pub mod NeverStuck
+pub mod RootForms

@@ -53,7 +53,7 @@ both_same a b x y = go (compare a b) (compare_means a b)
     go Equal h = refl
     go Greater h = absurd (not_le_of_lt_ℚ h x)
 
-some_is : {A : Type 0} (a b : A) → Some a ≡ Some b → a ≡ b
+pub some_is : {A : Type 0} (a b : A) → Some a ≡ Some b → a ≡ b
 some_is a b e = cc
 
 module _ (p : Program) (tree : Tree) (i : IsProgram p) (few : length p.nodes < nothing) (t : tree_walk p ≡ Ok tree) (s : State) (m : Machine)

@@ -28,12 +28,13 @@ abbrev pub known : Kind → Frame → List Version → List (Option Last) → Ba
 known kind frame versions lasts banks ends =
     record { kind = kind; frame = frame; versions = versions; lasts = lasts; banks = banks; ends = ends }
 
--- the lower end stays or rises
-abbrev pub LowerGoes : Kind → Ends → Ends → Type 0
-LowerGoes kind old new = kind ≡ Cost → (b : Bounded) → old.lower ≡ Some b → (c : Bounded) × ((new.lower ≡ Some c) × (b.value ≤ℚ c.value))
+-- the root's cut stays, and the lower end stays or rises
+pub record RootGoes (kind : Kind) (old new : Ends) : Type 0 where
+  pub root : new.root ≡ old.root
+  pub lower : kind ≡ Cost → (b : Bounded) → old.lower ≡ Some b → (c : Bounded) × ((new.lower ≡ Some c) × (b.value ≤ℚ c.value))
 
-pub lower_stays : (kind : Kind) (old new : Ends) → new.lower ≡ old.lower → LowerGoes kind old new
-lower_stays kind old new e cost b h = (b, (e ∙ h, le_refl_ℚ b.value))
+pub root_stays : (kind : Kind) (old new : Ends) → new.root ≡ old.root → new.lower ≡ old.lower → RootGoes kind old new
+root_stays kind old new r e = record { root = r; lower = λ cost b h. (b, (e ∙ h, le_refl_ℚ b.value)) }
 
 -- what shows that there is no point stays or is replaced by another such cut
 abbrev pub NowhereGoes : Ends → Ends → Type 0
@@ -44,9 +45,9 @@ module _ (p : Program) (kind : Kind) (frame : Frame) (versions : List Version) (
       → (IsMade k j → IsMade m j × (trial_of lb (parent_in frame j) ≡ trial_of la (parent_in frame j)))
       → (AreRead k j → AreRead m j × (cuts_read (pools_of kind bb) (children_in frame j) ≡ cuts_read (pools_of kind ba) (children_in frame j)))
       → ((P : Stored → Type 0) → HasMember (pools_of kind ba) j P → HasMember (pools_of kind bb) j P)
-      → (j ≡ 0 → LowerGoes kind ea eb) → HasLast p (known kind frame versions la ba ea) m j
+      → (j ≡ 0 → RootGoes kind ea eb) → HasLast p (known kind frame versions la ba ea) m j
       → HasLast p (known kind frame versions lb bb eb) k j
-  moved m k j same made read grows lower h = record {
+  moved m k j same made read grows goes h = record {
     last = h.last;
     there = same ∙ h.there;
     task = h.task;
@@ -60,7 +61,8 @@ module _ (p : Program) (kind : Kind) (frame : Frame) (versions : List Version) (
     trial = λ q. let b = made q in h.trial b.0 ∙ sym b.1;
     cuts = λ q. let b = read q in h.cuts b.0 ∙ sym b.1;
     offered = λ low c e. grows (IsAtLeast h.task.trial h.value) (h.offered low c e);
-    lower = λ cost root. let a = h.lower cost root in let b = lower root cost a.0 a.1.0 in (b.0, (b.1.0, le_trans_ℚ a.1.1 b.1.1));
+    lower = λ cost z. let a = h.lower cost z in let b = (goes z).lower cost a.0 a.1.0 in (b.0, (b.1.0, le_trans_ℚ a.1.1 b.1.1));
+    root = λ k z. let a = h.root k z in (a.0, ((goes z).root ∙ a.1.0, a.1.1, a.1.2));
   }
 
   pub moved_none : (m k : Machine) (j : ℕ) → (IsMade k j → IsMade m j × (trial_of lb (parent_in frame j) ≡ trial_of la (parent_in frame j)))
@@ -82,7 +84,7 @@ module _ (p : Program) (kind : Kind) (frame : Frame) (versions : List Version) (
       (children : (j : ℕ) → IsLive m j → AreChildren m j (children_in frame j))
       (lasts : (i : ℕ) → (i ≡ n → ⊥) → last_at lb i ≡ last_at la i)
       (pools : PoolsGo (pools_of kind ba) (pools_of kind bb) n)
-      (lower : (j : ℕ) → (j ≡ n → ⊥) → j ≡ 0 → LowerGoes kind ea eb)
+      (goes : (j : ℕ) → (j ≡ n → ⊥) → j ≡ 0 → RootGoes kind ea eb)
       (nowhere : NowhereGoes ea eb) where
     trial_moves : (j : ℕ) → (j ≡ n → ⊥) → IsMade k j → IsMade m j × (trial_of lb (parent_in frame j) ≡ trial_of la (parent_in frame j))
     trial_moves j ne made =
@@ -151,7 +153,7 @@ module _ (p : Program) (kind : Kind) (frame : Frame) (versions : List Version) (
 
     pub turns_leave : (j : ℕ) → IsLive m j → (j ≡ n → ⊥) → HasLast p (known kind frame versions la ba ea) m j
         → HasLast p (known kind frame versions lb bb eb) k j
-    turns_leave j live ne h = moved m k j (lasts j ne) (trial_moves j ne) (read_moves j live ne) (member_goes (pools_of kind ba) (pools_of kind bb) n pools j) (lower j ne) h
+    turns_leave j live ne h = moved m k j (lasts j ne) (trial_moves j ne) (read_moves j live ne) (member_goes (pools_of kind ba) (pools_of kind bb) n pools j) (goes j ne) h
 
     pub turns_leave_none : (j : ℕ) → (j ≡ n → ⊥) → HasNone p (known kind frame versions la ba ea) m j
         → HasNone p (known kind frame versions lb bb eb) k j

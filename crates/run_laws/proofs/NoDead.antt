@@ -48,7 +48,7 @@ use Rattle.run_laws.proofs.Meeting.{closed_runs_meet}
 use Rattle.run_laws.proofs.Policies.{UpToDate, no_ray_above}
 
 -- ---- the point that is 0 everywhere meets the form of a Recession run
-no_point : ℕ → ℕ → ℚ
+pub no_point : ℕ → ℕ → ℚ
 no_point n j = zero_ℚ
 
 -- what stands at a place of a list
@@ -83,7 +83,7 @@ upper_zero (Some e) = le_refl_ℚ zero_ℚ
 nothing_costs : (f : List Entry) → product f (λ j. zero_ℚ) ≡ zero_ℚ
 nothing_costs f = sum-ext _ (λ (e : Entry). zero_ℚ) (λ (e : Entry). mul_zero_ℚ e.value) f ∙ sum-zero f
 
-no_point_feasible : (v : View) → Feasible (recession v) no_point
+pub no_point_feasible : (v : View) → Feasible (recession v) no_point
 unfolding no_point
 no_point_feasible v = each_of (FeasibleAt (recession v) no_point) (λ n. record {
   rows = each_mapped (λ (r : NodeRow). Between r.low r.high (product r.entries (λ j. zero_ℚ))) zero_row (v.rows n)
@@ -94,7 +94,7 @@ no_point_feasible v = each_of (FeasibleAt (recession v) no_point) (λ n. record 
 }) v.live
 
 -- ---- a cut of the root that shows that there is no point contradicts one
-none_contradicts : (kind : Kind) (p : Program) (i : IsProgram p) (cut : Stored) → IsMadeAbout (book kind p []) 0 cut → ShowsNone cut
+pub none_contradicts : (kind : Kind) (p : Program) (i : IsProgram p) (cut : Stored) → IsMadeAbout (book kind p []) 0 cut → ShowsNone cut
     → (x : ℕ → ℕ → ℚ) → Feasible (view_in kind p) x → ⊥
 none_contradicts kind p i cut made shows x f =
     let y = root_is_worth kind p cut i made in

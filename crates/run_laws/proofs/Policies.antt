@@ -63,17 +63,17 @@ adds_up trial point along e j = once_one (coefficient along j) (coefficient tria
 pub datum_is : (kind : Kind) (p : Program) (n : ℕ) (version : Version) → IsDatumIn (view_in kind p) n (datum_in kind p n version)
 datum_is kind p n version = record { cost = refl; rows = refl; bounds = refl; shares = refl }
 
-own_children : (p : Program) → IsProgram p → (n : ℕ) → Lives p n → children_in (frame_of p) n ≡ children (view_of p) n
+pub own_children : (p : Program) → IsProgram p → (n : ℕ) → Lives p n → children_in (frame_of p) n ≡ children (view_of p) n
 own_children p i n l = let step : 0 + n ≡ n = omega arith in
     children_at (map position_of p.nodes) 0 n (map position_of p.nodes) (omega (arith, length-map p.nodes position_of, passes-within is_live n p.nodes l))
     ∙ ap (children_of (map position_of p.nodes)) step ∙ children_are p i n
 
-children_same : (kind : Kind) (p : Program) (n : ℕ) → children (view_in kind p) n ≡ children (view_of p) n
+pub children_same : (kind : Kind) (p : Program) (n : ℕ) → children (view_in kind p) n ≡ children (view_of p) n
 children_same run_kind.Feasible p n = refl
 children_same run_kind.Recession p n = refl
 children_same run_kind.Cost p n = refl
 
-each_found : {A : Type 0} (P : A → Type 0) (xs : List A) (x : A) → Each P xs → Contains xs x → P x
+pub each_found : {A : Type 0} (P : A → Type 0) (xs : List A) (x : A) → Each P xs → Contains xs x → P x
 each_found P [] x h c = absurd (omega (arith, c.1))
 each_found {A} P (y ∷ ys) x h (zero, less, e) = subst P e h.0
 each_found {A} P (y ∷ ys) x h (suc i, less, e) = each_found P ys x h.1 (i, omega (arith, less), e)

@@ -1,5 +1,5 @@
 -- The pools of both banks through the steps of runs: each is of its node, no edit touched it, and its number stays low.
-use Rattle.std.proofs.Common.{◌≡◌, ℕ, zero, suc, ◌+◌, ◌<◌, ◌≤◌, ◌⊎◌, inl, inr, Bool, true, false, ◌&&◌, List, [], ◌∷◌, ◌++◌, Option, Some, None, Result, Ok, Err, IfSome, get_or, slice_get, slice_index_or, refl, sym, ap, ap₂, subst, ◌∙◌, arith, eq-eqb}
+use Rattle.std.proofs.Common.{◌≡◌, ℕ, zero, suc, ◌+◌, ◌<◌, ◌≤◌, ◌⊎◌, inl, inr, Bool, true, false, ◌&&◌, List, [], ◌∷◌, ◌++◌, Option, Some, None, Result, Ok, Err, IfSome, is_none, get_or, slice_get, slice_index_or, refl, sym, ap, ap₂, subst, ◌∙◌, arith, eq-eqb}
 use Rattle.std.specs.List.{Contains}
 use Rattle.std.proofs.lemmas.Bool.{lt-ltb, cases_eq}
 use Rattle.scen_defs.specs.Lists.{pick, passes_at}
@@ -61,7 +61,7 @@ bank_of Recession = Cone
 bank_of Cost = Plain
 
 -- a change of the pools of a run leaves the other bank
-with_in : (kind : Kind) (bank : Bank) (pools : List Held) (b : Banks)
+pub with_in : (kind : Kind) (bank : Bank) (pools : List Held) (b : Banks)
     → ((pools_in bank (with_pools kind pools b) ≡ pools) × (pools_in bank b ≡ pools_of kind b)) ⊎ (pools_in bank (with_pools kind pools b) ≡ pools_in bank b)
 with_in Feasible Plain pools b = inl (refl, refl)
 with_in Feasible Cone pools b = inr refl
@@ -324,3 +324,48 @@ first_at kind p tree versions dual cuts h = at_places 0 cuts (λ i cut e. go i c
         ∙ ap (λ (s : Source). s.node) (parts (datum_in kind p i (version_of versions i)) (get_or tree.chances.totals i zero_ℚ) dual
         (cuts_there cuts (children_in (frame_of p) i)) c walk).1
         ∙ (let q : i ≡ 0 + i = omega arith in q)
+
+-- ---- the pools take the cuts that a run begins with
+takes_first : (most : ℕ) (pools : List Held) (cut : Stored) (n : ℕ) → PoolStands most pools n → (source_of cut).node ≡ n
+    → most < 18446744073709551615 → passes_at (may_put cut) n pools ≡ true
+takes_first most pools cut n h at small = there pools n h.there
+  where
+    passes : may_put cut h.pool ≡ true
+    passes = ap₂ ◌&&◌
+        (ap₂ ◌&&◌ (eq-eqb h.pool.node (source_of cut).node (h.node ∙ sym at)) (lt-ltb h.pool.number 18446744073709551615 (omega (arith, h.few, small))))
+        (ap (λ (o : Option Stamp). is_none o) (ap (λ ts. first_stale ts (support cut)) h.known ∙ none_known (support cut)))
+
+    there : (ps : List Held) (k : ℕ) → slice_get ps k ≡ Some h.pool → passes_at (may_put cut) k ps ≡ true
+    there [] k e = absurd (cc)
+    there (p ∷ ps) zero e = let same : p ≡ h.pool = cc in ap (may_put cut) same ∙ passes
+    there (p ∷ ps) (suc k) e = there ps k e
+
+pub can_put_all : (kind : Kind) (k : ℕ) (places : List (Option Stored)) (b : Banks) (most : ℕ) → AreAt k places → most < 18446744073709551615
+    → ((i : ℕ) (cut : Stored) → slice_index_or places i None ≡ Some cut → PoolStands most (pools_of kind b) (k + i))
+    → CanPutCuts kind places b
+can_put_all kind k [] b most at small stands = tt
+can_put_all kind k (place ∷ places) b most at small stands = (
+  own place at.0 (λ cut e. stands 0 cut e),
+  can_put_all kind (suc k) places (put_cut kind place b) most at.1 small (λ i cut e. later place at.0 i (stands (suc i) cut e)),
+)
+  where
+    in_pool : (cut : Stored) (n : ℕ) → (source_of cut).node ≡ n → n ≡ k + 0 → PoolStands most (pools_of kind b) (k + 0) → CanPutInPool kind n cut b
+    in_pool cut zero e q h = tt
+    in_pool cut (suc n) e q h =
+        takes_first most (pools_of kind b) cut (suc n) (subst (PoolStands most (pools_of kind b)) (sym q) h) e small
+
+    own : (o : Option Stored) → IfSome o (λ c. (source_of c).node ≡ k)
+        → ((cut : Stored) → o ≡ Some cut → PoolStands most (pools_of kind b) (k + 0)) → CanPutCut kind o b
+    own None a f = tt
+    own (Some cut) a f = in_pool cut (source_of cut).node refl (omega (arith, a)) (f cut refl)
+
+    later : (o : Option Stored) → IfSome o (λ c. (source_of c).node ≡ k) → (i : ℕ) → PoolStands most (pools_of kind b) (k + suc i)
+        → PoolStands most (pools_of kind (put_cut kind o b)) (suc k + i)
+    later None a i h = let q : k + suc i ≡ suc k + i = omega arith in subst (PoolStands most (pools_of kind b)) q h
+    later (Some cut) a i h =
+        let q : k + suc i ≡ suc k + i = omega arith in
+        subst (PoolStands most (pools_of kind (put_in_pool kind (source_of cut).node cut b))) q
+        (stays_there most (pools_of kind b) (pools_of kind (put_in_pool kind (source_of cut).node cut b)) (k + suc i)
+        (ap (λ ps. slice_get ps (k + suc i)) (sym (of_kind kind (put_in_pool kind (source_of cut).node cut b)))
+        ∙ put_other kind (source_of cut).node cut b (bank_of kind) (k + suc i) (λ e. omega (arith, e, a))
+        ∙ ap (λ ps. slice_get ps (k + suc i)) (of_kind kind b)) h)

@@ -57,6 +57,7 @@ stands_too p tree s m k tm tk h = record {
         cuts = λ z. b.cuts (a.read c z);
         offered = b.offered;
         lower = b.lower;
+        root = b.root;
       };
   nones = λ n l c q.
       let a : Agree m k n = agree p s m k tm tk n l in

@@ -48,7 +48,7 @@ use Rattle.policy_laws.proofs.Costs.{joined_points_cost}
 use Rattle.run_laws.proofs.Standing.{Known, known_of, PoolStands, runs_before, HasFirstCuts, HasMember, IsAtLeast, IsAbove, ShowsNone, HasLast, HasNone, EndsHold, HasCost, StandsBy}
 use Rattle.run_laws.proofs.Turned.{IsTurned, turned}
 use Rattle.run_laws.proofs.Places.{last_set, last_other, last_long, trial_same, PoolsGo, member_goes, reads_same}
-use Rattle.run_laws.proofs.Moved.{known, LowerGoes, NowhereGoes, lower_stays, turns_leave, turns_leave_none}
+use Rattle.run_laws.proofs.Moved.{known, RootGoes, NowhereGoes, root_stays, turns_leave, turns_leave_none}
 use Rattle.run_laws.proofs.Ends.{cheaper_most, cheaper_holds, greater_most, greater_holds}
 use Rattle.run_laws.proofs.Offered.{pools_go, bound_held, ray_held}
 use Rattle.run_laws.proofs.PoolSteps.{weaker, offers_stand}
@@ -65,7 +65,7 @@ pub record IsKept (la lb : List (Option Last)) (n : ℕ) (trial x : List Entry) 
   pub sum : add_scaled_walk trial one_ℚ x ≡ Ok along
   pub is : with_last la n (Some (record { point = x; along = along })) ≡ lb
 
-kept_is : (la lb : List (Option Last)) (n : ℕ) (trial x : List Entry) → kept la n trial x ≡ Ok lb → IsKept la lb n trial x
+pub kept_is : (la lb : List (Option Last)) (n : ℕ) (trial x : List Entry) → kept la n trial x ≡ Ok lb → IsKept la lb n trial x
 kept_is la lb n trial x e =
     let a = value_ok (λ (along : List Entry). with_last la n (Some (record { point = x; along = along }))) (add_scaled_walk trial one_ℚ x) lb e in
     record { along = a.0; sum = a.1.0; is = a.1.1 }
@@ -116,6 +116,16 @@ policy_lower run_kind.Feasible e found = refl
 policy_lower run_kind.Recession e found = refl
 policy_lower run_kind.Cost e found = refl
 
+policy_root : (kind : Kind) (e : Ends) (found : Priced) → (after_policy kind e found).root ≡ e.root
+policy_root run_kind.Feasible e found = refl
+policy_root run_kind.Recession e found = refl
+policy_root run_kind.Cost e found = refl
+
+policy_direction : (kind : Kind) (e : Ends) (found : Priced) → kind ≡ run_kind.Recession → (after_policy kind e found).direction ≡ Some found
+policy_direction run_kind.Feasible e found k = absurd (cc)
+policy_direction run_kind.Recession e found k = refl
+policy_direction run_kind.Cost e found k = absurd (cc)
+
 policy_nowhere : (kind : Kind) (e : Ends) (found : Priced) → (after_policy kind e found).nowhere ≡ e.nowhere
 policy_nowhere run_kind.Feasible e found = refl
 policy_nowhere run_kind.Recession e found = refl
@@ -149,11 +159,11 @@ policy_holds p run_kind.Cost e found h f = record {
 }
 
 -- ---- at the root there is no trial
-plain_value : (c : Stored) → value_at_trial c [] ≡ constant_of c
+pub plain_value : (c : Stored) → value_at_trial c [] ≡ constant_of c
 plain_value c = ap (λ z. constant_of c +ℚ z) (sum-ext _ (λ (e : Entry). zero_ℚ) (λ (e : Entry). mul_zero_ℚ e.value) (form_of c) ∙ sum-zero (form_of c))
     ∙ add_zero_ℚ (constant_of c)
 
-no_trial : (lasts : List (Option Last)) (frame : Frame) (n : ℕ) → n ≡ 0 → trial_of lasts (parent_in frame n) ≡ []
+pub no_trial : (lasts : List (Option Last)) (frame : Frame) (n : ℕ) → n ≡ 0 → trial_of lasts (parent_in frame n) ≡ []
 no_trial lasts frame zero e = refl
 no_trial lasts frame (suc n) e = absurd (omega (arith, e))
 
@@ -238,14 +248,20 @@ module _ (p : Program) (tree : Tree) (i : IsProgram p) (t : tree_walk p ≡ Ok t
     lower_same true h = ap (λ (e : Ends). e.lower) h.ends ∙ policy_lower old.kind (ends_behind old.kind n value cut old.ends) _
     lower_same false h = ap (λ (e : Ends). e.lower) h
 
+    root_same : (b : Bool) → TakesComplete b p tree old.kind new.lasts.nodes.items (ends_behind old.kind n value cut old.ends) new.ends
+        → new.ends.root ≡ (ends_behind old.kind n value cut old.ends).root
+    root_same true h = ap (λ (e : Ends). e.root) h.ends ∙ policy_root old.kind (ends_behind old.kind n value cut old.ends) _
+    root_same false h = ap (λ (e : Ends). e.root) h
+
     nowhere_same : (b : Bool) → TakesComplete b p tree old.kind new.lasts.nodes.items (ends_behind old.kind n value cut old.ends) new.ends
         → new.ends.nowhere ≡ old.ends.nowhere
     nowhere_same true h = ap (λ (e : Ends). e.nowhere) h.ends ∙ policy_nowhere old.kind (ends_behind old.kind n value cut old.ends) _
         ∙ nowhere_behind old.kind n value cut old.ends
     nowhere_same false h = ap (λ (e : Ends). e.nowhere) h ∙ nowhere_behind old.kind n value cut old.ends
 
-    goes : (j : ℕ) → (j ≡ n → ⊥) → j ≡ 0 → LowerGoes old.kind old.ends new.ends
-    goes j ne z = lower_stays old.kind old.ends new.ends
+    goes : (j : ℕ) → (j ≡ n → ⊥) → j ≡ 0 → RootGoes old.kind old.ends new.ends
+    goes j ne z = root_stays old.kind old.ends new.ends
+        (root_same new.table.complete left.ends ∙ ap (λ (e : Ends). e.root) (lower_behind old.kind n value cut old.ends (λ q. ne (z ∙ sym q))))
         (lower_same new.table.complete left.ends ∙ ap (λ (e : Ends). e.lower) (lower_behind old.kind n value cut old.ends (λ q. ne (z ∙ sym q))))
 
     own_offered : (o : Option Stored) → HasCut task value answer.m o → OffersCut old.kind n o task.trial old.banks new.banks → 0 < n → (c : Stored) → o ≡ Some c
@@ -263,6 +279,42 @@ module _ (p : Program) (tree : Tree) (i : IsProgram p) (t : tree_walk p ≡ Ok t
     has_cut : (o : Option Stored) → HasCut task value answer.m o → old.kind ≡ run_kind.Cost → (c : Stored) × (o ≡ Some c)
     has_cut None h e = let q : false ≡ true = sym h ∙ ap is_priced (is_task.kind ∙ e) in absurd (cc)
     has_cut (Some c) h e = (c, refl)
+
+    -- the root's value is the constant of its cut
+    root_worth : (o : Option Stored) → HasCut task value answer.m o → n ≡ 0 → (c : Stored) → o ≡ Some c
+        → (value ≡ constant_of c) × ((source_of c).kind ≡ Bound)
+    root_worth None h z c e = absurd (cc)
+    root_worth (Some d) h z c e =
+        let same : d ≡ c = cc in
+        let trial : task.trial ≡ [] = is_task.trial ∙ no_trial old.lasts.nodes.items old.frame n z in (
+          sym h.value_is ∙ ap (value_at_trial d) trial ∙ plain_value d ∙ ap constant_of same,
+          subst (λ (x : Stored). (source_of x).kind ≡ Bound) same (ap (λ (s : Source). s.kind) h.cut_of.source),
+        )
+
+    -- of a Recession run it is kept
+    own_root : old.kind ≡ run_kind.Recession → n ≡ 0
+        → (c : Stored) × ((new.ends.root ≡ Some c) × (value ≡ constant_of c) × ((source_of c).kind ≡ Bound))
+    own_root k z = go cut refl answer.has_cut
+      where
+        kept_root : (kind : Kind) (j : ℕ) (c : Stored) → kind ≡ run_kind.Recession → j ≡ 0 → (ends_behind kind j value (Some c) old.ends).root ≡ Some c
+        kept_root run_kind.Feasible j c k z = absurd (cc)
+        kept_root run_kind.Recession zero c k z = refl
+        kept_root run_kind.Recession (suc j) c k z = absurd (omega (arith, z))
+        kept_root run_kind.Cost j c k z = absurd (cc)
+
+        go : (o : Option Stored) → cut ≡ o → HasCut task value answer.m o
+            → (c : Stored) × ((new.ends.root ≡ Some c) × (value ≡ constant_of c) × ((source_of c).kind ≡ Bound))
+        go None e h = let q : false ≡ true = sym h ∙ ap is_priced (is_task.kind ∙ k) in absurd (cc)
+        go (Some c) e h =
+            let w = root_worth (Some c) h z c refl in (
+              c,
+              (
+                root_same new.table.complete left.ends ∙ ap (λ (o : Option Stored). (ends_behind old.kind n value o old.ends).root) e
+                    ∙ kept_root old.kind n c k z,
+                w.0,
+                w.1,
+              ),
+            )
 
     own_lower : old.kind ≡ run_kind.Cost → n ≡ 0 → (b : Bounded) × ((new.ends.lower ≡ Some b) × (value ≤ℚ b.value))
     own_lower e z = let c = has_cut cut answer.has_cut e in let b = root_lower old.kind n value cut old.ends e z c.0 c.1 in
@@ -285,6 +337,7 @@ module _ (p : Program) (tree : Tree) (i : IsProgram p) (t : tree_walk p ≡ Ok t
           (λ c at. pools.others c (λ e. let child = (children n (table.machine.live n ∙ live) c).1 at in not_own (subst (λ (z : ℕ). 0 < z) e child.lower) (ap (λ (g : ℕ → ℕ). g n) (sym table.machine.parent) ∙ subst (λ (z : ℕ). m.parent z ≡ n) e child.parent))));
       offered = λ low c e. own_offered cut answer.has_cut left.banks low c e;
       lower = own_lower;
+      root = own_root;
     }
 
     lasts_behind : (j : ℕ) → IsLive k j → 0 < (k.last j).commit → HasPoint k j
@@ -315,17 +368,7 @@ module _ (p : Program) (tree : Tree) (i : IsProgram p) (t : tree_walk p ≡ Ok t
     meets c = all_meet p i (known old.kind old.frame old.versions new.lasts.nodes.items new.banks new.ends) k frame behind.machine.live lasts_behind c
 
     middle_holds : EndsHold p (ends_behind old.kind n value cut old.ends)
-    middle_holds = ends_at old.kind n value cut old.ends p stands.ends (λ z c e. go cut answer.has_cut z c e)
-      where
-        go : (o : Option Stored) → HasCut task value answer.m o → n ≡ 0 → (c : Stored) → o ≡ Some c
-            → (value ≡ constant_of c) × ((source_of c).kind ≡ Bound)
-        go None h z c e = absurd (cc)
-        go (Some d) h z c e =
-            let same : d ≡ c = cc in
-            let trial : task.trial ≡ [] = is_task.trial ∙ no_trial old.lasts.nodes.items old.frame n z in (
-              sym h.value_is ∙ ap (value_at_trial d) trial ∙ plain_value d ∙ ap constant_of same,
-              subst (λ (x : Stored). (source_of x).kind ≡ Bound) same (ap (λ (s : Source). s.kind) h.cut_of.source),
-            )
+    middle_holds = ends_at old.kind n value cut old.ends p stands.ends (λ z c e. root_worth cut answer.has_cut z c e)
 
     ends_hold : (b : Bool) → new.table.complete ≡ b
         → TakesComplete b p tree old.kind new.lasts.nodes.items (ends_behind old.kind n value cut old.ends) new.ends → EndsHold p new.ends
@@ -347,6 +390,10 @@ module _ (p : Program) (tree : Tree) (i : IsProgram p) (t : tree_walk p ≡ Ok t
       upper = λ ne. let u = policy_upper old.kind (ends_behind old.kind n value cut old.ends)
           (record { cost = h.cost; policy = joined_points new.lasts.nodes.items }) ne in
           (u.0, (ap (λ (e : Ends). e.upper) h.ends ∙ u.1.0, u.1.1));
+      direction = λ k. (
+        record { cost = h.cost; policy = joined_points new.lasts.nodes.items },
+        (ap (λ (e : Ends). e.direction) h.ends ∙ policy_direction old.kind (ends_behind old.kind n value cut old.ends) _ k, refl),
+      );
     }
     has_cost false e c h = let q : false ≡ true = sym e ∙ behind.fits.complete.1 c in absurd (cc)
 
@@ -407,8 +454,12 @@ module _ (p : Program) (tree : Tree) (i : IsProgram p) (t : tree_walk p ≡ Ok t
     nowhere_goes : NowhereGoes old.ends new.ends
     nowhere_goes c e z = let d = without_nowhere n refl c e z in (d.0, (ap (λ (e : Ends). e.nowhere) left.ends ∙ d.1.0, d.1.1))
 
-    no_goes : (j : ℕ) → (j ≡ n → ⊥) → j ≡ 0 → LowerGoes old.kind old.ends new.ends
-    no_goes j ne z = lower_stays old.kind old.ends new.ends (ap (λ (e : Ends). e.lower) left.ends ∙ without_lower n)
+    without_root : (j : ℕ) → (ends_without j cut old.ends).root ≡ old.ends.root
+    without_root zero = refl
+    without_root (suc j) = refl
+
+    no_goes : (j : ℕ) → (j ≡ n → ⊥) → j ≡ 0 → RootGoes old.kind old.ends new.ends
+    no_goes j ne z = root_stays old.kind old.ends new.ends (ap (λ (e : Ends). e.root) left.ends ∙ without_root n) (ap (λ (e : Ends). e.lower) left.ends ∙ without_lower n)
 
     own_none : HasNone p (known old.kind old.frame old.versions new.lasts.nodes.items new.banks new.ends) k n
     own_none = record {

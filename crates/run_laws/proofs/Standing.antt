@@ -84,7 +84,7 @@ IsAbove trial cut = ((source_of cut).kind ≡ Ray) × (zero_ℚ <ℚ value_at_tr
 
 -- node n's last solve found a point: the program that was solved, and its answer. Where it was made at the values above it as they are,
 -- they are its trial; where the children's pools are as they were read, it has their cuts; its own cut was offered, or one of at least the
--- value stands there; and of the root in a Cost run the lower end is at least the value
+-- value stands there; of the root in a Cost run the lower end is at least the value, and in a Recession run its cut is kept
 pub record HasLast (p : Program) (w : Known) (m : Machine) (n : ℕ) : Type 0 where
   pub last : Last
   pub there : last_at w.lasts n ≡ Some last
@@ -100,6 +100,7 @@ pub record HasLast (p : Program) (w : Known) (m : Machine) (n : ℕ) : Type 0 wh
   pub cuts : AreRead m n → map cuts_of task.children.items ≡ cuts_read (pools_in w) (children_in w.frame n)
   pub offered : 0 < n → (c : Stored) → cut ≡ Some c → HasMember (pools_in w) n (IsAtLeast task.trial value)
   pub lower : w.kind ≡ Cost → n ≡ 0 → (b : Bounded) × ((w.ends.lower ≡ Some b) × (value ≤ℚ b.value))
+  pub root : w.kind ≡ Recession → n ≡ 0 → (c : Stored) × ((w.ends.root ≡ Some c) × (value ≡ constant_of c) × ((source_of c).kind ≡ Bound))
 
 -- a Ray cut about the root that is above 0
 abbrev pub ShowsNone : Stored → Type 0
@@ -117,11 +118,12 @@ pub record EndsHold (p : Program) (e : Ends) : Type 0 where
   pub upper : IfSome e.upper (λ u. Feasible (view_of p) (at u.policy) × (cost (view_of p) (at u.policy) ≡ u.cost))
   pub lower : IfSome e.lower (λ l. (l.value ≡ constant_of l.cut) × ((source_of l.cut).kind ≡ Bound))
 
--- what the points of all nodes cost is known, and the upper end is at most that; a Recession run has none of its own
+-- what the points of all nodes cost is known, and the upper end is at most that; a Recession run has none of its own, but a direction
 pub record HasCost (p : Program) (tree : Tree) (w : Known) : Type 0 where
   pub cost : ℚ
   pub costs : joined_cost p.nodes tree.chances.totals w.lasts ≡ Ok cost
   pub upper : (w.kind ≡ Recession → ⊥) → (u : Priced) × ((w.ends.upper ≡ Some u) × (u.cost ≤ℚ cost))
+  pub direction : w.kind ≡ Recession → (u : Priced) × ((w.ends.direction ≡ Some u) × (u.cost ≡ cost))
 
 -- how many runs were opened before one of this kind
 abbrev pub runs_before : Kind → ℕ

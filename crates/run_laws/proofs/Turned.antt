@@ -82,3 +82,15 @@ turn_commits m k valid idle turn =
     let reads = turn_reads m turn.node turn.children valid idle turn.next in
     ends_commits (read_each (begun m 0 turn.node) (first_flight m turn.node) turn.children)
     (read_by_each m.number (first_flight m turn.node) turn.children) turn.added k turn.ends ∙ ap (λ (x : ℕ). x + 1) reads.commits
+
+-- in the same run
+ends_run : (m : Machine) (f : Flight) (added : Bool) (k : Machine) → EndsTurn m f added k → k.run ≡ m.run
+ends_run m f added k drops = refl
+ends_run m f added k (commits point) = refl
+ends_run m f added k (adds point low) = refl
+
+pub turn_run : (m k : Machine) → IsValid m → IsIdle m → TakesTurn m k → k.run ≡ m.run
+turn_run m k valid idle turn =
+    ends_run (read_each (begun m 0 turn.node) (first_flight m turn.node) turn.children)
+    (read_by_each m.number (first_flight m turn.node) turn.children) turn.added k turn.ends
+    ∙ (turn_reads m turn.node turn.children valid idle turn.next).run

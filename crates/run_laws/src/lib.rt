@@ -2,6 +2,9 @@
 #![tactic(auto)]
 
 ghost use Rattle.run_laws.specs.Laws.{ClosedRunsMeet, RunsGoOn, EndsAreSettled, NeverRefuses};
+ghost use Rattle.run_laws.specs.Finished.{EndsAreFinished};
+ghost use Rattle.run_laws.specs.Settled.{SettledClaimsHold};
+ghost use Rattle.run_laws.specs.Stuck.{SolvesAreUsed, OpeningsAreMade, NeverStuck};
 
 /// A closed Cost run that nothing stops has both ends, and they are equal: the least cost is found.
 pub fn closed_runs_meet()
@@ -21,4 +24,29 @@ pub fn ends_are_settled()
 /// A cut that a solve gives is never refused by the pool of its node.
 pub fn never_refuses()
     ensures { NeverRefuses }
+{}
+
+/// While something is left to find the method is never stuck behind a solve.
+pub fn solves_are_used()
+    ensures { SolvesAreUsed }
+{}
+
+/// Nor is it before the run behind a closed one, which opens.
+pub fn openings_are_made()
+    ensures { OpeningsAreMade }
+{}
+
+/// So what stops the method is never told as a number of solves, as it would be where it is stuck.
+pub fn never_stuck()
+    ensures { NeverStuck }
+{}
+
+/// Where a run shows its finding, what is claimed of the program holds, unless an operation passes in the assembly of its multipliers.
+pub fn settled_claims_hold()
+    ensures { SettledClaimsHold }
+{}
+
+/// A report is left open by the number of solves only where they are spent.
+pub fn ends_are_finished()
+    ensures { EndsAreFinished }
 {}

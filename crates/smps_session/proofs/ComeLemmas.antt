@@ -1,5 +1,5 @@
 -- How a report comes of the method.
-use Rattle.std.proofs.Common.{◌≡◌, ◌<◌, ◌≤◌, ℕ, ◌+◌, ◌^◌, ◌⊎◌, inl, inr, ◌&&◌, not, Bool, true, false, length, Result, Ok, Err, IfOk, OnOk, refl, sym, ap, subst, ◌∙◌, arith}
+use Rattle.std.proofs.Common.{◌≡◌, ◌<◌, ◌≤◌, ℕ, ◌+◌, ◌^◌, ◌⊎◌, inl, inr, ◌&&◌, not, Bool, true, false, Result, Ok, Err, IfOk, refl, sym, ap, subst, ◌∙◌, arith}
 use Rattle.std.proofs.lemmas.Bool.{leb-true, leb-false}
 use Rattle.scen_defs.specs.Program.{content, view_of}
 use Rattle.scen_defs.specs.Valid.{IsProgram}
@@ -8,30 +8,38 @@ use Rattle.scen_defs.specs.declared.program.Program.{Program}
 use Rattle.scen_defs.specs.declared.report.Finding.{Finding}
 use Rattle.scen_defs.specs.declared.report.Finding.TheVariants.{Optimal, Infeasible, Unbounded, OpenSolves, OpenPivots, OpenPassed}
 use Rattle.scen_defs.specs.declared.report.Place.{Place}
-use Rattle.scen_defs.specs.declared.report.Place.TheVariants.{Solve, Cost}
+use Rattle.scen_defs.specs.declared.report.Place.TheVariants.{Solve, Cut, Cost, Ground, Dual}
 use Rattle.scen_defs.specs.declared.report.Report.{Report}
 use Rattle.proved_report.specs.declared.claim.Claim.{Claim}
+use Rattle.proved_report.specs.declared.claim.Claim.TheVariants.{Ends, Nowhere, Endless}
 use Rattle.proved_report.specs.declared.open.Open.{Open}
-use Rattle.proved_report.specs.declared.open.Open.TheVariants.{Pivots}
+use Rattle.proved_report.specs.declared.open.Open.TheVariants.{Pivots, Passed as PassedAt}
 use Rattle.proved_report.specs.Open.{given}
-use Rattle.proved_report.specs.Reports.{claimed_report, IsClaimed}
+use Rattle.proved_report.specs.Reports.{IsClaimed}
 use Rattle.proved_report.proofs.PassingLemmas.{by_claim}
+use Rattle.claim_laws.specs.Held.{PassesInClaim}
+use Rattle.claim_laws.proofs.Unsettled.{passes_are_met}
 use Rattle.node_lp.specs.declared.solved.Solved.TheVariants.{PivotsEnded, Passed}
 use Rattle.rationals.specs.Passes.{Operation}
 use Rattle.pass_core.specs.declared.budget.Budget.{Budget}
 use Rattle.pass_core.specs.declared.state.Counts.{Counts}
 use Rattle.pass_core.specs.declared.state.State.{State}
+use Rattle.pass_core.specs.Beginning.{IsBeginning}
+use Rattle.pass_core.specs.Reasons.{HasReason}
+use Rattle.run_ends.specs.Claims.{EndsAssembly}
 use Rattle.pass_core.specs.Counting.{one_solve_more}
 use Rattle.tree_method.specs.declared.found.Found.{Found}
 use Rattle.tree_method.specs.declared.method.Method.{Method}
 use Rattle.tree_method.specs.declared.method.Method.TheVariants.{Working as AtWork, Idle}
 use Rattle.tree_method.specs.declared.method.Working.{Working}
-use Rattle.tree_method.specs.Stands.{HasFewNodes, StandsOn, Begins, HasSolve, StandsCleared, EndsAt, closing}
-use Rattle.tree_method.specs.Stands.{FindsBySolves, WorksAnew, WorksBySteps, is_spent, after_telling}
+use Rattle.tree_method.specs.Stands.{HasFewNodes, WorksOn, StandsOn, Begins, HasSolve, StandsCleared, EndsAt, closing}
+use Rattle.tree_method.specs.Stands.{CutPasses, CostPasses, OpeningPasses, FindsBySolves, WorksAnew, WorksBySteps, is_spent, after_telling}
 use Rattle.tree_method.proofs.StandLemmas.{more_counted, solves_behind}
-use Rattle.tree_method.proofs.Numbers.{pivots_arise, pass_arises, closing_pivots, closing_passed, told_cleared}
+use Rattle.tree_method.proofs.Numbers.{pivots_arise, pass_arises, cut_arises, cost_arises, opening_arises, closing_pivots, closing_passed}
+use Rattle.tree_method.proofs.Numbers.{closing_dual, told_cleared}
+use Rattle.run_laws.proofs.Finished.{ends_are_finished}
 use Rattle.smps_session.specs.Reasons.{told_reasons}
-use Rattle.smps_session.specs.Comes.{tells_solves, is_unfinished, ShowsClosing, ShowsFound, ComesOf, ComesOfAll}
+use Rattle.smps_session.specs.Comes.{tells_solves, is_unfinished, ShowsClosing, ShowsFound, PassesInTestOf, ComesOf, ComesOfAll}
 
 -- ---- what is found and tested
 claimed_so : (program : Program) (number solves : ℕ) (place place' : Place) (why why' : Open) (claim claim' : Claim) (report : Report)
@@ -45,7 +53,8 @@ shows_one : (budget : Budget) (program : Program) (old new : Method) (found : Fo
     → IsClaimed program number found.place found.why budget.solves found.claim report
     → IsTrue (view_of (content program)) (given found.why budget.solves) report → ShowsFound budget program old new report
 shows_one budget program (AtWork old) (AtWork new) found number report f ends steps n c t = record {
-  solves = f.solves;
+  solves = f.solves.solves;
+  once = λ small begins. f.solves.never;
   ends = ends;
   claimed = claimed_so program number budget.solves found.place _ found.why _ found.claim _ report n f.place f.why f.claim c;
   truth = subst (λ (why : Open). IsTrue (view_of (content program)) (given why budget.solves) report) f.why t;
@@ -73,32 +82,67 @@ pub first_counts : (method : Method) → HasCounted 0 method
 first_counts (AtWork w) = omega arith
 first_counts (Idle why own) = tt
 
-is_left : (finding : Finding) (method : Method) → is_unfinished finding method ≡ true → is_spent method ≡ false
-is_left finding method e = go (tells_solves finding) (is_spent method) refl e
+is_left : (finding : Finding) (method : Method) → is_unfinished finding method ≡ true
+    → (tells_solves finding ≡ true) × (is_spent method ≡ false)
+is_left finding method e = go (tells_solves finding) (is_spent method) refl refl e
   where
-    go : (b spent : Bool) → is_spent method ≡ spent → (b && not spent) ≡ true → is_spent method ≡ false
-    go true true s e = absurd (let no : false ≡ true = e in cc)
-    go true false s e = s
-    go false spent s e = absurd (let no : false ≡ true = e in cc)
+    go : (b spent : Bool) → tells_solves finding ≡ b → is_spent method ≡ spent → (b && not spent) ≡ true
+        → (tells_solves finding ≡ true) × (is_spent method ≡ false)
+    go true true t s e = absurd (let no : false ≡ true = e in cc)
+    go true false t s e = (t, s)
+    go false spent t s e = absurd (let no : false ≡ true = e in cc)
 
-pub left_over : (finding : Finding) (method : Method) (told : Bool) → told ≡ is_unfinished finding method → told ≡ true → is_spent method ≡ false
+pub left_over : (finding : Finding) (method : Method) (told : Bool) → told ≡ is_unfinished finding method → told ≡ true
+    → (tells_solves finding ≡ true) × (is_spent method ≡ false)
 left_over finding method told e t = is_left finding method (sym e ∙ t)
 
 pub counts_fewer : (k j : ℕ) (method : Method) → j ≤ k → HasCounted k method → HasCounted j method
 counts_fewer k j (AtWork w) less h = omega (arith, less, h)
 counts_fewer k j (Idle why own) less h = tt
 
+-- the first report of a program that was begun isn't left over
+never_left : (budget : Budget) (program : Program) (old : State) (mid : Working) (report : Report) → IsProgram (content program)
+    → HasFewNodes (content program) → WorksOn (content program) budget mid → ShowsClosing budget program old mid.state report
+    → budget.solves < 2 ^ 63 → IsBeginning (content program) budget old → (n : ℕ) → report.finding ≡ OpenSolves n
+    → mid.state.budget.solves ≤ mid.state.counts.since_report
+never_left budget program old mid report i few stands shows small begins n told =
+    ends_are_finished program mid.state report.number (Cost mid.state.counts.all) budget.solves report n
+    (record {
+      run = record {
+        program = i;
+        few = few;
+        tree = mid.tree;
+        walk = stands.tree;
+        budget = budget;
+        first = old;
+        begins = begins;
+        solves = shows.solves;
+      };
+      ends = shows.ends;
+      explained = stands.explained;
+      tabled = stands.tabled i few;
+    })
+    (subst (λ (b : Budget). b.solves < 2 ^ 63) (sym stands.budget_is) small) shows.claimed told
+
+solves_told : (finding : Finding) → tells_solves finding ≡ true → (n : ℕ) × (finding ≡ OpenSolves n)
+solves_told Optimal e = absurd (let no : false ≡ true = e in cc)
+solves_told Infeasible e = absurd (let no : false ≡ true = e in cc)
+solves_told Unbounded e = absurd (let no : false ≡ true = e in cc)
+solves_told (OpenSolves n) e = (n, refl)
+solves_told (OpenPivots k) e = absurd (let no : false ≡ true = e in cc)
+solves_told (OpenPassed place o) e = absurd (let no : false ≡ true = e in cc)
+
 -- behind one more solve, and what is found then
 pub round_counts : (budget : Budget) (program : Program) (k : ℕ) (old mid next new : Method) (report report' : Report) → budget.solves < 2 ^ 64
-    → is_spent mid ≡ false → StandsOn (content program) budget mid → IsProgram (content program) → HasFewNodes (content program)
+    → tells_solves report.finding ≡ true → is_spent mid ≡ false → StandsOn (content program) budget mid → IsProgram (content program) → HasFewNodes (content program)
     → ShowsFound budget program old mid report → HasCounted k mid → WorksAnew (content program) mid next → ShowsFound budget program next new report'
     → ShowsFound budget program old new report' × HasCounted (k + 1) new
-round_counts budget program k (Idle why own) mid next new report report' bits left stands i few shows counted works shows' =
+round_counts budget program k (Idle why own) mid next new report report' bits tells left stands i few shows counted works shows' =
     absurd (let no : true ≡ false = sym (ap is_spent shows) ∙ left in cc)
-round_counts budget program k (AtWork old) (Idle why own) next new report report' bits left stands i few shows counted works shows' = absurd shows
-round_counts budget program k (AtWork old) (AtWork mid) (Idle why own) new report report' bits left stands i few shows counted works shows' = absurd works
-round_counts budget program k (AtWork old) (AtWork mid) (AtWork next) (Idle why own) report report' bits left stands i few shows counted works shows' = absurd shows'
-round_counts budget program k (AtWork old) (AtWork mid) (AtWork next) (AtWork new) report report' bits left stands i few shows counted works shows' =
+round_counts budget program k (AtWork old) (Idle why own) next new report report' bits tells left stands i few shows counted works shows' = absurd shows
+round_counts budget program k (AtWork old) (AtWork mid) (Idle why own) new report report' bits tells left stands i few shows counted works shows' = absurd works
+round_counts budget program k (AtWork old) (AtWork mid) (AtWork next) (Idle why own) report report' bits tells left stands i few shows counted works shows' = absurd shows'
+round_counts budget program k (AtWork old) (AtWork mid) (AtWork next) (AtWork new) report report' bits tells left stands i few shows counted works shows' =
     let p = content program in
     let less : mid.state.counts.since_report < mid.state.budget.solves = leb-false mid.state.budget.solves mid.state.counts.since_report left in
     let allowed : mid.state.budget.solves ≡ budget.solves = ap (λ (b : Budget). b.solves) stands.budget_is in
@@ -109,12 +153,23 @@ round_counts budget program k (AtWork old) (AtWork mid) (AtWork next) (AtWork ne
     let later = more_counted p next.state new.state bound shows'.solves in (
       record {
         solves = solves_behind p old.state mid.state new.state shows.solves (solves_behind p mid.state next.state new.state anew.solves shows'.solves);
+        once = λ small begins.
+            let n = solves_told report.finding tells in
+            let spent = never_left budget program old.state mid report i few stands shows small begins n.0 n.1 in absurd (omega (arith, less, spent));
         ends = shows'.ends;
         claimed = shows'.claimed;
         truth = shows'.truth;
       },
       omega (arith, counted, one, later.0),
     )
+
+-- points are tested at this place, multipliers at Dual
+test_places : (program : Program) (place : Place) (claim : Claim) (told : Place) (o : Operation) → PassesInClaim program place claim told o
+    → (told ≡ place) ⊎ (told ≡ Dual)
+test_places program place (Ends policy dual) told o (inl t) = inl t.0
+test_places program place (Ends policy dual) told o (inr t) = inr t.0
+test_places program place (Nowhere ray) told o t = inr t.0
+test_places program place (Endless policy direction) told o t = inl t.0
 
 -- where the report tells the number of solves, they have ended
 abbrev pub HasEnded : Budget → Finding → Method → Type 0
@@ -142,8 +197,22 @@ pub comes_of : (budget : Budget) (program : Program) (old mid new : Method) (rep
 comes_of budget program (Idle why own) mid new report i few stands rests truth shows ended e =
     e ∙ ap after_telling shows
 comes_of budget program (AtWork old) (Idle why own) new report i few stands rests truth shows ended e = absurd shows
-comes_of budget program (AtWork old) (AtWork mid) new report i few stands rests truth shows ended e =
-    (mid, (record { shows = shows; spent = spent; pivots = pivots; passed = passed }, e))
+comes_of budget program (AtWork old) (AtWork mid) new report i few stands rests truth shows ended e = (
+  mid,
+  (
+    record {
+      shows = shows;
+      spent = spent;
+      pivots = pivots;
+      passed = passed;
+      cut = cut;
+      cost = cost;
+      ground = ground;
+      dual = dual;
+    },
+    e,
+  ),
+)
   where
     told : (finding : Finding) (n : ℕ) → finding ≡ OpenSolves n → Explains (view_of (content program)) (told_reasons program budget) report finding → n ≡ budget.solves
     told finding n e t = subst (Explains (view_of (content program)) (told_reasons program budget) report) e t
@@ -167,8 +236,54 @@ comes_of budget program (AtWork old) (AtWork mid) new report i few stands rests 
         let because = by_claim program o (Solve k) s.counts.all report.number report.nodes report.scenarios budget.solves (closing s).why (closing s).claim
         (sym (ap (λ (r : Report). r.finding) shows.claimed.is) ∙ f) in
         elim because [
-          | inl w ↦ pass_arises (content program) old.state s k o shows.solves rests (closing_passed s k o w)
+          | inl w ↦ pass_arises (content program) old.state s k o shows.solves rests (closing_passed s (Solve k) o (λ q. cc) w)
           | inr t ↦ absurd t
+        ]
+
+    -- an operation that is told is the reason, or one of the test
+    told_at : (place : Place) (o : Operation) → report.finding ≡ OpenPassed place o
+        → ((closing mid.state).why ≡ PassedAt place o) ⊎ PassesInTestOf program mid.state place o
+    told_at place o f =
+        let s = mid.state in
+        passes_are_met program report.number (Cost s.counts.all) (closing s).why budget.solves (closing s).claim report place o shows.claimed f
+
+    cut : (k : ℕ) (o : Operation) → report.finding ≡ OpenPassed (Cut k) o
+        → HasReason old.state (PassedAt (Cut k) o) ⊎ CutPasses (content program) k o old.state mid.state
+    cut k o f =
+        elim (told_at (Cut k) o f) [
+          | inl w ↦ cut_arises (content program) old.state mid.state k o shows.solves (closing_passed mid.state (Cut k) o (λ q. cc) w)
+          | inr t ↦ elim (test_places program (Cost mid.state.counts.all) (closing mid.state).claim (Cut k) o t) [
+            | inl q ↦ absurd (cc)
+            | inr q ↦ absurd (cc)
+          ]
+        ]
+
+    cost : (k : ℕ) (o : Operation) → report.finding ≡ OpenPassed (Cost k) o
+        → HasReason old.state (PassedAt (Cost k) o) ⊎ CostPasses (content program) k o old.state mid.state
+        ⊎ PassesInTestOf program mid.state (Cost k) o
+    cost k o f =
+        elim (told_at (Cost k) o f) [
+          | inl w ↦ elim (cost_arises (content program) old.state mid.state k o shows.solves
+              (closing_passed mid.state (Cost k) o (λ q. cc) w)) [ inl h ↦ inl h | inr c ↦ inr (inl c) ]
+          | inr t ↦ inr (inr t)
+        ]
+
+    ground : (o : Operation) → report.finding ≡ OpenPassed Ground o → OpeningPasses (content program) o old.state mid.state
+    ground o f =
+        elim (told_at Ground o f) [
+          | inl w ↦ opening_arises (content program) old.state mid.state o shows.solves rests (closing_passed mid.state Ground o (λ q. cc) w)
+          | inr t ↦ elim (test_places program (Cost mid.state.counts.all) (closing mid.state).claim Ground o t) [
+            | inl q ↦ absurd (cc)
+            | inr q ↦ absurd (cc)
+          ]
+        ]
+
+    dual : (o : Operation) → report.finding ≡ OpenPassed Dual o
+        → EndsAssembly mid.state.ends o ⊎ PassesInTestOf program mid.state Dual o
+    dual o f =
+        elim (told_at Dual o f) [
+          | inl w ↦ inl (closing_dual (content program) old.state mid.state o shows.solves rests w)
+          | inr t ↦ inr t
         ]
 
 -- and its reasons are cleared behind it

@@ -21,7 +21,7 @@ use Rattle.smps_session.specs.declared.told.Told.{Told}
 use Rattle.proved_report.specs.Reports.{EqualIsOptimal}
 use Rattle.smps_session.specs.Told.{IsTold, AreTold}
 use Rattle.tree_method.specs.declared.method.Method.{Method}
-use Rattle.tree_method.specs.Stands.{HasFewNodes, WorksBySolves, GoesOn, StandsCleared}
+use Rattle.tree_method.specs.Stands.{HasFewNodes, WorksBySolves, WorksAsAsked, GoesOn, StandsCleared}
 use Rattle.tree_method.proofs.Numbers.{edits_cleared}
 use Rattle.smps_session.specs.Comes.{ComesOf, TakesEdit}
 use Rattle.smps_session.specs.Courses.{Course, course_at, TellsOne, IsBehind}
@@ -78,10 +78,11 @@ item_allowed p item items some first h =
     (subst (λ (xs : List Item). AreAllowed p xs) (taken_apart items item some first) h)
 
 -- what a method does at an edit
-pub takes_edit : {A E : Type 0} (result : Result A E) (p : Program) (e : Edit) (old worked new : Method)
-    → (HasFewNodes p → WorksBySolves p old worked) → OnOk result (GoesOn p e worked new) → OnOk result (TakesEdit p e old new)
-takes_edit (Ok x) p e old worked new w g = record { worked = worked; works = w; goes = g }
-takes_edit (Err x) p e old worked new w g = tt
+pub takes_edit : {A E : Type 0} (result : Result A E) (p : Program) (work : ℕ) (e : Edit) (old worked new : Method)
+    → (HasFewNodes p → WorksBySolves p old worked) → (HasFewNodes p → WorksAsAsked p work old worked) → OnOk result (GoesOn p e worked new)
+    → OnOk result (TakesEdit p work e old new)
+takes_edit (Ok x) p work e old worked new w a g = record { worked = worked; works = w; amount = a; goes = g }
+takes_edit (Err x) p work e old worked new w a g = tt
 
 -- and that its reasons are cleared behind it
 pub changed_cleared : {A E : Type 0} (result : Result A E) (p q : Program) (e : Edit) (worked new : Method) → OnOk result (q ≡ after p e)
@@ -90,25 +91,25 @@ changed_cleared (Ok x) p q e worked new a g few = edits_cleared p e worked new g
 changed_cleared (Err x) p q e worked new a g few = tt
 
 -- an item that is an edit
-changed : {A E : Type 0} (result : Result A E) (budget : Budget) (e : Edit) (p q : Program) (method method' : Method) (number number' : ℕ)
-    (tolds : List Told) → OnOk result (q ≡ after p e) → number' ≡ number → OnOk result (TakesEdit p e method method')
-    → OnOk result (IsBehind budget (Change e) (course_at p method number tolds) (course_at q method' number' tolds))
-changed (Ok x) budget e p q method method' number number' tolds h n t =
+changed : {A E : Type 0} (result : Result A E) (budget : Budget) (work : ℕ) (e : Edit) (p q : Program) (method method' : Method)
+    (number number' : ℕ) (tolds : List Told) → OnOk result (q ≡ after p e) → number' ≡ number → OnOk result (TakesEdit p work e method method')
+    → OnOk result (IsBehind budget work (Change e) (course_at p method number tolds) (course_at q method' number' tolds))
+changed (Ok x) budget work e p q method method' number number' tolds h n t =
     record { takes = t; course = ap₂ (λ (r : Program) (k : ℕ). course_at r method' k tolds) h n }
-changed (Err x) budget e p q method method' number number' tolds h n t = tt
+changed (Err x) budget work e p q method method' number number' tolds h n t = tt
 
-pub is_behind_edit : {A E : Type 0} (result : Result A E) (budget : Budget) (act : Act) (e : Edit) (p q : Program) (method method' : Method)
+pub is_behind_edit : {A E : Type 0} (result : Result A E) (budget : Budget) (work : ℕ) (act : Act) (e : Edit) (p q : Program) (method method' : Method)
     (number number' : ℕ) (tolds : List Told) → act ≡ Change e → OnOk result (q ≡ after p e) → number' ≡ number
-    → OnOk result (TakesEdit p e method method')
-    → OnOk result (IsBehind budget act (course_at p method number tolds) (course_at q method' number' tolds))
-is_behind_edit result budget act e p q method method' number number' tolds a h n t =
-    subst (λ (x : Act). OnOk result (IsBehind budget x (course_at p method number tolds) (course_at q method' number' tolds))) (sym a)
-    (changed result budget e p q method method' number number' tolds h n t)
+    → OnOk result (TakesEdit p work e method method')
+    → OnOk result (IsBehind budget work act (course_at p method number tolds) (course_at q method' number' tolds))
+is_behind_edit result budget work act e p q method method' number number' tolds a h n t =
+    subst (λ (x : Act). OnOk result (IsBehind budget work x (course_at p method number tolds) (course_at q method' number' tolds))) (sym a)
+    (changed result budget work e p q method method' number number' tolds h n t)
 
 -- and one that is a SOLVE
-pub is_behind_solve : {A E : Type 0} (result : Result A E) (budget : Budget) (act : Act) (s t : Course)
-    → act ≡ Solve → OnOk result (TellsOne budget s t) → OnOk result (IsBehind budget act s t)
-is_behind_solve result budget act s t a h = subst (λ (x : Act). OnOk result (IsBehind budget x s t)) (sym a) h
+pub is_behind_solve : {A E : Type 0} (result : Result A E) (budget : Budget) (work : ℕ) (act : Act) (s t : Course)
+    → act ≡ Solve → OnOk result (TellsOne budget s t) → OnOk result (IsBehind budget work act s t)
+is_behind_solve result budget work act s t a h = subst (λ (x : Act). OnOk result (IsBehind budget work x s t)) (sym a) h
 
 pub tells_one : (budget : Budget) (number next : ℕ) (p : Program) (method method' : Method) (told : Told) (tolds pushed : List Told)
     → IsTold budget number p method told method' → next ≡ number + 1 → pushed ≡ tolds ++ told ∷ []
@@ -134,7 +135,7 @@ begins_course budget p method items rest tolds e t h =
 
 -- one item, and then the others
 behind_one : (budget : Budget) (start : Program) (first : Method) (all items : List Item) (act : Act) (work : ℕ) (s t : Course)
-    → IsOnCourse budget start first all (record { work = work; act = act } ∷ items) s → IsBehind budget act s t
+    → IsOnCourse budget start first all (record { work = work; act = act } ∷ items) s → IsBehind budget work act s t
     → IsOnCourse budget start first all items t
 behind_one budget start first all items (Change e) work s t g h =
     subst (λ (u : Course). IsOnCourse budget start first all items u) (sym h.course)
@@ -147,7 +148,7 @@ behind_one budget start first all items Solve work s t g h =
     )
 
 pub stays_on_course : (budget : Budget) (start : Program) (first : Method) (all items : List Item) (item : Item) (s t : Course)
-    → 1 ≤ length items → item ≡ get_or items 0 item → IsOnCourse budget start first all items s → IsBehind budget item.act s t
+    → 1 ≤ length items → item ≡ get_or items 0 item → IsOnCourse budget start first all items s → IsBehind budget item.work item.act s t
     → IsOnCourse budget start first all (take (length items - 1) (drop 1 items)) t
 stays_on_course budget start first all items item s t some is g h =
     behind_one budget start first all (take (length items - 1) (drop 1 items)) item.act item.work s t

@@ -1,24 +1,30 @@
 -- How a report comes of the method: of its solves, of what it claims behind them, and of the test of that.
-use Rattle.std.specs.Prelude.{◌≡◌, ◌&&◌, ℕ, Bool, true, false, not}
+use Rattle.std.specs.Prelude.{◌≡◌, ◌⊎◌, ◌&&◌, ◌<◌, ◌^◌, ℕ, Bool, true, false, not}
 use Rattle.scen_defs.specs.Program.{Program, content, view_of}
 use Rattle.scen_defs.specs.declared.program.Program.{Program as ProgramOf}
 use Rattle.scen_defs.specs.declared.report.Finding.{Finding}
 use Rattle.scen_defs.specs.declared.report.Finding.TheVariants.{Optimal, Infeasible, Unbounded, OpenSolves, OpenPivots, OpenPassed}
-use Rattle.scen_defs.specs.declared.report.Place.TheVariants.{Solve, Cost}
+use Rattle.scen_defs.specs.declared.report.Place.{Place}
+use Rattle.scen_defs.specs.declared.report.Place.TheVariants.{Solve, Cut, Cost, Ground, Dual}
 use Rattle.scen_defs.specs.declared.report.Report.{Report}
 use Rattle.rationals.specs.Passes.{Operation}
 use Rattle.node_lp.specs.declared.solved.Solved.TheVariants.{PivotsEnded, Passed}
 use Rattle.report_defs.specs.Truth.{IsTrue}
+use Rattle.proved_report.specs.declared.open.Open.TheVariants.{Passed as PassedAt}
 use Rattle.proved_report.specs.Open.{given}
 use Rattle.proved_report.specs.Reports.{IsClaimed}
+use Rattle.claim_laws.specs.Held.{PassesInClaim}
+use Rattle.run_ends.specs.Claims.{EndsAssembly}
 use Rattle.edit_defs.specs.declared.edit.Edit.{Edit}
 use Rattle.pass_core.specs.declared.budget.Budget.{Budget}
 use Rattle.pass_core.specs.declared.state.State.{State}
+use Rattle.pass_core.specs.Beginning.{IsBeginning}
+use Rattle.pass_core.specs.Reasons.{HasReason}
 use Rattle.tree_method.specs.declared.method.Method.{Method}
 use Rattle.tree_method.specs.declared.method.Method.TheVariants.{Working as AtWork, Idle}
 use Rattle.tree_method.specs.declared.method.Working.{Working}
-use Rattle.tree_method.specs.Edited.{HasNoTree}
-use Rattle.tree_method.specs.Stands.{HasFewNodes, IsAtEnd, SolvesNodes, HasSolve, WorksBySolves, GoesOn, Begins, closing}
+use Rattle.tree_method.specs.Stands.{HasFewNodes, IsAtEnd, SolvesNodes, NeverAnew, HasSolve, WorksBySolves, WorksAsAsked, GoesOn}
+use Rattle.tree_method.specs.Stands.{CutPasses, CostPasses, OpeningPasses, Begins, closing}
 use Rattle.tree_method.specs.Stands.{is_spent, after_telling}
 
 -- left open by the number of solves
@@ -35,9 +41,10 @@ abbrev pub is_unfinished : Finding → Method → Bool
 is_unfinished finding method = tells_solves finding && not (is_spent method)
 
 -- what is claimed behind solves of the program's nodes, where the method can't go on, is tested, and the report tells what was shown, and
--- is true for the reason that is claimed with it
+-- is true for the reason that is claimed with it; from the beginning of the program to its first report it is never begun anew
 pub record ShowsClosing (budget : Budget) (program : ProgramOf) (old new : State) (report : Report) : Type 0 where
   pub solves : SolvesNodes (content program) old new
+  pub once : budget.solves < 2 ^ 63 → IsBeginning (content program) budget old → NeverAnew solves
   pub ends : IsAtEnd (content program) new
   pub claimed : IsClaimed program report.number (Cost new.counts.all) (closing new).why budget.solves (closing new).claim report
   pub truth : IsTrue (view_of (content program)) (given (closing new).why budget.solves) report
@@ -48,13 +55,26 @@ ShowsFound budget program (AtWork old) (AtWork new) report = ShowsClosing budget
 ShowsFound budget program (AtWork old) (Idle why own) report = ⊥
 ShowsFound budget program (Idle why own) new report = new ≡ Idle why own
 
+-- the operation passes in the test of what is claimed in this state, and is told at this place
+abbrev pub PassesInTestOf : ProgramOf → State → Place → Operation → Type 0
+PassesInTestOf program s told o = PassesInClaim program (Cost s.counts.all) (closing s).claim told o
+
 -- The report shows what is claimed behind solves. Where it tells that so many solves were made, so many were counted since the report
--- before; where it tells that the pivots of a solve ended, or of an operation of a solve, one of them has that number, and ended so.
+-- before; where it tells that the pivots of a solve ended, or of an operation of a solve, one of them has that number, and ended so. An
+-- operation at CUT or at COST passes in the cut or in the cost behind the solve with that number, if the method hadn't met it before; or,
+-- at COST, in the test of the claimed points. One at GROUND passes before a run that was to open; one at DUAL where multipliers of the ends
+-- are assembled, or in the test of those that are claimed.
 pub record ComesOfSolves (budget : Budget) (program : ProgramOf) (old new : State) (report : Report) : Type 0 where
   pub shows : ShowsClosing budget program old new report
   pub spent : (n : ℕ) → report.finding ≡ OpenSolves n → new.counts.since_report ≡ n
   pub pivots : (k : ℕ) → report.finding ≡ OpenPivots k → HasSolve (content program) k PivotsEnded old new
   pub passed : (k : ℕ) (o : Operation) → report.finding ≡ OpenPassed (Solve k) o → HasSolve (content program) k (Passed false o) old new
+  pub cut : (k : ℕ) (o : Operation) → report.finding ≡ OpenPassed (Cut k) o
+      → HasReason old (PassedAt (Cut k) o) ⊎ CutPasses (content program) k o old new
+  pub cost : (k : ℕ) (o : Operation) → report.finding ≡ OpenPassed (Cost k) o
+      → HasReason old (PassedAt (Cost k) o) ⊎ CostPasses (content program) k o old new ⊎ PassesInTestOf program new (Cost k) o
+  pub ground : (o : Operation) → report.finding ≡ OpenPassed Ground o → OpeningPasses (content program) o old new
+  pub dual : (o : Operation) → report.finding ≡ OpenPassed Dual o → EndsAssembly new.ends o ⊎ PassesInTestOf program new Dual o
 
 -- a method at work comes to the report by its solves, and counts the next ones from 0; one that can't work stays as it is
 abbrev pub ComesOf : Budget → ProgramOf → Method → Report → Method → Type 0
@@ -69,8 +89,9 @@ pub record ComesOfAll (budget : Budget) (program : ProgramOf) (report : Report) 
   pub begins : Begins (content program) budget method
   pub comes : ComesOf budget program method report next
 
--- a method solves nodes of the program before an edit, and goes on behind it
-pub record TakesEdit (p : Program) (e : Edit) (old new : Method) : Type 0 where
+-- a method solves nodes of the program before an edit, so many as are asked for where it can go on, and goes on behind the edit
+pub record TakesEdit (p : Program) (work : ℕ) (e : Edit) (old new : Method) : Type 0 where
   pub worked : Method
   pub works : HasFewNodes p → WorksBySolves p old worked
+  pub amount : HasFewNodes p → WorksAsAsked p work old worked
   pub goes : GoesOn p e worked new

@@ -27,12 +27,12 @@ pub record TellsOne (budget : Budget) (s t : Course) : Type 0 where
   pub is_told : IsTold budget s.number s.program s.method told t.method
   pub course : t ≡ record s { method = t.method; number = s.number + 1; tolds = s.tolds ++ told ∷ [] }
 
--- an edit changes the program
-pub record Changes (e : Edit) (s t : Course) : Type 0 where
-  pub takes : TakesEdit s.program e s.method t.method
+-- an edit, before which so many solves are asked for, changes the program
+pub record Changes (work : ℕ) (e : Edit) (s t : Course) : Type 0 where
+  pub takes : TakesEdit s.program work e s.method t.method
   pub course : t ≡ record s { program = after s.program e; method = t.method }
 
 -- behind an item: an edit changes the program, and of a SOLVE a report is told
-abbrev pub IsBehind : Budget → Act → Course → Course → Type 0
-IsBehind budget (Change e) s t = Changes e s t
-IsBehind budget Solve s t = TellsOne budget s t
+abbrev pub IsBehind : Budget → ℕ → Act → Course → Course → Type 0
+IsBehind budget work (Change e) s t = Changes work e s t
+IsBehind budget work Solve s t = TellsOne budget s t

@@ -40,11 +40,11 @@ IsThen first behind [] = ⊥
 IsThen first behind (told ∷ tolds) = (next : Method) × (first told next × behind next tolds)
 
 -- One is told for each SOLVE of a script, of the program after the edits before it, and comes of the one method that goes through the
--- script. They are numbered from this number on.
+-- script, and makes as many solves before an edit as are asked for. They are numbered from this number on.
 abbrev pub AreTold : Budget → ℕ → Program → Method → List Item → List Told → Type 0
 AreTold budget number p method [] tolds = tolds ≡ []
 AreTold budget number p method (item ∷ items) tolds = elim item.act [
-  | Change e ↦ (next : Method) × (TakesEdit p e method next × AreTold budget number (after p e) next items tolds)
+  | Change e ↦ (next : Method) × (TakesEdit p item.work e method next × AreTold budget number (after p e) next items tolds)
   | Solve ↦ IsThen (λ told next. IsTold budget number p method told next) (λ next. AreTold budget (number + 1) p next items) tolds
 ]
 

@@ -48,7 +48,7 @@ impl Progress {
         ensures stands { (budget : BudgetOf) → StandsOn (content program.old) budget self.old.method
             → OnOk result (StandsOn (content program.new) budget self.new.method) }
         ensures takes { (budget : BudgetOf) → StandsOn (content program.old) budget self.old.method
-            → OnOk result (TakesEdit (content program.old) edit.now self.old.method self.new.method) }
+            → OnOk result (TakesEdit (content program.old) work edit.now self.old.method self.new.method) }
         ensures cleared { HasFewNodes (content program.new) → OnOk result (StandsCleared self.new.method) }
     {
         self.method.work(alloc, program, work)?;
@@ -97,7 +97,7 @@ impl Progress {
         ensures counted { OnOk result (self.new.counted ≡ counts (content program.new).nodes) }
         ensures stands { OnOk result (StandsOn (content program.new) budget self.new.method) }
         ensures cleared { HasFewNodes (content program.new) → OnOk result (StandsCleared self.new.method) }
-        ensures course { OnOk result (IsBehind budget item.now.act
+        ensures course { OnOk result (IsBehind budget item.now.work item.now.act
             (course_at (content program.old) self.old.method self.old.number tolds.old.items)
             (course_at (content program.new) self.new.method self.new.number tolds.new.items)) }
     {

@@ -1,5 +1,5 @@
 -- Where the method can't go on, and how many steps it takes at most before that.
-use Rattle.std.proofs.Common.{◌≡◌, ◌⊎◌, inl, inr, ℕ, ◌+◌, ◌-◌, ◌*◌, ◌^◌, ◌<◌, ◌≤◌, leb, ◌||◌, Bool, true, false}
+use Rattle.std.proofs.Common.{◌≡◌, ◌⊎◌, inl, inr, ℕ, ◌+◌, ◌-◌, ◌*◌, ◌^◌, ◌<◌, ◌≤◌, max, leb, ◌||◌, Bool, true, false}
 use Rattle.std.proofs.Common.{Option, Some, None, is_some, IsSome, refl, sym, ap, subst, ◌∙◌, arith}
 use Rattle.std.proofs.lemmas.Bool.{leb-true}
 use Rattle.scen_defs.specs.Program.{Program}
@@ -14,7 +14,7 @@ use Rattle.pass_core.specs.declared.state.State.{State}
 use Rattle.pass_core.specs.Counting.{one_solve_more, with_commit}
 use Rattle.pass_core.specs.Left.{next_kind}
 use Rattle.pass_core.specs.Tabled.{HasRoom, IsTabled, IsTabledBy}
-use Rattle.pass_core.specs.Turns.{IsAtRest, MakesStep, begins_none, opens_run, solves, OpensOrStops, Progresses}
+use Rattle.pass_core.specs.Turns.{IsAtRest, MakesStep, begins_none, opens_run, solves, OpensOrStops, Progresses, Rests}
 use Rattle.pass_core.proofs.Resting.{rests_too, room_too}
 use Rattle.tree_method.specs.Stands.{settled_in, IsAtEnd}
 use Rattle.tree_method.proofs.StandLemmas.{goes_on, not_stopped}
@@ -49,6 +49,26 @@ pub ends_anyhow : (p : Program) (s : State) (work : ℕ) → work ≡ 2 ^ 64 - 1
     → s.counts.since_item ≤ s.counts.since_report → (work ≤ s.counts.since_item) ⊎ IsAtEnd p s → IsAtEnd p s
 ends_anyhow p s work all bits item (inl counted) = inl (λ left. let less = goes_on s left in omega (arith, all, bits, item, counted, less))
 ends_anyhow p s work all bits item (inr ends) = ends
+
+-- ---- how many solves there are
+-- no more than are asked for, or were made before: at first, behind a step, and behind one that did nothing
+pub none_beyond : (work : ℕ) (s : State) → s.counts.since_item ≤ max work s.counts.since_item
+none_beyond work s = omega arith
+
+pub step_within : (work : ℕ) (first old new : State) → old.counts.since_item < work → Progresses old new
+    → new.counts.since_item ≤ max work first.counts.since_item
+step_within work first old new less step = go step.way
+  where
+    go : (new.counts ≡ with_commit old.counts) ⊎ OpensOrStops old new → new.counts.since_item ≤ max work first.counts.since_item
+    go (inl c) =
+        let e : new.counts.since_item ≡ one_solve_more old.counts.since_item = ap (λ (x : Counts). x.since_item) c in
+        omega (arith, e, less)
+    go (inr o) = let e = ap (λ (x : Counts). x.since_item) o.counts in omega (arith, e, less)
+
+pub rests_within : (work : ℕ) (first old new : State) → Rests old new → old.counts.since_item ≤ max work first.counts.since_item
+    → new.counts.since_item ≤ max work first.counts.since_item
+rests_within work first old new rests h =
+    subst (λ (c : Counts). c.since_item ≤ max work first.counts.since_item) (sym rests.counts) h
 
 -- ---- the steps before it
 -- how many runs open at most behind one of this kind

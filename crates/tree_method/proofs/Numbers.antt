@@ -1,5 +1,5 @@
 -- Each reason that stops the method is told of a solve, with its number.
-use Rattle.std.proofs.Common.{◌≡◌, ◌⊎◌, inl, inr, ℕ, Bool, false, Option, Some, None, IfSome, refl, sym, ap, subst, ◌∙◌}
+use Rattle.std.proofs.Common.{◌≡◌, ◌⊎◌, inl, inr, ℕ, Bool, true, false, Option, Some, None, IfSome, refl, sym, ap, subst, ◌∙◌}
 use Rattle.rationals.specs.Passes.{Operation}
 use Rattle.scen_defs.specs.Program.{Program}
 use Rattle.scen_defs.specs.declared.report.Place.{Place}
@@ -11,30 +11,32 @@ use Rattle.node_lp.specs.Told.{node_solved}
 use Rattle.proved_report.specs.declared.open.Open.{Open}
 use Rattle.proved_report.specs.declared.open.Open.TheVariants.{Solves, Pivots, Passed}
 use Rattle.run_ends.specs.declared.last.Lasts.{Lasts}
-use Rattle.pass_table.specs.Machine.{Machine}
+use Rattle.pass_table.specs.Machine.{Machine, IsClosed}
 use Rattle.pass_core.specs.declared.budget.Budget.{Budget}
 use Rattle.pass_core.specs.declared.state.State.{State}
 use Rattle.pass_core.specs.Beginning.{IsBeginning}
 use Rattle.pass_core.specs.Counting.{with_commit, after_report}
 use Rattle.pass_core.specs.Explained.{IsUnstopped}
-use Rattle.pass_core.specs.Reasons.{HasReason, IsAtSolve, IsStuck, IsOfSolve, IsOfOpening, IsLasting, GainsReasons}
-use Rattle.pass_core.specs.Turns.{IsStuckOpening, SolvesNode, AreReady, MakesStep, begins_none, opens_run, solves}
+use Rattle.pass_core.specs.Reasons.{HasReason, IsAtSolve, IsOfSolve, IsLasting, GainsReasons}
+use Rattle.pass_core.specs.Tabled.{IsTabledBy}
+use Rattle.pass_core.specs.Turns.{node_halts, IsBeforeRun, SolvesNode, AreReady, MakesStep, begins_none, opens_run, solves}
 use Rattle.edit_defs.specs.declared.edit.Edit.{Edit}
 use Rattle.edit_defs.specs.After.{after}
 use Rattle.run_ends.specs.Settled.{why_open}
-use Rattle.run_ends.specs.Claims.{IsReason}
+use Rattle.run_ends.specs.Claims.{IsReason, EndsAssembly}
 use Rattle.run_ends.proofs.Reasons.{closed_reason}
 use Rattle.tree_method.specs.declared.method.Method.{Method}
 use Rattle.tree_method.specs.declared.method.Method.TheVariants.{Working as AtWork, Idle}
-use Rattle.tree_method.specs.Stands.{HasFewNodes, IsCleared, Begins, settled_in, closing, SolvesNodes, none, more, anew, HasSolve, StandsCleared, GoesOn}
+use Rattle.tree_method.specs.Stands.{HasFewNodes, IsCleared, Begins, settled_in, closing, SolvesNodes, none, more, anew, HasSolve}
+use Rattle.tree_method.specs.Stands.{CutPasses, CostPasses, OpeningPasses, StandsCleared, GoesOn}
 use Rattle.tree_method.proofs.StandLemmas.{solves_behind}
 
--- a reason is told of one of the solves between two states, if of a solve
+-- a reason is told of one of the solves between two states, or where a run between them doesn't open
 abbrev ArisesAt : Program → State → State → Operation → Place → Type 0
 ArisesAt p old new o (Solve k) = HasSolve p k (solved.Passed false o) old new
-ArisesAt p old new o (Cut k) = (all : Solved) × HasSolve p k all old new
-ArisesAt p old new o (Cost k) = (all : Solved) × HasSolve p k all old new
-ArisesAt p old new o Ground = Unit {0}
+ArisesAt p old new o (Cut k) = CutPasses p k o old new
+ArisesAt p old new o (Cost k) = CostPasses p k o old new
+ArisesAt p old new o Ground = OpeningPasses p o old new
 ArisesAt p old new o Dual = ⊥
 ArisesAt p old new o Check = ⊥
 
@@ -56,7 +58,7 @@ no_reason o why n e = let no : None ≡ Some why = sym n ∙ e in absurd (cc)
 
 module _ (p : Program) (old : State) where
   -- more solves come behind
-  solve_longer : (k : ℕ) (all : Solved) (mid new : State) → SolvesNodes p mid new → HasSolve p k all old mid → HasSolve p k all old new
+  abbrev solve_longer : (k : ℕ) (all : Solved) (mid new : State) → SolvesNodes p mid new → HasSolve p k all old mid → HasSolve p k all old new
   solve_longer k all mid new x h = record {
     mid = h.mid;
     machine = h.machine;
@@ -73,9 +75,19 @@ module _ (p : Program) (old : State) where
 
   place_longer : (o : Operation) (place : Place) (mid new : State) → SolvesNodes p mid new → ArisesAt p old mid o place → ArisesAt p old new o place
   place_longer o (Solve k) mid new x h = solve_longer k (solved.Passed false o) mid new x h
-  place_longer o (Cut k) mid new x h = (h.0, solve_longer k h.0 mid new x h.1)
-  place_longer o (Cost k) mid new x h = (h.0, solve_longer k h.0 mid new x h.1)
-  place_longer o Ground mid new x h = tt
+  place_longer o (Cut k) mid new x h = record { all = h.all; solve = solve_longer k h.all mid new x h.solve; passes = h.passes }
+  place_longer o (Cost k) mid new x h = record { all = h.all; solve = solve_longer k h.all mid new x h.solve; passes = h.passes }
+  place_longer o Ground mid new x h = record {
+    mid = h.mid;
+    machine = h.machine;
+    next = h.next;
+    before = h.before;
+    tabled = h.tabled;
+    closed = h.closed;
+    step = h.step;
+    passes = h.passes;
+    behind = solves_behind p h.next mid new h.behind x;
+  }
   place_longer o Dual mid new x h = h
   place_longer o Check mid new x h = h
 
@@ -85,20 +97,31 @@ module _ (p : Program) (old : State) where
   longer (Passed place o) mid new x h = place_longer o place mid new x h
 
   -- a run that doesn't open
-  at_opening : (why : Open) (new : State) (allowed : ℕ) (Stuck : Type 0) → IsOfOpening allowed Stuck why → Arises p old new why
-  at_opening (Solves n) new allowed Stuck h = tt
-  at_opening (Pivots k) new allowed Stuck h = absurd h
-  at_opening (Passed place o) new allowed Stuck h = subst (ArisesAt p old new o) (sym h) tt
+  at_opening : (why : Open) (mid new : State) (m : Machine) → SolvesNodes p old mid → IsTabledBy p mid m → IsClosed m
+      → MakesStep p mid m new true → IsBeforeRun p mid why → Arises p old new why
+  at_opening (Solves n) mid new m before tabled closed step h = tt
+  at_opening (Pivots k) mid new m before tabled closed step h = absurd h
+  at_opening (Passed place o) mid new m before tabled closed step h = subst (ArisesAt p old new o) (sym h.0) (record {
+    mid = mid;
+    machine = m;
+    next = new;
+    before = before;
+    tabled = tabled;
+    closed = closed;
+    step = step;
+    passes = h.1;
+    behind = none;
+  })
 
   -- a reason is told of the solve of this task
-  abbrev IsOfThis : State → ℕ → Task → Open → Type 0
-  IsOfThis mid n task = IsOfSolve (with_commit mid.counts).all mid.budget.solves (node_solved task)
-      (IsStuck mid.kind mid.banks n task.trial (node_solved task))
+  abbrev IsOfThis : State → Lasts → ℕ → Task → Open → Type 0
+  IsOfThis mid lasts n task = IsOfSolve (with_commit mid.counts).all mid.budget.solves (node_solved task)
+      (node_halts p (record mid { lasts = lasts }) n task.trial (node_solved task))
 
   -- the last solve
   module _ (mid : State) (m : Machine) (lasts : Lasts) (n : ℕ) (new : State) (before : SolvesNodes p old mid) (ready : AreReady mid lasts)
       (node : SolvesNode p (record mid { lasts = lasts }) m n new) where
-    here : (k : ℕ) (all : Solved) → k ≡ (with_commit mid.counts).all → node_solved node.task ≡ all → HasSolve p k all old new
+    abbrev here : (k : ℕ) (all : Solved) → k ≡ (with_commit mid.counts).all → node_solved node.task ≡ all → HasSolve p k all old new
     here k all e c = record {
       mid = mid;
       machine = m;
@@ -113,39 +136,41 @@ module _ (p : Program) (old : State) where
       behind = none;
     }
 
-    place_here : (o : Operation) (place : Place) → IsAtSolve (with_commit mid.counts).all (node_solved node.task) o place → ArisesAt p old new o place
+    place_here : (o : Operation) (place : Place)
+        → IsAtSolve (with_commit mid.counts).all (node_solved node.task)
+        (node_halts p (record mid { lasts = lasts }) n node.task.trial (node_solved node.task)) o place → ArisesAt p old new o place
     place_here o (Solve k) h = here k (solved.Passed false o) h.0 h.1
-    place_here o (Cut k) h = (node_solved node.task, here k (node_solved node.task) h refl)
-    place_here o (Cost k) h = (node_solved node.task, here k (node_solved node.task) h refl)
+    place_here o (Cut k) h = record { all = node_solved node.task; solve = here k (node_solved node.task) h.0 refl; passes = h.1 }
+    place_here o (Cost k) h = record { all = node_solved node.task; solve = here k (node_solved node.task) h.0 refl; passes = h.1 }
     place_here o Ground h = absurd h
     place_here o Dual h = h
     place_here o Check h = h
 
-    at_solve : (why : Open) → IsOfThis mid n node.task why → Arises p old new why
+    at_solve : (why : Open) → IsOfThis mid lasts n node.task why → Arises p old new why
     at_solve (Solves k) h = tt
     at_solve (Pivots k) h = here k solved.PivotsEnded h.0 h.1
     at_solve (Passed place o) h = place_here o place h
 
-  step_arises : (why : Open) (mid new : State) (m : Machine) (told : Bool) → SolvesNodes p old mid → SolvesNodes p mid new → MakesStep p mid m new told
+  step_arises : (why : Open) (mid new : State) (m : Machine) (told : Bool) → SolvesNodes p old mid → SolvesNodes p mid new
+      → IsTabledBy p mid m → MakesStep p mid m new told
       → (HasReason mid why → HasReason old why ⊎ Arises p old mid why) → HasReason new why → HasReason old why ⊎ Arises p old new why
-  step_arises why mid new m told before tail step rest h = go told step
+  step_arises why mid new m told before tail tabled step rest h = go told step
     where
       kept : HasReason old why ⊎ Arises p old mid why → HasReason old why ⊎ Arises p old new why
       kept (inl x) = inl x
       kept (inr a) = inr (longer why mid new tail a)
 
-      opened : (allowed : ℕ) (Stuck : Type 0) → HasReason mid why ⊎ IsOfOpening allowed Stuck why → HasReason old why ⊎ Arises p old new why
-      opened allowed Stuck (inl x) = kept (rest x)
-      opened allowed Stuck (inr i) = inr (at_opening why new allowed Stuck i)
-
       go : (b : Bool) → MakesStep p mid m new b → HasReason old why ⊎ Arises p old new why
       go b (begins_none rests points reasons ready) =
-          opened mid.budget.solves ⊥ (gained (IsOfOpening mid.budget.solves ⊥) mid new why reasons h)
+          elim (gained (λ w. ⊥) mid new why reasons h) [ inl x ↦ kept (rest x) | inr n ↦ absurd n ]
       go b (opens_run closed earlier opens points reasons run first) =
-          opened mid.budget.solves (IsStuckOpening p mid new.banks)
-          (gained (IsOfOpening mid.budget.solves (IsStuckOpening p mid new.banks)) mid new why reasons h)
+          elim (gained (IsBeforeRun p mid) mid new why reasons h) [
+            | inl x ↦ kept (rest x)
+            | inr i ↦
+                inr (at_opening why mid new m before tabled closed (opens_run closed earlier opens points reasons run first) i)
+          ]
       go b (solves lasts n ready node) =
-          elim (gained (IsOfThis mid n node.task) (record mid { lasts = lasts; counts = with_commit mid.counts }) new why node.reasons h) [
+          elim (gained (IsOfThis mid lasts n node.task) (record mid { lasts = lasts; counts = with_commit mid.counts }) new why node.reasons h) [
             | inl x ↦ kept (rest x)
             | inr i ↦ inr (at_solve mid m lasts n new before ready node why i)
           ]
@@ -153,7 +178,7 @@ module _ (p : Program) (old : State) where
   arises : (new : State) (why : Open) → SolvesNodes p old new → HasReason new why → HasReason old why ⊎ Arises p old new why
   arises new why none h = inl h
   arises new why (more mid k m told y left t step keeps) h =
-      step_arises why mid k m told y (more mid k m told none left t step keeps) step (arises mid why y) h
+      step_arises why mid k m told y (more mid k m told none left t step keeps) t step (arises mid why y) h
   arises new why (anew mid k y ends over) (inl e) = absurd (no_reason k.stop why over.beginning.stop e)
   arises new why (anew mid k y ends over) (inr e) = absurd (no_reason k.lasting why over.beginning.lasting e)
 
@@ -166,10 +191,9 @@ module _ (p : Program) (old : State) where
       by Is (inr i) = i.1
 
       go : (b : Bool) → MakesStep p mid m new b → IsLasting why
-      go b (begins_none rests points reasons ready) = by (IsOfOpening mid.budget.solves ⊥) (reasons.lasting why e)
-      go b (opens_run closed earlier opens points reasons run first) =
-          by (IsOfOpening mid.budget.solves (IsStuckOpening p mid new.banks)) (reasons.lasting why e)
-      go b (solves lasts n ready node) = by (IsOfThis mid n node.task) (node.reasons.lasting why e)
+      go b (begins_none rests points reasons ready) = by (λ w. ⊥) (reasons.lasting why e)
+      go b (opens_run closed earlier opens points reasons run first) = by (IsBeforeRun p mid) (reasons.lasting why e)
+      go b (solves lasts n ready node) = by (IsOfThis mid lasts n node.task) (node.reasons.lasting why e)
 
   -- what lasts for a run is told of a cut or of a cost
   still_lasts : (new : State) → SolvesNodes p old new → ((why : Open) → old.lasting ≡ Some why → IsLasting why) → (why : Open) → new.lasting ≡ Some why
@@ -220,6 +244,29 @@ pass_arises p old new k o x r e = go (arises p old new (Passed (Solve k) o) x (i
     go (inl (inr l)) = absurd (lasts_not (r.lasting (Passed (Solve k) o) l))
     go (inr h) = h
 
+-- one of a cut, or of a cost, passes so, unless it was kept before these solves
+pub cut_arises : (p : Program) (old new : State) (k : ℕ) (o : Operation) → SolvesNodes p old new → new.stop ≡ Some (Passed (Cut k) o)
+    → HasReason old (Passed (Cut k) o) ⊎ CutPasses p k o old new
+cut_arises p old new k o x e = arises p old new (Passed (Cut k) o) x (inl e)
+
+pub cost_arises : (p : Program) (old new : State) (k : ℕ) (o : Operation) → SolvesNodes p old new → new.stop ≡ Some (Passed (Cost k) o)
+    → HasReason old (Passed (Cost k) o) ⊎ CostPasses p k o old new
+cost_arises p old new k o x e = arises p old new (Passed (Cost k) o) x (inl e)
+
+-- one before a run passes so
+pub opening_arises : (p : Program) (old new : State) (o : Operation) → SolvesNodes p old new → IsCleared old
+    → new.stop ≡ Some (Passed Ground o) → OpeningPasses p o old new
+opening_arises p old new o x r e = go (arises p old new (Passed Ground o) x (inl e))
+  where
+    lasts_not : IsLasting (Passed Ground o) → ⊥
+    lasts_not (inl c) = let q = c.1 in absurd (cc)
+    lasts_not (inr c) = let q = c.1 in absurd (cc)
+
+    go : HasReason old (Passed Ground o) ⊎ OpeningPasses p o old new → OpeningPasses p o old new
+    go (inl (inl s)) = elim (r.stop (Passed Ground o) s) [ inl n ↦ absurd (lasts_not n) | inr q ↦ absurd (cc) ]
+    go (inl (inr l)) = absurd (lasts_not (r.lasting (Passed Ground o) l))
+    go (inr h) = h
+
 -- ---- what is claimed
 told_stop : (stop : Option Open) (n : ℕ) (told w : Open) → told ≡ w → ((m : ℕ) → w ≡ Solves m → ⊥) → told ≡ why_open stop n → stop ≡ Some w
 told_stop None n told w e unlike t = absurd (unlike n (sym e ∙ t))
@@ -235,8 +282,29 @@ stop_of s w unlike never e = go (closed_reason (settled_in s) s.ends (why_open s
 pub closing_pivots : (s : State) (k : ℕ) → (closing s).why ≡ Pivots k → s.stop ≡ Some (Pivots k)
 closing_pivots s k e = stop_of s (Pivots k) (λ m q. cc) (λ o q. cc) e
 
-pub closing_passed : (s : State) (k : ℕ) (o : Operation) → (closing s).why ≡ Passed (Solve k) o → s.stop ≡ Some (Passed (Solve k) o)
-closing_passed s k o e = stop_of s (Passed (Solve k) o) (λ m q. cc) (λ q r. cc) e
+pub closing_passed : (s : State) (place : Place) (o : Operation) → (place ≡ Dual → ⊥) → (closing s).why ≡ Passed place o
+    → s.stop ≡ Some (Passed place o)
+closing_passed s place o unlike e = stop_of s (Passed place o) (λ m q. cc) (λ q r. unlike (let same : place ≡ Dual = cc in same)) e
+
+-- an operation that is told at DUAL ends an assembly of the ends
+pub closing_dual : (p : Program) (old s : State) (o : Operation) → SolvesNodes p old s → IsCleared old → (closing s).why ≡ Passed Dual o
+    → EndsAssembly s.ends o
+closing_dual p old s o x r e = go (closed_reason (settled_in s) s.ends (why_open s.stop s.budget.solves) (closing s) refl)
+  where
+    lasts_not : IsLasting (Passed Dual o) → ⊥
+    lasts_not (inl c) = let q = c.1 in absurd (cc)
+    lasts_not (inr c) = let q = c.1 in absurd (cc)
+
+    never : HasReason old (Passed Dual o) ⊎ ⊥ → ⊥
+    never (inl (inl h)) = elim (r.stop (Passed Dual o) h) [ inl n ↦ lasts_not n | inr q ↦ absurd (cc) ]
+    never (inl (inr l)) = lasts_not (r.lasting (Passed Dual o) l)
+    never (inr h) = h
+
+    go : IsReason s.ends (why_open s.stop s.budget.solves) (closing s).why → EndsAssembly s.ends o
+    go (inl t) = absurd (never (arises p old s (Passed Dual o) x
+        (inl (told_stop s.stop s.budget.solves (closing s).why (Passed Dual o) e (λ m q. cc) t))))
+    go (inr h) = let q : Passed Dual h.0 ≡ Passed Dual o = sym h.1 ∙ e in
+        subst (EndsAssembly s.ends) (let same : h.0 ≡ o = cc in same) h.2
 
 -- ---- methods whose reasons are cleared
 pub first_cleared : (p : Program) (budget : Budget) (m : Method) → Begins p budget m → StandsCleared m

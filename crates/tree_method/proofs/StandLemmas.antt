@@ -53,7 +53,7 @@ use Rattle.tree_method.specs.declared.method.Method.TheVariants.{Working as AtWo
 use Rattle.tree_method.specs.Edited.{is_grown, KeepsTabled, IsEdited, HasNoTree}
 use Rattle.tree_method.specs.Laws.{TouchesCarry}
 use Rattle.tree_method.specs.Stands.{LeavesOpen, TellsWhy, IsInBudget, WorksOn, StandsOn, settled_in}
-use Rattle.tree_method.specs.Stands.{IsAtEnd, SolvesNodes, none, more, anew, SolvesAnew}
+use Rattle.tree_method.specs.Stands.{IsAtEnd, SolvesNodes, SolvesOnce, none, more, anew, SolvesAnew}
 use Rattle.tree_method.proofs.Standing.{touches_stand, versions_behind}
 
 -- ---- the frame
@@ -199,6 +199,14 @@ not_ripe work counted (Some case) e = absurd (let no : true ≡ false = sym (or_
     or_true true = refl
     or_true false = refl
 
+-- and more solves are asked for
+pub asked_yet : (work counted : ℕ) (case : Option Settled) → (leb work counted || is_some case) ≡ false → counted < work
+asked_yet work counted case e = go (leb work counted) refl e
+  where
+    go : (b : Bool) → leb work counted ≡ b → (b || is_some case) ≡ false → counted < work
+    go true t e = absurd (let no : true ≡ false = e in cc)
+    go false t e = leb-false work counted t
+
 -- a state with these counts keeps to the budget
 in_budget : (old new : State) → new.budget ≡ old.budget → (new.counts ≡ old.counts) ⊎ (new.counts ≡ with_commit old.counts)
     → old.counts.since_report < old.budget.solves → IsInBudget old → IsInBudget new
@@ -316,16 +324,22 @@ more_counted p a b less (anew mid new y ends over) =
     let h = more_counted p a mid less y in
     let k = ap (λ (c : Counts). c.since_report) over.counts in (omega (arith, h.0, k), omega (arith, h.1, k))
 
--- one more step
+-- no step, and one more
+pub solves_none : (p : Program) (s : State) → SolvesOnce p s s
+solves_none p s = record { solves = none; never = tt }
+
 pub solves_more : (p : Program) (budget : Budget) (old : State) (w : Working) (new : State) (told : Bool) → IsProgram p → length p.nodes < nothing
-    → WorksOn p budget w → SolvesNodes p old w.state
+    → WorksOn p budget w → SolvesOnce p old w.state
     → ((m : Machine) → tree_walk p ≡ Ok w.tree → w.state.frame ≡ frame_of p → IsTabledBy p w.state m → PointsStand p w.state.lasts.nodes.items
     → MakesStep p w.state m new told)
     → (tree_walk p ≡ Ok w.tree → w.state.frame ≡ frame_of p → KeepsBooks p w.state new)
-    → settled_in w.state ≡ None → SolvesNodes p old new
+    → settled_in w.state ≡ None → SolvesOnce p old new
 solves_more p budget old w new told i few works before step keeps open_yet =
-    let t = works.tabled i few in
-    more w.state new t.0 told before open_yet t.1 (step t.0 works.tree works.frame t.1 (works.points i few)) (keeps works.tree works.frame)
+    let t = works.tabled i few in record {
+      solves = more w.state new t.0 told before.solves open_yet t.1 (step t.0 works.tree works.frame t.1 (works.points i few))
+          (keeps works.tree works.frame);
+      never = before.never;
+    }
 
 -- an edit: its versions are in no table
 versions_tabled : (q : Program) (old new : State) → new ≡ record old { versions = new.versions } → IsTabled q old → IsTabled q new

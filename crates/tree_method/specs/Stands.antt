@@ -1,5 +1,5 @@
 -- On which program the method stands, why it leaves a report of it open, and how it goes on behind an edit.
-use Rattle.std.specs.Prelude.{◌≡◌, ◌⊎◌, ℕ, ◌<◌, ◌≤◌, leb, Bool, true, length, Option, None, Some, Ok}
+use Rattle.std.specs.Prelude.{◌≡◌, ◌⊎◌, ℕ, ◌<◌, ◌≤◌, max, leb, Bool, true, length, Option, None, Some, Ok}
 use Rattle.rationals.specs.Passes.{Operation}
 use Rattle.scen_defs.specs.Program.{Program}
 use Rattle.scen_defs.specs.Valid.{IsProgram}
@@ -7,22 +7,22 @@ use Rattle.scen_defs.specs.declared.report.Place.{Place}
 use Rattle.scen_defs.specs.declared.report.Place.TheVariants.{Cost}
 use Rattle.scen_tree.specs.Trees.{Tree, tree_walk}
 use Rattle.node_lp.specs.declared.solved.Solved.{Solved}
-use Rattle.node_lp.specs.declared.solved.Solved.TheVariants.{PivotsEnded}
+use Rattle.node_lp.specs.declared.solved.Solved.TheVariants.{PivotsEnded, Passed as PassedIn}
 use Rattle.node_lp.specs.Told.{node_solved}
 use Rattle.proved_report.specs.declared.open.Open.{Open}
 use Rattle.proved_report.specs.declared.open.Open.TheVariants.{Solves, Pivots, Passed}
 use Rattle.run_data.specs.Frames.{frame_of}
 use Rattle.pass_core.specs.declared.budget.Budget.{Budget}
-use Rattle.pass_table.specs.Machine.{Machine}
+use Rattle.pass_table.specs.Machine.{Machine, IsClosed}
 use Rattle.pass_table.specs.Marks.{nothing}
-use Rattle.pass_core.specs.Explained.{ComesOfSolve, PassesInRun, AreExplained}
+use Rattle.pass_core.specs.Explained.{ComesOfSolve, cut_given, PassesInRun, AreExplained}
 use Rattle.pass_core.specs.declared.state.State.{State}
 use Rattle.pass_core.specs.Beginning.{IsBeginning, StartsOver}
 use Rattle.pass_core.specs.Counting.{no_commits, with_commit, after_report}
 use Rattle.pass_core.specs.Tabled.{HasRoom, IsTabled, IsTabledBy, GoesBySteps}
 use Rattle.pass_core.specs.Made.{KeepsBooks}
-use Rattle.pass_core.specs.Reasons.{IsLasting}
-use Rattle.pass_core.specs.Turns.{PointsStand, SolvesNode, AreReady, IsAtRest, MakesStep}
+use Rattle.pass_core.specs.Reasons.{PassesAtOffer, PassesAtCost, IsLasting}
+use Rattle.pass_core.specs.Turns.{PointsStand, PassesBefore, ByTree, SolvesNode, AreReady, IsAtRest, MakesStep}
 use Rattle.run_ends.specs.declared.last.Lasts.{Lasts}
 use Rattle.run_ends.specs.declared.claims.Closed.{Closed}
 use Rattle.run_ends.specs.declared.settled.Settled.{Settled}
@@ -124,6 +124,17 @@ abbrev pub EndsAt : Program → Method → Type 0
 EndsAt p (AtWork w) = IsAtEnd p w.state
 EndsAt p (Idle why own) = Unit {0}
 
+-- as many solves are counted since the item before as are asked for, or the method can't go on; and no solve is made beyond those
+pub record SolvesAsAsked (p : Program) (work : ℕ) (old new : State) : Type 0 where
+  pub enough : (work ≤ new.counts.since_item) ⊎ IsAtEnd p new
+  pub no_more : new.counts.since_item ≤ max work old.counts.since_item
+
+-- so it is of a method at work
+abbrev pub WorksAsAsked : Program → ℕ → Method → Method → Type 0
+WorksAsAsked p work (AtWork old) (AtWork new) = SolvesAsAsked p work old.state new.state
+WorksAsAsked p work (AtWork old) (Idle why own) = ⊥
+WorksAsAsked p work (Idle why own) new = Unit {0}
+
 -- where something is left to find, programs of nodes are solved, one behind the other, with the openings of runs between them, or where
 -- the method can't go on the program is begun anew, from one state to another; cuts that are made for books that are right of the program
 -- are followed by such cuts
@@ -134,9 +145,20 @@ pub data SolvesNodes (p : Program) (old : State) : State → Type 0 where
   -- begun anew where the method can't go on
   anew : (mid new : State) → SolvesNodes p old mid → IsAtEnd p mid → StartsOver p mid new → SolvesNodes p old new
 
+-- among them the program was never begun anew
+abbrev pub NeverAnew : {p : Program} {old new : State} → SolvesNodes p old new → Type 0
+NeverAnew none = Unit {0}
+NeverAnew (more mid new m told before left tabled step keeps) = NeverAnew before
+NeverAnew (anew mid new before ends over) = ⊥
+
+-- programs of nodes are solved so, and the program isn't begun anew
+pub record SolvesOnce (p : Program) (old new : State) : Type 0 where
+  pub solves : SolvesNodes p old new
+  pub never : NeverAnew solves
+
 -- the method has done nothing but that on the program
 abbrev pub WorksBySolves : Program → Method → Method → Type 0
-WorksBySolves p (AtWork old) (AtWork new) = SolvesNodes p old.state new.state
+WorksBySolves p (AtWork old) (AtWork new) = SolvesOnce p old.state new.state
 WorksBySolves p (AtWork old) (Idle why own) = ⊥
 WorksBySolves p (Idle why own) new = Unit {0}
 
@@ -154,13 +176,38 @@ pub record HasSolve (p : Program) (k : ℕ) (all : Solved) (old new : State) : T
   pub comes : node_solved solve.task ≡ all
   pub behind : SolvesNodes p next new
 
+-- an operation of the cut of one of these solves passes, which has number k: where the solve makes it, or in the answer of its pool
+pub record CutPasses (p : Program) (k : ℕ) (o : Operation) (old new : State) : Type 0 where
+  pub all : Solved
+  pub solve : HasSolve p k all old new
+  pub passes : (all ≡ PassedIn true o)
+      ⊎ PassesAtOffer solve.mid.kind solve.mid.banks solve.node solve.solve.task.trial (cut_given all) o
+
+-- one of what points cost together behind the solve with number k
+pub record CostPasses (p : Program) (k : ℕ) (o : Operation) (old new : State) : Type 0 where
+  pub all : Solved
+  pub solve : HasSolve p k all old new
+  pub passes : ByTree p (λ tree. PassesAtCost p tree solve.lasts.nodes.items solve.node solve.solve.task.trial all o)
+
+-- one passes where a run of these is closed, before the next one, which doesn't open
+pub record OpeningPasses (p : Program) (o : Operation) (old new : State) : Type 0 where
+  pub mid : State
+  pub machine : Machine
+  pub next : State
+  pub before : SolvesNodes p old mid
+  pub tabled : IsTabledBy p mid machine
+  pub closed : IsClosed machine
+  pub step : MakesStep p mid machine next true
+  pub passes : ByTree p (λ tree. PassesBefore p tree mid o)
+  pub behind : SolvesNodes p next new
+
 -- what is claimed of the program where nothing is left to find
 abbrev pub closing : State → Closed
 closing s = closed_by (settled_in s) s.ends (why_open s.stop s.budget.solves)
 
 -- what is found is what is claimed in the state to which such solves lead, and a test of points is told of the cost of its last solve
 pub record IsFoundBySolves (p : Program) (old new : State) (found : Found) : Type 0 where
-  pub solves : SolvesNodes p old new
+  pub solves : SolvesOnce p old new
   pub claim : found.claim ≡ (closing new).claim
   pub why : found.why ≡ (closing new).why
   pub place : found.place ≡ Cost new.counts.all

@@ -1,5 +1,5 @@
 //! The nested method at work on a program.
-ghost use Rattle.std.specs.Prelude.{◌≡◌, ◌⊎◌, ◌<◌, ◌≤◌, ◌-◌, ◌^◌, ℕ, false, List, IfOk, OnOk};
+ghost use Rattle.std.specs.Prelude.{◌≡◌, ◌⊎◌, ◌<◌, ◌-◌, ◌^◌, ℕ, false, List, IfOk, OnOk};
 ghost use Rattle.scen_defs.specs.Program.{content, Program as ProgramOf};
 ghost use Rattle.scen_defs.specs.Valid.{IsProgram, IsSmall};
 ghost use Rattle.run_data.specs.Frames.{frame_of};
@@ -10,8 +10,8 @@ ghost use Rattle.tree_method.specs.Edited.{IsTreeless};
 ghost use Rattle.tree_method.specs.Scripted.{AreToCome, IsInHistory, IsInScript, StaysInScript, IsFoundInHistory, FindsInScript};
 ghost use Rattle.pass_core.specs.Tabled.{IsTabledBy, GoesBySteps};
 ghost use Rattle.tree_method.specs.Stands.{HasFewNodes, WorksOn, StandsOn, Begins, WorksBySteps, TellsWhy};
-ghost use Rattle.tree_method.specs.Stands.{IsAtEnd, EndsAt, SolvesNodes, WorksBySolves, IsFoundBySolves, FindsBySolves};
-ghost use Rattle.tree_method.specs.Stands.{SolvesAnew, WorksAnew, is_spent, after_telling};
+ghost use Rattle.tree_method.specs.Stands.{IsAtEnd, EndsAt, SolvesOnce, WorksBySolves, IsFoundBySolves, FindsBySolves};
+ghost use Rattle.tree_method.specs.Stands.{SolvesAsAsked, WorksAsAsked, SolvesAnew, WorksAnew, is_spent, after_telling};
 
 use crate::found::{Found, nothing};
 use frac128::Memory;
@@ -67,14 +67,13 @@ impl Working {
         ensures steps { let p = content program.now in (m : Machine) → IsProgram p → self.old.state.frame ≡ frame_of p
             → IsTabledBy p self.old.state m → OnOk result (GoesBySteps p m self.new.state) }
         ensures solves { let p = content program.now in (budget : BudgetOf) → IsProgram p → HasFewNodes p
-            → WorksOn p budget self.old → OnOk result (SolvesNodes p self.old.state self.new.state) }
+            → WorksOn p budget self.old → OnOk result (SolvesOnce p self.old.state self.new.state) }
         ensures made { let p = content program.now in (budget : BudgetOf) (first : ProgramOf) (edits rest : List Edit) (came : ℕ)
             → WorksOn p budget self.old → IsInHistory first edits came p rest self.old.state
             → OnOk result (IsInHistory first edits came p rest self.new.state) }
-        // so many solves were committed, or it can't go on
-        ensures ends { let p = content program.now in (budget : BudgetOf) → IsProgram p → HasFewNodes p
-            → WorksOn p budget self.old
-            → OnOk result ((work ≤ self.new.state.counts.since_item) ⊎ IsAtEnd p self.new.state) }
+        // so many solves were committed, and no more, or it can't go on
+        ensures amount { let p = content program.now in (budget : BudgetOf) → IsProgram p → HasFewNodes p
+            → WorksOn p budget self.old → OnOk result (SolvesAsAsked p work self.old.state self.new.state) }
         // where as many are asked for as are ever committed, it can't go on
         ensures endless { work ≡ 2 ^ 64 - 1 → let p = content program.now in (budget : BudgetOf) → IsProgram p → HasFewNodes p
             → WorksOn p budget self.old → OnOk result (IsAtEnd p self.new.state) }
@@ -164,6 +163,9 @@ impl Method {
         // where the method stands on the program, it solves programs of its nodes
         ensures solves { let p = content program.now in (budget : BudgetOf) → IsProgram p → HasFewNodes p
             → StandsOn p budget self.old → OnOk result (WorksBySolves p self.old self.new) }
+        // as many as are asked for, or fewer where it can't go on
+        ensures amount { let p = content program.now in (budget : BudgetOf) → IsProgram p → HasFewNodes p
+            → StandsOn p budget self.old → OnOk result (WorksAsAsked p work self.old self.new) }
         // in a script the method goes on in its history
         ensures made { let p = content program.now in (budget : BudgetOf) (first : ProgramOf) (edits rest : List Edit) (came : ℕ)
             → StandsOn p budget self.old → IsInScript first edits came p rest self.old

@@ -1,7 +1,8 @@
-use Rattle.std.proofs.Common.{◌≡◌, ◌<◌, ◌^◌, false, inl, inr, refl, arith}
+use Rattle.std.proofs.Common.{◌≡◌, ◌<◌, ◌^◌, true, false, inl, inr, refl, arith}
 use Rattle.scen_defs.specs.Program.{content}
 use Rattle.scen_defs.proofs.Valid.{programs_are_trees}
 use Rattle.tree_method.specs.Stands.{is_spent}
+use Rattle.smps_session.specs.Comes.{tells_solves}
 use Rattle.smps_session.proofs.ComeLemmas.{first_counts, counts_fewer, left_over, round_counts, ended_by, comes_of, tells_cleared}
 use Rattle.smps_session.proofs.running.reported.Goals as goal
 
@@ -20,7 +21,7 @@ pub loop-preserved : goal.loop-preserved
 loop-preserved c =
     let p = content c.args.program.now in
     let budget = c.args.budget in
-    let left : is_spent c.loop.method ≡ false =
+    let left : (tells_solves c.loop.report.finding ≡ true) × (is_spent c.loop.method ≡ false) =
     left_over c.loop.report.finding c.loop.method c.is_unfinished.result c.is_unfinished.ensures c.if-not-is_unfinished.false in
     let bits : budget.solves < 2 ^ 64 = omega (arith, c.ranges) in
     record {
@@ -28,16 +29,16 @@ loop-preserved c =
       counts = c.in_ok-report-2.ensures.counts;
       names = c.in_ok-report-2.ensures.names;
       truth = λ small stands tree.
-          c.in_ok-report-2.ensures.truth (c.in_ok-start_over.ensures.stays budget small left (c.loop.invariant.stands small stands)) tree;
+          c.in_ok-report-2.ensures.truth (c.in_ok-start_over.ensures.stays budget small left.1 (c.loop.invariant.stands small stands)) tree;
       equal = c.in_ok-report-2.ensures.equal;
       stands = λ small stands.
-          c.in_ok-report-2.ensures.stands (c.in_ok-start_over.ensures.stays budget small left (c.loop.invariant.stands small stands));
+          c.in_ok-report-2.ensures.stands (c.in_ok-start_over.ensures.stays budget small left.1 (c.loop.invariant.stands small stands));
       under_way = λ i few stands.
           let mid = c.loop.invariant.stands i.small stands in
           let before = c.loop.invariant.under_way i few stands in
           round_counts budget c.args.program.now c.loop.counter c.args.method.now c.loop.method c.start_over.new.self c.found-in-loop.new.method
-          c.loop.report c.in_ok-report-2.report bits left mid i few before.0 before.1 (c.in_ok-start_over.ensures.solves budget i few mid)
-          (c.in_ok-report-2.ensures.shows i few (c.in_ok-start_over.ensures.stays budget i.small left mid));
+          c.loop.report c.in_ok-report-2.report bits left.0 left.1 mid i few before.0 before.1 (c.in_ok-start_over.ensures.solves budget i few mid)
+          (c.in_ok-report-2.ensures.shows i few (c.in_ok-start_over.ensures.stays budget i.small left.1 mid));
     }
 
 pub returns-clause-stands : goal.returns-clause-stands

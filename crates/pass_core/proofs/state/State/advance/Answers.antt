@@ -8,7 +8,6 @@ use Rattle.pass_core.specs.declared.state.State.{State}
 use Rattle.scen_tree.specs.Trees.{Tree}
 use Rattle.pass_core.specs.Turns.{EndsAnyhow, PutsFirstCuts}
 use Rattle.pass_core.specs.Turns.MakesStep.{begins_none, opens_run}
-use Rattle.pass_core.specs.Reasons.{IsOfOpening}
 use Rattle.pass_core.proofs.Progressing.{ready_progresses, ready_rests}
 use Rattle.pass_core.proofs.Reasoning.{ready_gains}
 use Rattle.pass_core.proofs.Grounding.{opening_stuck}
@@ -67,7 +66,7 @@ returns-then-not-has_room-clause-solves c = λ m i walk frame t stand.
     let u : IsTabledBy p s m = ready_tabled p m c.args.self.now s t c.in_ok-get_ready.ensures.others c.in_ok-get_ready.ensures.begun in
     begins_none (λ room. let no : false ≡ true = c.if-not-has_room.ensures.1 (room_in m s.table u.fits room) in absurd (cc))
     (c.in_ok-get_ready.ensures.points p stand)
-    (ready_gains (IsOfOpening c.args.self.now.budget.solves ⊥) c.args.self.now s c.in_ok-get_ready.ensures.others)
+    (ready_gains (λ why. ⊥) c.args.self.now s c.in_ok-get_ready.ensures.others)
     (record {
       run = ready_stays c.args.self.now s c.in_ok-get_ready.ensures.others;
       banks = ap (λ (x : State). x.banks) c.in_ok-get_ready.ensures.others;
@@ -88,7 +87,7 @@ returns-then-ne-clause-solves c = λ m i walk frame t stand.
     (c.in_ok-open_next.ensures.tabled p m u c.in_ok-get_ready.ensures.begun room.1)
     (c.in_ok-open_next.ensures.points p (c.in_ok-get_ready.ensures.points p stand))
     (opening_stuck p c.args.tree.now c.args.self.now s c.open_next.new.self c.in_ok-get_ready.ensures.others walk
-    c.in_ok-open_next.ensures.reasons)
+    (c.in_ok-open_next.ensures.reasons i walk (ap (λ (x : State). x.frame) c.in_ok-get_ready.ensures.others ∙ frame)))
     (λ stop. ready_opens c.args.self.now s c.open_next.new.self c.in_ok-get_ready.ensures.others (c.in_ok-open_next.ensures.opened stop))
     (λ other there stop.
     let same : c.args.tree.now ≡ other = (let both : Ok c.args.tree.now ≡ Ok other = sym walk ∙ there in cc) in
@@ -122,7 +121,7 @@ returns-in-None-clause-solves c = λ m i walk frame t stand.
         | else-is_closed-via-else-is_closed w ↦ let no : false ≡ true = (w.if-is_closed.ensures.meaning m u.fits).1 closed in absurd (cc)
       ]);
     }) (c.in_ok-get_ready.ensures.points p stand)
-    (let g = ready_gains (IsOfOpening c.args.self.now.budget.solves ⊥) c.args.self.now s c.in_ok-get_ready.ensures.others in
+    (let g = ready_gains (λ why. ⊥) c.args.self.now s c.in_ok-get_ready.ensures.others in
     record { counts = g.counts; stop = g.stop; lasting = g.lasting })
     (let stays = ready_stays c.args.self.now s c.in_ok-get_ready.ensures.others in
     record {

@@ -1,6 +1,8 @@
 use Rattle.std.proofs.Common.{◌≡◌, None, IfSome, OnOk, refl, sym, ap, subst, ◌∙◌}
 use Rattle.scen_defs.specs.Program.{content, node_at}
+use Rattle.scen_defs.specs.Lists.{pick}
 use Rattle.scen_defs.specs.declared.report.Place.{Place}
+use Rattle.scen_defs.specs.declared.report.Place.TheVariants.{Solve, Cut}
 use Rattle.node_lp.specs.declared.solved.Solved.{Solved}
 use Rattle.node_lp.specs.declared.solved.Solved.TheVariants as solved
 use Rattle.proved_report.specs.declared.open.Open.TheVariants as reason
@@ -13,8 +15,10 @@ use Rattle.pass_core.proofs.Tabling.{ends_then, told_ends, neither_ends, left_en
 use Rattle.pass_core.proofs.Explaining.{then_kept, left_kept, point_gives, point_finds, at_place, on_ok}
 use Rattle.pass_core.specs.Made.{run_book, IsMadeAbout, KeepsMade}
 use Rattle.pass_core.proofs.Making.{then_made}
-use Rattle.pass_core.specs.Reasons.{IsStuck, IsOfSolve, GainsReasons}
-use Rattle.pass_core.proofs.Reasoning.{solve_reasons, stuck_wider}
+use Rattle.rationals.specs.Passes.{Operation}
+use Rattle.run_ends.specs.Costs.{joined_cost}
+use Rattle.pass_core.specs.Reasons.{PassesAtCost, Halts, cost_halts, solve_halts, IsAtSolve, IsOfSolve, GainsReasons}
+use Rattle.pass_core.proofs.Reasoning.{stopped_reasons, told_at, solve_reasons, stuck_wider}
 use Rattle.pass_core.specs.Left.{StaysInRun, LeavesNone, LeavesBy}
 use Rattle.pass_core.proofs.Leaving.{stays_then, stopped_stays, not_stopped, left_by, point_completed}
 use Rattle.pass_core.proofs.state.State.commit.Goals as goal
@@ -134,14 +138,28 @@ returns-in_ok-point-in-Point-clause-reasons c =
     let all = c.args.solved in
     let n = c.args.node in
     let trial = c.args.begun.now.task.trial in
-    let stuck : Type 0 = IsStuck old.kind old.banks n trial all in
+    let p = content c.args.program.now in
+    let tree = c.args.tree.now in
+    let lasts = old.lasts.nodes.items in
+    let x = c.in-Point.point in
+    let came : Solved = solved.Point x c.in-Point.value c.in-Point.cut in
+    let cost = joined_cost p.nodes tree.chances.totals mid.lasts.nodes.items in
+    let halts : Solved → Halts = λ s. solve_halts old.kind old.banks n trial s (PassesAtCost p tree lasts n trial s) in
+    let before = solve_halts old.kind old.banks n trial came (λ o. ⊥) in
     let point = c.in_ok-point-in-Point.ensures in
-    on_ok c.complete.result (GainsReasons (IsOfSolve mid.counts.all mid.budget.solves all ⊥) mid new)
-    (GainsReasons (IsOfSolve old.counts.all old.budget.solves all stuck) old new)
-    (λ g. solve_reasons stuck all old mid new point.stays.budget
-    (subst (λ (x : Solved). GainsReasons (IsOfSolve old.counts.all old.budget.solves all (IsStuck old.kind old.banks n trial x)) old mid)
-    (sym c.in-Point.is) (point.reasons all))
-    (stuck_wider ⊥ stuck mid.counts.all mid.budget.solves all mid new (λ h. absurd h) g)) (c.complete.ensures.reasons all)
+    subst (λ (s : Solved). OnOk c.complete.result (GainsReasons (IsOfSolve old.counts.all old.budget.solves all (halts s)) old new))
+    (sym c.in-Point.is)
+    (on_ok c.complete.result (GainsReasons (IsOfSolve mid.counts.all mid.budget.solves all (cost_halts cost)) mid new)
+    (GainsReasons (IsOfSolve old.counts.all old.budget.solves all (halts came)) old new)
+    (λ g. solve_reasons (halts came) all old mid new point.stays.budget
+    (stuck_wider before (halts came) old.counts.all old.budget.solves all old mid
+    (record { stuck = λ h. h; in_offer = λ o h. h; in_cost = λ o h. absurd h }) (point.reasons all))
+    (stuck_wider (cost_halts cost) (halts came) mid.counts.all mid.budget.solves all mid new
+    (record {
+      stuck = λ h. absurd h;
+      in_offer = λ o h. absurd h;
+      in_cost = λ o h. record { new = mid.lasts.nodes.items; behind = point.behind; passes = h };
+    }) g)) (c.complete.ensures.reasons all))
 
 pub returns-in-NoPoint-clause-reasons : goal.returns-in-NoPoint-clause-reasons
 returns-in-NoPoint-clause-reasons c =
@@ -150,9 +168,27 @@ returns-in-NoPoint-clause-reasons c =
     let all = c.args.solved in
     let n = c.args.node in
     let trial = c.args.begun.now.task.trial in
+    let in_cost : Solved → Operation → Type 0 = PassesAtCost (content c.args.program.now) c.args.tree.now old.lasts.nodes.items n trial in
     subst (λ (x : Solved). OnOk c.no_point.result
-    (GainsReasons (IsOfSolve old.counts.all old.budget.solves all (IsStuck old.kind old.banks n trial x)) old new))
+    (GainsReasons (IsOfSolve old.counts.all old.budget.solves all (solve_halts old.kind old.banks n trial x (in_cost x))) old new))
     (sym c.in-NoPoint.is) (c.no_point.ensures.reasons all)
+
+pub returns-in-Passed-clause-reasons : goal.returns-in-Passed-clause-reasons
+returns-in-Passed-clause-reasons c =
+    let old = c.args.self.now in
+    let all = c.args.solved in
+    let n = c.args.node in
+    let trial = c.args.begun.now.task.trial in
+    let halts = solve_halts old.kind old.banks n trial all
+    (PassesAtCost (content c.args.program.now) c.args.tree.now old.lasts.nodes.items n trial all) in
+    let e = c.left_open-in-Passed.ensures.others in
+    let o = c.in-Passed.passed in
+    stopped_reasons (IsOfSolve old.counts.all old.budget.solves all halts) old c.left_open-in-Passed.new.self
+    (reason.Passed c.solve_place-place.result o) (ap (λ (s : State). s.counts) e) (ap (λ (s : State). s.stop) e)
+    (ap (λ (s : State). s.lasting) e)
+    (subst (λ (place : Place). IsAtSolve old.counts.all all halts o place) (sym c.solve_place-place.ensures)
+    (subst (λ (s : Solved). IsAtSolve old.counts.all s halts o (pick c.in-Passed.in_cut (Cut old.counts.all) (Solve old.counts.all)))
+    (sym c.in-Passed.is) (told_at c.in-Passed.in_cut old.counts.all o halts)))
 
 pub returns-in_ok-point-in-Point-clause-stays : goal.returns-in_ok-point-in-Point-clause-stays
 returns-in_ok-point-in-Point-clause-stays c =

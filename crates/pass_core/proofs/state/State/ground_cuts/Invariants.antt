@@ -1,4 +1,4 @@
-use Rattle.std.proofs.Common.{◌≡◌, true, Some, Ok, IfSome, length}
+use Rattle.std.proofs.Common.{◌≡◌, true, Ok, IfSome, length}
 use Rattle.scen_defs.specs.Lists.{Each}
 use Rattle.scen_defs.specs.Program.{content}
 use Rattle.scen_defs.specs.Valid.{IsProgram}
@@ -7,14 +7,12 @@ use Rattle.cut_defs.specs.Stored.{IsMadeFor}
 use Rattle.node_lp.specs.Problem.{is_priced}
 use Rattle.run_data.specs.Frames.{frame_of}
 use Rattle.pass_core.specs.Made.{BankBooks, run_book, AreBooksOf, HasGrounds}
-use Rattle.pass_core.specs.Reasons.{GroundsTo}
-use Rattle.pass_core.proofs.FirstCuts.{AreFirstFrom}
+use Rattle.pass_core.specs.Turns.{AreFirstFrom}
 use Rattle.pass_core.proofs.state.State.ground_cuts.Given as goal
 
 abbrev pub invariant-loop-node : goal.invariant-loop-node
 invariant-loop-node l = record {
   long : length l.cuts.items ≡ l.nodes;
-  grounds : Each (λ place. IfSome place (λ cut. GroundsTo l.kind (content l.program) l.self.frame l.tree (Some cut))) l.cuts.items;
   made : (b : BankBooks) → is_priced l.kind ≡ true → IsProgram (content l.program) → tree_walk (content l.program) ≡ Ok l.tree
       → l.self.frame ≡ frame_of (content l.program) → AreBooksOf (content l.program) l.self.versions b
       → HasGrounds (content l.program) (run_book l.kind b) l.node l.cuts.items

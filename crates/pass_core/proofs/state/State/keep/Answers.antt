@@ -4,7 +4,7 @@ use Rattle.frac128.specs.declared.form.FormFault.{FormFault}
 use Rattle.run_ends.specs.Lasts.{kept, KeepsPoint}
 use Rattle.proved_report.specs.declared.open.Open.TheVariants.{Solves}
 use Rattle.pass_core.specs.declared.state.State.{State}
-use Rattle.pass_core.specs.Reasons.{PassesInJoin, IsOfSolve}
+use Rattle.pass_core.specs.Reasons.{point_halts, IsOfSolve}
 use Rattle.pass_core.proofs.Reasoning.{stopped_reasons}
 use Rattle.pass_core.proofs.Standing.{join_passes}
 use Rattle.pass_core.proofs.state.State.keep.Goals as goal
@@ -28,6 +28,6 @@ returns-in-Err-Passed-clause-reasons c = λ all.
           KeepsPoint (kept old.lasts.nodes.items c.args.node trial c.args.point) r c.keep.new.self.nodes.items)
           (c.in-Err-Passed.is ∙ ap (λ (f : FormFault). Err f) c.in-Err-Passed.field-0-is) c.keep.ensures.walk,
     ) in
-    stopped_reasons (IsOfSolve old.counts.all old.budget.solves all (PassesInJoin trial c.args.point)) old c.left_stuck.new.self
+    stopped_reasons (IsOfSolve old.counts.all old.budget.solves all (point_halts trial c.args.point)) old c.left_stuck.new.self
     (Solves old.budget.solves) (ap (λ (x : State). x.counts) e) (ap (λ (x : State). x.stop) e) (ap (λ (x : State). x.lasting) e)
     (refl, join_passes old.lasts.nodes.items c.args.node trial c.args.point passes)

@@ -6,7 +6,7 @@ use Rattle.pass_core.proofs.Standing.{same_points, then_points, forgotten_stand}
 use Rattle.pass_core.proofs.Tabling.{lasts_keeps, offered_ends}
 use Rattle.pass_core.proofs.Explaining.{then_kept, table_kept, forgotten_kept}
 use Rattle.pass_core.proofs.Making.{same_made, then_made}
-use Rattle.pass_core.specs.Reasons.{IsStuck, IsOfSolve}
+use Rattle.pass_core.specs.Reasons.{solve_halts, IsOfSolve}
 use Rattle.proved_report.specs.declared.open.Open.{Open}
 use Rattle.pass_core.proofs.Reasoning.{same_reasons, then_reasons}
 use Rattle.run_ends.specs.declared.last.Lasts.{Lasts}
@@ -49,8 +49,8 @@ returns-clause-reasons c = λ all.
     let old = c.args.self.now in
     let s : State = record old { lasts = c.forget.new.self } in
     let e = c.commit_last.ensures.others in
-    let stuck : Type 0 = IsStuck old.kind old.banks c.args.node c.args.begun.now.task.trial (solved.NoPoint c.args.cut) in
-    let is : Open → Type 0 = IsOfSolve old.counts.all old.budget.solves all stuck in
+    let halts = solve_halts old.kind old.banks c.args.node c.args.begun.now.task.trial (solved.NoPoint c.args.cut) (λ o. ⊥) in
+    let is : Open → Type 0 = IsOfSolve old.counts.all old.budget.solves all halts in
     let given = then_reasons is old s c.take_ray.new.self (same_reasons is old s refl refl refl) (c.in_ok-is_raised.ensures.reasons all) in
     then_reasons is old c.take_ray.new.self c.commit_last.new.self given
     (same_reasons is c.take_ray.new.self c.commit_last.new.self (ap (λ (x : State). x.counts) e) (ap (λ (x : State). x.stop) e) (ap (λ (x : State). x.lasting) e))

@@ -4,8 +4,6 @@ use Rattle.cut_defs.specs.Data.{Datum, IsDatum}
 use Rattle.run_data.specs.Frames.{Frame, children_in, frame_of}
 use Rattle.run_data.specs.NodeData.{share_in, node_datum}
 use Rattle.run_data.specs.Counts.{version_of}
-use Rattle.run_data.specs.declared.versions.Version.{Version}
-use Rattle.pass_core.specs.Reasons.{no_datum}
 use Rattle.pass_core.specs.Turns.{datum_in}
 use Rattle.pass_core.specs.Made.{cuts_there}
 use Rattle.pass_core.proofs.TaskFits.{program_book, is_in}
@@ -34,14 +32,15 @@ returns-clause-ground c = λ b priced i walk frame right lives h.
     ground_made c.args.kind p tree s c.args.node b c.args.cuts.now c.in-Some.datum c.total.result c.args.dual.now c.deref.result.now c.ground_cut.result
     priced i right lives h stated is shares below c.ground_cut.ensures.walk c.ground_cut.ensures.made
 
-pub returns-in_default-clause-lacks : goal.returns-in_default-clause-lacks
-returns-in_default-clause-lacks c = λ lives.
+-- each live node has a datum
+pub returns-in_default-clause-first : goal.returns-in_default-clause-first
+returns-in_default-clause-first c = λ i walk frame lives.
     let p = content c.args.program.now in
-    let s = c.args.self.now in
-    let datum : Version → Datum = λ v. node_datum c.args.kind p s.frame c.args.tree.now c.args.node v.rows v.costs in
-    no_datum c.args.node lives (λ d.
-    let no : IsSome {T = Datum} None = subst (λ (o : Option Datum). IsSome o) c.in_default.is
-    (c.in_ok-datum.ensures.found.1 (lives, subst (λ (v : Version). IsDatum (datum v)) (sym c.of-version.ensures) d)) in absurd (cc))
+    let v = c.of-version.result in
+    let tree = c.args.tree.now in
+    let found = c.in_ok-datum.ensures.of_book (program_book c.args.kind p) (is_in c.args.kind p tree c.args.node v.rows v.costs i walk lives)
+    frame in
+    let no : None ≡ Some (datum_in c.args.kind p c.args.node v) = sym c.in_default.is ∙ found in absurd (cc)
 
 pub returns-clause-first : goal.returns-clause-first
 returns-clause-first c = λ i walk frame lives.

@@ -11,11 +11,11 @@ use Rattle.cut_pool.specs.Pool.{offer_of, after_offer}
 use Rattle.cut_defs.specs.Stored.{IsMadeFor}
 use Rattle.pass_core.specs.Made.{run_book, KeepsMade}
 use Rattle.pass_core.proofs.Making.{offered_have, bank_changed, banks_made, answered_made, then_made, same_made}
-use Rattle.pass_core.specs.Reasons.{IsStale, IsRefused, IsOfSolve, GainsReasons}
+use Rattle.pass_core.specs.Reasons.{pool_halts, IsOfSolve, GainsReasons}
 use Rattle.proved_report.specs.declared.open.Open.{Open}
 use Rattle.proved_report.specs.declared.open.Open.TheVariants.{Solves}
-use Rattle.pass_core.proofs.Reasoning.{same_reasons, stopped_reasons, then_reasons, stuck_wider, answered_reasons}
-use Rattle.pass_core.proofs.Reasoning.{unanswered_refused, stale_refused}
+use Rattle.pass_core.proofs.Reasoning.{same_reasons, stopped_reasons, then_reasons, stuck_wider, answer_halts, answered_reasons}
+use Rattle.pass_core.proofs.Reasoning.{unanswered_refused, answer_within}
 use Rattle.pass_core.proofs.Leaving.{stays_as, answer_stays, answer_ends, not_stopped, offered_taken}
 use Rattle.pass_core.proofs.state.State.offer.Goals as goal
 
@@ -70,12 +70,12 @@ returns-in-Some-clause-reasons c = λ all.
     let s : State = record old { banks = c.offer.new.self } in
     let o = c.in-Some.offer in
     let pools = pools_of old.kind old.banks in
-    let stuck : Type 0 = IsRefused pools c.args.trial.now c.args.cut in
-    let is : Open → Type 0 = IsOfSolve old.counts.all old.budget.solves all stuck in
+    let halts = pool_halts pools c.args.trial.now c.args.cut in
+    let is : Open → Type 0 = IsOfSolve old.counts.all old.budget.solves all halts in
     subst (GainsReasons is old) (sym c.judged.ensures.state)
     (then_reasons is old s (after_answer o s) (same_reasons is old s refl refl refl)
-    (stuck_wider (IsStale o) stuck old.counts.all old.budget.solves all s (after_answer o s)
-    (stale_refused pools c.args.trial.now c.args.cut o (sym c.in-Some.is ∙ c.in_ok-offer.ensures.answer)) (answered_reasons all o s)))
+    (stuck_wider (answer_halts o) halts old.counts.all old.budget.solves all s (after_answer o s)
+    (answer_within pools c.args.trial.now c.args.cut o (sym c.in-Some.is ∙ c.in_ok-offer.ensures.answer)) (answered_reasons all o s)))
 
 pub returns-in-None-clause-reasons : goal.returns-in-None-clause-reasons
 returns-in-None-clause-reasons c = λ all.
@@ -83,7 +83,7 @@ returns-in-None-clause-reasons c = λ all.
     let s : State = record old { banks = c.offer.new.self } in
     let e = c.stuck.ensures in
     let pools = pools_of old.kind old.banks in
-    let is : Open → Type 0 = IsOfSolve old.counts.all old.budget.solves all (IsRefused pools c.args.trial.now c.args.cut) in
+    let is : Open → Type 0 = IsOfSolve old.counts.all old.budget.solves all (pool_halts pools c.args.trial.now c.args.cut) in
     then_reasons is old s c.stuck.new.self (same_reasons is old s refl refl refl)
     (stopped_reasons is s c.stuck.new.self (Solves old.budget.solves) (ap (λ (x : State). x.counts) e) (ap (λ (x : State). x.stop) e)
     (ap (λ (x : State). x.lasting) e)

@@ -1,8 +1,9 @@
-use Rattle.std.proofs.Common.{Option, Some, None, replicate, IfSome, refl, sym, ap, subst, ◌∙◌}
+use Rattle.std.proofs.Common.{List, Option, None, replicate, IfSome, refl, sym, ap, subst, ◌∙◌}
 use Rattle.scen_defs.specs.Lists.{Each}
 use Rattle.cut_defs.specs.Stored.{Stored, IsMadeFor}
 use Rattle.pass_core.specs.Made.{run_book}
-use Rattle.pass_core.specs.Reasons.{GroundsTo}
+use Rattle.pass_core.specs.Reasons.{IsOfOpening, GainsReasons}
+use Rattle.pass_core.specs.Grounds.{OneIsNotPut}
 use Rattle.pass_core.specs.Explained.{PointsAreFound}
 use Rattle.run_ends.specs.declared.ends.Ends.{Ends}
 use Rattle.pass_core.specs.declared.state.State.{State}
@@ -55,10 +56,9 @@ returns-clause-opened c = λ k.
     }
 
 pub returns-clause-reasons : goal.returns-clause-reasons
-returns-clause-reasons c = λ p tree all.
-    let each : Each (λ (place : Option Stored). IfSome place (λ cut. GroundsTo c.args.kind p c.args.self.now.frame tree (Some cut)))
-    c.deref.result.now =
-    subst (Each (λ (place : Option Stored). IfSome place (λ cut. GroundsTo c.args.kind p c.args.self.now.frame tree (Some cut))))
-    (sym c.deref.ensures.value) all in
-    let h = c.in_ok-put_all.ensures.reasons p tree each in
+returns-clause-reasons c =
+    let old = c.args.self.now in
+    let h = subst (λ (cuts : List (Option Stored)).
+    GainsReasons (IsOfOpening old.budget.solves (OneIsNotPut c.args.kind cuts old.banks) (λ o. ⊥)) old c.put_all.new.self)
+    c.deref.ensures.value c.in_ok-put_all.ensures.reasons in
     record { counts = h.counts; stop = h.stop; lasting = λ why e. absurd (cc) }

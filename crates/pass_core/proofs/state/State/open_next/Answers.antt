@@ -1,12 +1,14 @@
 use Rattle.pass_core.specs.Tabled.{KeepsPools, Opens}
 use Rattle.pass_core.specs.Tabled.Opens.{not_opened}
 use Rattle.pass_core.proofs.Explaining.{on_ok, both_ok}
-use Rattle.std.proofs.Common.{◌≡◌, None, inl, inr, subst}
+use Rattle.std.proofs.Common.{◌≡◌, None}
 use Rattle.scen_defs.specs.Program.{content}
-use Rattle.scen_defs.specs.declared.report.Kind.{Kind}
-use Rattle.pass_core.specs.Left.{next_kind, OpensRun}
+use Rattle.pass_core.specs.Left.{OpensRun}
 use Rattle.pass_core.proofs.Tabling.{still_tabled}
-use Rattle.pass_core.specs.Reasons.{LacksGround, RefusesGround, IsStuckBefore, IsOfOpening, GainsReasons}
+use Rattle.pass_core.specs.Reasons.{IsOfOpening, GainsReasons}
+use Rattle.pass_core.specs.Turns.{IsStuckBefore, PassesBefore}
+use Rattle.pass_core.specs.Grounds.{OneIsNotPut}
+use Rattle.pass_core.proofs.FirstCuts.{refused_before}
 use Rattle.pass_core.proofs.Reasoning.{wider_reasons, wider_opening}
 use Rattle.pass_core.proofs.Progressing.{opened_progresses, stopped_progresses}
 use Rattle.pass_core.specs.Made.{KeepsMade, CutsAreMade}
@@ -50,51 +52,33 @@ returns-in-Err-clause-opened c =
     c.not_opened.ensures.stops
 
 pub returns-in-Ok-clause-reasons : goal.returns-in-Ok-clause-reasons
-returns-in-Ok-clause-reasons c =
+returns-in-Ok-clause-reasons c = λ i walk frame.
     let old = c.args.self.now in
     let new = c.open.new.self in
     let p = content c.args.program.now in
     let tree = c.args.tree.now in
-    let refuses : Type 0 = RefusesGround c.next-kind.result p old.frame tree new.banks in
-    let stuck : Type 0 = IsStuckBefore (next_kind old.kind) p old.frame tree old.versions new.banks in
-    on_ok c.open.result (GainsReasons (IsOfOpening old.budget.solves refuses) old new)
-    (GainsReasons (IsOfOpening old.budget.solves stuck) old new)
-    (wider_reasons (IsOfOpening old.budget.solves refuses) (IsOfOpening old.budget.solves stuck) old new
-    (wider_opening refuses stuck old.budget.solves
-    (λ h. inr (subst (λ (k : Kind). RefusesGround k p old.frame tree new.banks) c.next-kind.ensures.kind h))))
-    (c.open.ensures.reasons p tree c.in-Ok.ensures.grounds)
+    let kind = c.next-kind.result in
+    let cuts = c.in-Ok.cuts.items in
+    let refused : Type 0 = OneIsNotPut kind cuts old.banks in
+    let is = IsOfOpening old.budget.solves refused (λ o. ⊥) in
+    let told = IsOfOpening old.budget.solves (IsStuckBefore p tree old) (PassesBefore p tree old) in
+    let first = c.in-Ok.ensures.first i walk frame in
+    on_ok c.open.result (GainsReasons is old new) (GainsReasons told old new)
+    (wider_reasons is told old new
+    (wider_opening refused (IsStuckBefore p tree old) (λ o. ⊥) (PassesBefore p tree old) old.budget.solves
+    (λ h. refused_before p tree kind old cuts c.next-kind.ensures.kind first h) (λ o h. absurd h)))
+    c.open.ensures.reasons
 
 pub returns-in-Err-clause-reasons : goal.returns-in-Err-clause-reasons
-returns-in-Err-clause-reasons c =
-    let old = c.args.self.now in
-    let new = c.not_opened.new.self in
-    let p = content c.args.program.now in
-    let tree = c.args.tree.now in
-    let lacks : Type 0 = LacksGround c.next-kind.result p old.frame tree old.versions in
-    let stuck : Type 0 = IsStuckBefore (next_kind old.kind) p old.frame tree old.versions new.banks in
-    on_ok c.not_opened.result (GainsReasons (IsOfOpening old.budget.solves lacks) old new)
-    (GainsReasons (IsOfOpening old.budget.solves stuck) old new)
-    (wider_reasons (IsOfOpening old.budget.solves lacks) (IsOfOpening old.budget.solves stuck) old new
-    (wider_opening lacks stuck old.budget.solves
-    (λ h. inl (subst (λ (k : Kind). LacksGround k p old.frame tree old.versions) c.next-kind.ensures.kind h))))
-    (c.not_opened.ensures.reasons c.next-kind.result p tree c.in-Err.ensures.lacks)
+returns-in-Err-clause-reasons c = λ i walk frame.
+    c.not_opened.ensures.reasons (content c.args.program.now) c.args.tree.now (c.in-Err.ensures.faults i walk frame c.next-kind.ensures.kind)
 
 pub returns-in-Ok-clause-progress : goal.returns-in-Ok-clause-progress
 returns-in-Ok-clause-progress c = λ unlike.
     let old = c.args.self.now in
-    let new = c.open.new.self in
-    let p = content c.args.program.now in
-    let tree = c.args.tree.now in
-    opened_progresses c.open.result (IsOfOpening old.budget.solves (RefusesGround c.next-kind.result p old.frame tree new.banks)) old
-    new unlike
-    (c.open.ensures.reasons p tree c.in-Ok.ensures.grounds) (c.open.ensures.opened c.next-kind.ensures.kind)
+    opened_progresses c.open.result (IsOfOpening old.budget.solves (OneIsNotPut c.next-kind.result c.in-Ok.cuts.items old.banks) (λ o. ⊥)) old
+    c.open.new.self unlike c.open.ensures.reasons (c.open.ensures.opened c.next-kind.ensures.kind)
 
 pub returns-in-Err-clause-progress : goal.returns-in-Err-clause-progress
 returns-in-Err-clause-progress c = λ unlike.
-    let old = c.args.self.now in
-    let new = c.not_opened.new.self in
-    let p = content c.args.program.now in
-    let tree = c.args.tree.now in
-    stopped_progresses c.not_opened.result (IsOfOpening old.budget.solves (LacksGround c.next-kind.result p old.frame tree old.versions))
-    old new (c.not_opened.ensures.reasons c.next-kind.result p tree c.in-Err.ensures.lacks)
-    c.not_opened.ensures.stops c.not_opened.ensures.budget
+    stopped_progresses c.not_opened.result c.args.self.now c.not_opened.new.self c.not_opened.ensures.stops c.not_opened.ensures.others

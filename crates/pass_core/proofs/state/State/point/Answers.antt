@@ -1,5 +1,6 @@
-use Rattle.std.proofs.Common.{◌≡◌, Bool, true, false, Ok, ap, inl, inr, refl, sym, ◌∙◌, rules}
+use Rattle.std.proofs.Common.{◌≡◌, Bool, true, false, Ok, ap, inl, inr, refl, sym, subst, ◌∙◌, rules}
 use Rattle.node_lp.specs.declared.solved.Solved.TheVariants as solved
+use Rattle.run_ends.specs.declared.last.Lasts.{Lasts}
 use Rattle.pass_core.specs.declared.state.State.{State}
 use Rattle.pass_core.specs.Turns.{EndsBy}
 use Rattle.pass_core.proofs.Standing.{join_passes, same_points, then_points, point_stands}
@@ -7,7 +8,7 @@ use Rattle.pass_core.proofs.Tabling.{left_ends, lasts_keeps, offered_ends, not_t
 use Rattle.pass_core.proofs.Explaining.{then_kept, table_kept, still_given}
 use Rattle.pass_core.specs.Made.{KeepsMade}
 use Rattle.pass_core.proofs.Making.{same_made, then_made, still_made}
-use Rattle.pass_core.specs.Reasons.{PassesInJoin, RefusesCut, IsStuck, IsOfSolve}
+use Rattle.pass_core.specs.Reasons.{AreBehind, cut_halts, point_halts, solve_halts, IsOfSolve}
 use Rattle.proved_report.specs.declared.open.Open.{Open}
 use Rattle.pass_core.proofs.Reasoning.{same_reasons, then_reasons, solve_reasons, stuck_wider, refused_as}
 use Rattle.proved_report.specs.declared.open.Open.TheVariants.{Solves}
@@ -73,9 +74,10 @@ pub returns-then-not-branch-clause-reasons : goal.returns-then-not-branch-clause
 returns-then-not-branch-clause-reasons c = λ all.
     let old = c.args.self.now in
     let trial = c.args.begun.now.task.trial in
-    stuck_wider (PassesInJoin trial c.args.point)
-    (IsStuck old.kind old.banks c.args.node trial (solved.Point c.args.point c.args.value c.args.cut)) old.counts.all old.budget.solves all
-    old c.keep.new.self (λ h. inl h) (c.in_ok-keep.ensures.reasons all)
+    stuck_wider (point_halts trial c.args.point)
+    (solve_halts old.kind old.banks c.args.node trial (solved.Point c.args.point c.args.value c.args.cut) (λ o. ⊥)) old.counts.all
+    old.budget.solves all old c.keep.new.self (record { stuck = λ h. inl h; in_offer = λ o h. absurd h; in_cost = λ o h. h })
+    (c.in_ok-keep.ensures.reasons all)
 
 pub returns-clause-reasons : goal.returns-clause-reasons
 returns-clause-reasons c = λ all.
@@ -88,15 +90,32 @@ returns-clause-reasons c = λ all.
     let trial = c.args.begun.now.task.trial in
     let e = c.in_ok-keep.ensures.others (ap (λ (b : Bool). Ok b) q) in
     let f = c.commit_last.ensures.others in
-    let stuck : Type 0 = IsStuck old.kind old.banks n trial (solved.Point c.args.point c.args.value c.args.cut) in
-    let is : Open → Type 0 = IsOfSolve old.counts.all old.budget.solves all stuck in
+    let halts = solve_halts old.kind old.banks n trial (solved.Point c.args.point c.args.value c.args.cut) (λ o. ⊥) in
+    let is : Open → Type 0 = IsOfSolve old.counts.all old.budget.solves all halts in
     then_reasons is old bound new
-    (solve_reasons stuck all old mid bound (ap (λ (x : State). x.budget) e)
+    (solve_reasons halts all old mid bound (ap (λ (x : State). x.budget) e)
     (same_reasons is old mid (ap (λ (x : State). x.counts) e) (ap (λ (x : State). x.stop) e) (ap (λ (x : State). x.lasting) e))
-    (stuck_wider (RefusesCut mid.kind mid.banks n trial c.args.cut) stuck mid.counts.all mid.budget.solves all mid bound
-    (λ h. inr (refused_as old mid n trial c.args.cut (ap (λ (x : State). x.kind) e) (ap (λ (x : State). x.banks) e) h))
+    (stuck_wider (cut_halts mid.kind mid.banks n trial c.args.cut) halts mid.counts.all mid.budget.solves all mid bound
+    (refused_as old mid n trial c.args.point c.args.value c.args.cut (ap (λ (x : State). x.kind) e) (ap (λ (x : State). x.banks) e))
     (c.in_ok-is_raised.ensures.reasons all)))
     (same_reasons is bound new (ap (λ (x : State). x.counts) f) (ap (λ (x : State). x.stop) f) (ap (λ (x : State). x.lasting) f))
+
+pub returns-then-not-branch-clause-behind : goal.returns-then-not-branch-clause-behind
+returns-then-not-branch-clause-behind c =
+    let q : c.in_ok-keep.field-0 ≡ false = first_of (cc, search (rules, not_true, c.if-not-branch.true)) in
+    let r = ap (λ (b : Bool). Ok b) q in
+    let old = c.args.self.now.lasts.nodes.items in
+    inr (
+      join_passes old c.args.node c.args.begun.now.task.trial c.args.point (c.in_ok-keep.ensures.passed r),
+      ap (λ (s : State). s.lasts.nodes.items) (c.in_ok-keep.ensures.stuck r),
+    )
+
+pub returns-clause-behind : goal.returns-clause-behind
+returns-clause-behind c =
+    let q : c.in_ok-keep.field-0 ≡ true = first_of (cc, search (rules, not_false, c.if-not-branch.false)) in
+    let e = ap (λ (s : State). s.lasts) c.commit_last.ensures.others ∙ c.in_ok-is_raised.ensures.lasts in
+    subst (λ (l : Lasts). AreBehind c.args.self.now.lasts.nodes.items c.args.node c.args.begun.now.task.trial c.args.point l.nodes.items)
+    (sym e) (inl (c.in_ok-keep.ensures.kept (ap (λ (b : Bool). Ok b) q)))
 
 pub returns-then-not-branch-clause-stays : goal.returns-then-not-branch-clause-stays
 returns-then-not-branch-clause-stays c =

@@ -10,11 +10,10 @@ use Rattle.pass_core.proofs.Making.{bank_changed, banks_made, then_made, same_ma
 use Rattle.pass_core.proofs.Leaving.{put_others}
 use Rattle.proved_report.specs.declared.open.Open.{Open}
 use Rattle.proved_report.specs.declared.open.Open.TheVariants.{Solves}
-use Rattle.pass_core.specs.Reasons.{IsNotPut, IsOfOpening}
+use Rattle.pass_core.specs.Reasons.{IsOfOpening}
 use Rattle.pass_core.proofs.Reasoning.{same_reasons, then_reasons, stopped_reasons}
-use Rattle.pass_core.proofs.Grounding.{still_not_put, not_put_as}
-use Rattle.pass_core.specs.Grounds.{PutsCut}
-use Rattle.pass_core.proofs.FirstCuts.{pool_put}
+use Rattle.pass_core.specs.Grounds.{put_cut, IsNotPut, PutsCut}
+use Rattle.pass_core.proofs.FirstCuts.{pool_banks, pool_put}
 use Rattle.pass_core.proofs.state.State.put.Goals as goal
 
 pub returns-then-is_put-clause-kept : goal.returns-then-is_put-clause-kept
@@ -53,14 +52,24 @@ returns-clause-made c = λ b h.
 pub returns-clause-others : goal.returns-clause-others
 returns-clause-others c = put_others c.args.self.now c.stuck.new.self c.ground.new.self _ c.stuck.ensures
 
-pub returns-then-is_put-clause-still : goal.returns-then-is_put-clause-still
-returns-then-is_put-clause-still c = λ cut h.
-    still_not_put c.args.kind c.args.self.now.banks c.ground.new.self cut c.in_ok-own.own c.in_ok-is_put.ensures.ok h
+pub returns-then-is_put-clause-banks : goal.returns-then-is_put-clause-banks
+returns-then-is_put-clause-banks c =
+    let old = c.args.self.now in
+    subst (λ (o : Option Stored). c.ground.new.self ≡ put_cut c.args.kind o old.banks)
+    (ap (λ (x : Stored). Some x) c.in_ok-own.ensures ∙ sym c.in-Some.is)
+    (pool_banks c.args.kind c.in_ok-own.own old.banks c.ground.new.self
+    (λ e. c.if-node-eq0.false (c.node.ensures ∙ ap (λ (x : Stored). (source_of x).node) (c.cut.ensures ∙ sym c.in_ok-own.ensures) ∙ e))
+    c.in_ok-is_put.ensures.ok)
 
-pub returns-clause-still : goal.returns-clause-still
-returns-clause-still c = λ cut h.
-    not_put_as c.args.kind c.ground.new.self c.stuck.new.self.banks cut (ap (λ (x : State). x.banks) c.stuck.ensures)
-    (still_not_put c.args.kind c.args.self.now.banks c.ground.new.self cut c.in_ok-own.own c.in_ok-is_put.ensures.ok h)
+pub returns-clause-banks : goal.returns-clause-banks
+returns-clause-banks c =
+    let old = c.args.self.now in
+    ap (λ (x : State). x.banks) c.stuck.ensures
+    ∙ subst (λ (o : Option Stored). c.ground.new.self ≡ put_cut c.args.kind o old.banks)
+    (ap (λ (x : Stored). Some x) c.in_ok-own.ensures ∙ sym c.in-Some.is)
+    (pool_banks c.args.kind c.in_ok-own.own old.banks c.ground.new.self
+    (λ e. c.if-node-eq0.false (c.node.ensures ∙ ap (λ (x : Stored). (source_of x).node) (c.cut.ensures ∙ sym c.in_ok-own.ensures) ∙ e))
+    c.in_ok-is_put.ensures.ok)
 
 pub returns-clause-reasons : goal.returns-clause-reasons
 returns-clause-reasons c =
@@ -78,13 +87,10 @@ returns-clause-reasons c =
           absurd (omega (arith, z, node, c.if-node-eq0.false));
       refused = sym c.in_ok-is_put.ensures.done ∙ c.if-is_put.false;
     } in
-    let here : IsNotPut kind new.banks cut =
-    not_put_as kind banks new.banks cut (ap (λ (x : State). x.banks) e)
-    (still_not_put kind old.banks banks cut cut c.in_ok-is_put.ensures.ok refused) in
-    let stuck : IsSomeAnd c.args.place.now (IsNotPut kind new.banks) =
-    subst (λ (o : Option Stored). IsSomeAnd o (IsNotPut kind new.banks)) (sym c.in-Some.is)
-    (subst (IsNotPut kind new.banks) c.in_ok-own.ensures here) in
-    let is : Open → Type 0 = IsOfOpening old.budget.solves (IsSomeAnd c.args.place.now (IsNotPut kind new.banks)) in
+    let stuck : IsSomeAnd c.args.place.now (IsNotPut kind old.banks) =
+    subst (λ (o : Option Stored). IsSomeAnd o (IsNotPut kind old.banks)) (sym c.in-Some.is)
+    (subst (IsNotPut kind old.banks) c.in_ok-own.ensures refused) in
+    let is : Open → Type 0 = IsOfOpening old.budget.solves (IsSomeAnd c.args.place.now (IsNotPut kind old.banks)) (λ o. ⊥) in
     then_reasons is old s new (same_reasons is old s refl refl refl)
     (stopped_reasons is s new (Solves old.budget.solves) (ap (λ (x : State). x.counts) e) (ap (λ (x : State). x.stop) e)
     (ap (λ (x : State). x.lasting) e) (refl, stuck))

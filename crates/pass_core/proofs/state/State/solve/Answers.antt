@@ -10,7 +10,7 @@ use Rattle.pass_core.specs.Turns.{AreUpTo, IsTaskOf, EndsBy, EndsAnyhow}
 use Rattle.pass_core.proofs.Standing.{found_stands}
 use Rattle.pass_core.proofs.TaskFits.{task_trial, task_fits}
 use Rattle.pass_core.proofs.Solving.{solved_by}
-use Rattle.pass_core.specs.Reasons.{IsStuck, IsOfSolve}
+use Rattle.pass_core.specs.Reasons.{PassesAtCost, solve_halts, IsOfSolve}
 use Rattle.proved_report.specs.declared.open.Open.TheVariants.{Solves}
 use Rattle.pass_core.proofs.Progressing.{stuck_progresses, counted_progresses}
 use Rattle.scen_defs.specs.Program.{content}
@@ -156,7 +156,10 @@ returns-clause-progress c =
     let s = c.args.self.now in
     let all = c.in_ok-solved.solved in
     let counts = c.raise.new.self in
+    let n = c.args.node in
+    let trial = c.in-Some.begun.task.trial in
     counted_progresses c.commit.result
-    (IsOfSolve counts.all s.budget.solves all (IsStuck s.kind s.banks c.args.node c.in-Some.begun.task.trial all)) s
+    (IsOfSolve counts.all s.budget.solves all (solve_halts s.kind s.banks n trial all
+    (PassesAtCost (content c.args.program.now) c.args.tree.now s.lasts.nodes.items n trial all))) s
     c.commit.new.self counts
     c.raise.ensures c.commit.ensures.reasons c.commit.ensures.stays

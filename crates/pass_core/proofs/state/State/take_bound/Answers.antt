@@ -7,7 +7,7 @@ use Rattle.pass_core.specs.Made.{run_book, IsMadeAbout, KeepsMade}
 use Rattle.pass_core.proofs.Making.{ends_made, root_made}
 use Rattle.pass_core.specs.declared.state.State.{State}
 use Rattle.pass_core.specs.Left.{IsOffered, OffersCut, ends_behind}
-use Rattle.pass_core.specs.Reasons.{IsRefused, RefusesCut, IsOfSolve, GainsReasons}
+use Rattle.pass_core.specs.Reasons.{pool_halts, cut_halts, IsOfSolve, GainsReasons}
 use Rattle.cut_banks.specs.Banks.{pools_of}
 use Rattle.pass_core.proofs.Reasoning.{stuck_wider, refused_above}
 use Rattle.pass_core.proofs.Explaining.{on_ok}
@@ -83,9 +83,9 @@ returns-in-Some-clause-reasons c = λ all.
     let n = c.args.node in
     let trial = c.args.trial.now in
     let low : 0 < n = omega (arith, c.if-node-gt0.true) in
-    let refused : Type 0 = IsRefused (pools_of old.kind old.banks) trial c.in-Some.cut in
-    let stuck : Type 0 = RefusesCut old.kind old.banks n trial c.args.cut in
+    let refused = pool_halts (pools_of old.kind old.banks) trial c.in-Some.cut in
+    let halts = cut_halts old.kind old.banks n trial c.args.cut in
     on_ok c.offer.result (GainsReasons (IsOfSolve old.counts.all old.budget.solves all refused) old new)
-    (GainsReasons (IsOfSolve old.counts.all old.budget.solves all stuck) old new)
-    (stuck_wider refused stuck old.counts.all old.budget.solves all old new
+    (GainsReasons (IsOfSolve old.counts.all old.budget.solves all halts) old new)
+    (stuck_wider refused halts old.counts.all old.budget.solves all old new
     (refused_above old.kind old.banks n trial c.args.cut c.in-Some.cut low c.in-Some.is)) (c.offer.ensures.reasons all)

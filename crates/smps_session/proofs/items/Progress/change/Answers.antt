@@ -7,8 +7,9 @@ returns-clause-stands c = λ budget stands. c.edit.ensures.stands budget (c.in_o
 
 pub returns-clause-takes : goal.returns-clause-takes
 returns-clause-takes c = λ budget stands.
-    takes_edit c.edit.result (content c.args.program.now) c.args.edit.now c.args.self.now.method c.work.new.self c.edit.new.self
-    (λ few. c.in_ok-work.ensures.solves budget c.requires.program few stands) c.edit.ensures.method
+    takes_edit c.edit.result (content c.args.program.now) c.args.work c.args.edit.now c.args.self.now.method c.work.new.self c.edit.new.self
+    (λ few. c.in_ok-work.ensures.solves budget c.requires.program few stands)
+    (λ few. c.in_ok-work.ensures.amount budget c.requires.program few stands) c.edit.ensures.method
 
 pub returns-clause-cleared : goal.returns-clause-cleared
 returns-clause-cleared c = λ few.

@@ -8,13 +8,13 @@ change-requires-clause-allowed c =
     edit_allowed (content c.args.program.now) c.args.item.now c.in-Change.edit c.in-Change.is c.requires.allowed
 
 pub returns-in-Change-clause-course : goal.returns-in-Change-clause-course
-returns-in-Change-clause-course c = is_behind_edit c.change.result c.args.budget c.args.item.now.act c.in-Change.edit
+returns-in-Change-clause-course c = is_behind_edit c.change.result c.args.budget c.args.item.now.work c.args.item.now.act c.in-Change.edit
     (content c.args.program.now) (content c.change.new.program) c.args.self.now.method c.change.new.self.method
     c.args.self.now.number c.change.new.self.number c.args.tolds.now.items
     c.in-Change.is c.change.ensures.after c.change.ensures.number (c.change.ensures.takes c.args.budget c.requires.stands)
 
 pub returns-in-Solve-clause-course : goal.returns-in-Solve-clause-course
-returns-in-Solve-clause-course c = is_behind_solve c.tell.result c.args.budget c.args.item.now.act
+returns-in-Solve-clause-course c = is_behind_solve c.tell.result c.args.budget c.args.item.now.work c.args.item.now.act
     (course_at (content c.args.program.now) c.args.self.now.method c.args.self.now.number c.args.tolds.now.items)
     (course_at (content c.args.program.now) c.tell.new.self.method c.tell.new.self.number c.tell.new.tolds.items)
     c.in-Solve.is c.tell.ensures.told

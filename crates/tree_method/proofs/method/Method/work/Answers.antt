@@ -2,7 +2,7 @@ use Rattle.std.proofs.Common.{OnOk, sym, subst}
 use Rattle.scen_defs.specs.Program.{Program, content}
 use Rattle.tree_method.specs.declared.method.Method.{Method}
 use Rattle.tree_method.specs.declared.method.Method.TheVariants.{Working as AtWork}
-use Rattle.tree_method.specs.Stands.{StandsOn, WorksBySolves}
+use Rattle.tree_method.specs.Stands.{StandsOn, WorksBySolves, WorksAsAsked}
 use Rattle.tree_method.specs.Scripted.{IsInScript}
 use Rattle.tree_method.proofs.method.Method.work.Goals as goal
 
@@ -11,6 +11,12 @@ returns-in-Working-clause-solves c = λ budget i few s.
     let p : Program = content c.args.program.now in
     subst (λ (m : Method). OnOk c.run.result (WorksBySolves p m (AtWork c.run.new.self))) (sym c.in-Working.is)
     (c.run.ensures.solves budget i few (subst (StandsOn p budget) c.in-Working.is s))
+
+pub returns-in-Working-clause-amount : goal.returns-in-Working-clause-amount
+returns-in-Working-clause-amount c = λ budget i few s.
+    let p : Program = content c.args.program.now in
+    subst (λ (m : Method). OnOk c.run.result (WorksAsAsked p c.args.work m (AtWork c.run.new.self))) (sym c.in-Working.is)
+    (c.run.ensures.amount budget i few (subst (StandsOn p budget) c.in-Working.is s))
 
 pub returns-in-Working-clause-made : goal.returns-in-Working-clause-made
 returns-in-Working-clause-made c = λ budget first edits rest came s h.

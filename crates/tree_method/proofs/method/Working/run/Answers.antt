@@ -1,18 +1,18 @@
-use Rattle.std.proofs.Common.{◌≡◌, ◌⊎◌, inr, ◌≤◌, None, refl, sym, subst, ◌∙◌, arith}
+use Rattle.std.proofs.Common.{◌≡◌, inr, None, refl, sym, subst, ◌∙◌, arith}
 use Rattle.scen_defs.specs.Program.{content}
 use Rattle.pass_core.specs.Tabled.{GoesBySteps}
 use Rattle.pass_core.proofs.Tabling.{goes_further, goes_nowhere}
 use Rattle.tree_method.specs.declared.method.Working.{Working}
-use Rattle.tree_method.specs.Stands.{WorksOn, settled_in, IsAtEnd, SolvesNodes, none}
-use Rattle.tree_method.proofs.Ending.{ripe_ends, rest_ends, ends_anyhow, leaves_fewer}
-use Rattle.tree_method.proofs.StandLemmas.{works_still, step_tabled, steps_points, goes_on, not_ripe, step_in_budget, solves_more}
+use Rattle.tree_method.specs.Stands.{WorksOn, settled_in, IsAtEnd, SolvesAsAsked, SolvesOnce}
+use Rattle.tree_method.proofs.Ending.{ripe_ends, rest_ends, ends_anyhow, leaves_fewer, none_beyond, step_within, rests_within}
+use Rattle.tree_method.proofs.StandLemmas.{works_still, step_tabled, steps_points, goes_on, not_ripe, asked_yet, step_in_budget, solves_none, solves_more}
 use Rattle.tree_method.specs.Scripted.{IsInHistory}
 use Rattle.tree_method.proofs.Histories.{history_stays}
 use Rattle.tree_method.proofs.method.Working.run.Goals as goal
 use Rattle.tree_method.proofs.method.Working.run.Goals.{then-is_ripe-via-then-is_ripe, then-is_ripe-via-else-is_ripe+in_ok-advance+then-not-branch}
 
 pub steps-init : goal.steps-init
-steps-init c = ((λ budget w. w), (λ m i f h. (goes_nowhere (content c.args.program.now) m c.args.self.now.state h, f)), (λ budget i few w. none), (λ budget first edits rest came w h. h))
+steps-init c = ((λ budget w. w), (λ m i f h. (goes_nowhere (content c.args.program.now) m c.args.self.now.state h, f)), (λ budget i few w. solves_none (content c.args.program.now) c.args.self.now.state), (λ budget first edits rest came w h. h), none_beyond c.args.work c.args.self.now.state)
 
 pub steps-preserved : goal.steps-preserved
 steps-preserved c =
@@ -33,6 +33,9 @@ steps-preserved c =
           let works = c.steps.invariant.0 budget w in
           history_stays first edits came p rest c.steps.self.state new.state c.in_ok-advance.ensures.explained.2
           (λ b i right made. c.in_ok-advance.ensures.made b i works.tree works.frame right made) (c.steps.invariant.3 budget first edits rest came w h)),
+      step_within c.args.work c.args.self.now.state c.steps.self.state new.state
+          (asked_yet c.args.work c.steps.self.state.counts.since_item _ (sym c.is_ripe.ensures ∙ c.if-is_ripe.false))
+          (c.in_ok-advance.ensures.progress c.if-not-branch.false),
     )
 
 pub returns-clause-stays : goal.returns-clause-stays
@@ -65,12 +68,12 @@ returns-clause-steps c = elim c.then-is_ripe.branch [
 pub returns-clause-solves : goal.returns-clause-solves
 returns-clause-solves c = elim c.then-is_ripe.branch [
   | then-is_ripe-via-then-is_ripe way ↦ λ budget i few w.
-      subst (λ (working : Working). SolvesNodes (content c.args.program.now) c.args.self.now.state working.state) (sym way.self-is)
+      subst (λ (working : Working). SolvesOnce (content c.args.program.now) c.args.self.now.state working.state) (sym way.self-is)
       (c.steps.invariant.2 budget i few w)
   | then-is_ripe-via-else-is_ripe+in_ok-advance+then-not-branch way ↦ λ budget i few w.
       let p = content c.args.program.now in
       let new : Working = record { state = way.advance.new.self; tree = c.steps.self.tree } in
-      subst (λ (working : Working). SolvesNodes p c.args.self.now.state working.state) (sym way.self-is)
+      subst (λ (working : Working). SolvesOnce p c.args.self.now.state working.state) (sym way.self-is)
       (solves_more p budget c.args.self.now.state c.steps.self new.state _ i few (c.steps.invariant.0 budget w) (c.steps.invariant.2 budget i few w)
       (λ m. way.in_ok-advance.ensures.solves m i) (λ t f b right made. way.in_ok-advance.ensures.made b i t f right made)
       (not_ripe c.args.work _ _ (sym c.is_ripe.ensures ∙ way.if-is_ripe.false)))
@@ -89,18 +92,23 @@ returns-clause-made c = elim c.then-is_ripe.branch [
       (λ b i right made. way.in_ok-advance.ensures.made b i works.tree works.frame right made) (c.steps.invariant.3 budget first edits rest came w h))
 ]
 
-pub returns-clause-ends : goal.returns-clause-ends
-returns-clause-ends c = elim c.then-is_ripe.branch [
+pub returns-clause-amount : goal.returns-clause-amount
+returns-clause-amount c = elim c.then-is_ripe.branch [
   | then-is_ripe-via-then-is_ripe way ↦ λ budget i few w.
       let p = content c.args.program.now in
-      subst (λ (working : Working). (c.args.work ≤ working.state.counts.since_item) ⊎ IsAtEnd p working.state) (sym way.self-is)
-      (ripe_ends p c.args.work c.steps.self.state (sym c.is_ripe.ensures ∙ way.if-is_ripe.true))
+      subst (λ (working : Working). SolvesAsAsked p c.args.work c.args.self.now.state working.state) (sym way.self-is) (record {
+        enough = ripe_ends p c.args.work c.steps.self.state (sym c.is_ripe.ensures ∙ way.if-is_ripe.true);
+        no_more = c.steps.invariant.4;
+      })
   | then-is_ripe-via-else-is_ripe+in_ok-advance+then-not-branch way ↦ λ budget i few w.
       let p = content c.args.program.now in
       let works = c.steps.invariant.0 budget w in
-      subst (λ (working : Working). (c.args.work ≤ working.state.counts.since_item) ⊎ IsAtEnd p working.state) (sym way.self-is)
-      (inr (rest_ends p c.steps.self.state way.advance.new.self _ way.if-not-branch.true (works.tabled i few)
-      (λ m t. way.in_ok-advance.ensures.solves m i works.tree works.frame t (works.points i few))))
+      subst (λ (working : Working). SolvesAsAsked p c.args.work c.args.self.now.state working.state) (sym way.self-is) (record {
+        enough = inr (rest_ends p c.steps.self.state way.advance.new.self _ way.if-not-branch.true (works.tabled i few)
+            (λ m t. way.in_ok-advance.ensures.solves m i works.tree works.frame t (works.points i few)));
+        no_more = rests_within c.args.work c.args.self.now.state c.steps.self.state way.advance.new.self
+            (way.in_ok-advance.ensures.rests way.if-not-branch.true) c.steps.invariant.4;
+      })
 ]
 
 pub steps-smaller : goal.steps-smaller

@@ -1,4 +1,4 @@
-use Rattle.std.proofs.Common.{◌≡◌, ℕ, ◌<◌, List, length}
+use Rattle.std.proofs.Common.{◌≡◌, ℕ, ◌<◌, ◌≤◌, max, List, length}
 use Rattle.edit_defs.specs.declared.edit.Edit.{Edit}
 use Rattle.tree_method.specs.Scripted.{IsInHistory}
 use Rattle.scen_defs.specs.Program.{Program, content}
@@ -8,7 +8,7 @@ use Rattle.pass_table.specs.Machine.{Machine}
 use Rattle.pass_table.specs.Marks.{nothing}
 use Rattle.pass_core.specs.declared.budget.Budget.{Budget}
 use Rattle.pass_core.specs.Tabled.{IsTabledBy, GoesBySteps}
-use Rattle.tree_method.specs.Stands.{WorksOn, SolvesNodes}
+use Rattle.tree_method.specs.Stands.{WorksOn, SolvesOnce}
 use Rattle.tree_method.proofs.Ending.{steps_left}
 use Rattle.tree_method.proofs.method.Working.run.Given as goal
 
@@ -18,9 +18,10 @@ invariant-steps l = ((budget : Budget) → WorksOn (content l.program) budget l.
     → IsTabledBy (content l.program) l.fn.self.state m
     → GoesBySteps (content l.program) m l.self.state × (l.self.state.frame ≡ frame_of (content l.program)))
     × ((budget : Budget) → IsProgram (content l.program) → length (content l.program).nodes < nothing → WorksOn (content l.program) budget l.fn.self
-    → SolvesNodes (content l.program) l.fn.self.state l.self.state)
+    → SolvesOnce (content l.program) l.fn.self.state l.self.state)
     × ((budget : Budget) (first : Program) (edits rest : List Edit) (came : ℕ) → WorksOn (content l.program) budget l.fn.self
     → IsInHistory first edits came (content l.program) rest l.fn.self.state → IsInHistory first edits came (content l.program) rest l.self.state)
+    × (l.self.state.counts.since_item ≤ max l.work l.fn.self.state.counts.since_item)
 
 abbrev pub decreases-steps : goal.decreases-steps
 decreases-steps l = steps_left l.self.state
