@@ -1,6 +1,7 @@
 -- What a solve leaves of the last solves, the pools and the ends, where nothing stops the method behind it; and what the opening of a run
 -- leaves.
-use Rattle.std.specs.Prelude.{◌≡◌, ℕ, zero, suc, ◌-◌, ◌^◌, min, Bool, true, false, List, length, replicate, Option, Some, None, Ok}
+use Rattle.std.specs.Prelude.{◌≡◌, ◌⊎◌, ℕ, zero, suc, ◌-◌, ◌^◌, min, Bool, true, false, List, length, replicate}
+use Rattle.std.specs.Prelude.{Option, Some, None, Ok}
 use Rattle.rationals.specs.Rational.{ℚ}
 use Rattle.rationals.specs.Sparse.{Entry}
 use Rattle.scen_defs.specs.Program.{Program}
@@ -23,6 +24,8 @@ use Rattle.run_ends.specs.declared.ends.Ends.{Ends}
 use Rattle.run_ends.specs.Lasts.{with_last, kept, joined_points}
 use Rattle.run_ends.specs.Costs.{joined_cost}
 use Rattle.run_ends.specs.Ends.{after_root, after_policy}
+use Rattle.proved_report.specs.declared.open.Open.TheVariants.{Solves}
+use Rattle.pass_core.specs.Explained.{cut_given}
 use Rattle.pass_core.specs.declared.state.State.{State}
 
 -- ---- the run
@@ -107,6 +110,41 @@ LeavesBy p tree n trial solved.Loose old new = ⊥
 LeavesBy p tree n trial solved.PivotsEnded old new = ⊥
 LeavesBy p tree n trial (solved.Passed in_cut o) old new = ⊥
 LeavesBy p tree n trial solved.NotGood old new = ⊥
+
+-- ---- what stops the method or not
+-- the pools of a run of this kind behind the cut of node n, whatever its pool answers; the root has no pool
+abbrev pub offered_banks : Kind → ℕ → Option Stored → List Entry → Banks → Banks
+offered_banks kind zero cut trial b = b
+offered_banks kind (suc n) None trial b = b
+offered_banks kind (suc n) (Some cut) trial b = with_pools kind
+    (with_pool (may_take cut) (λ p. after_offer p cut (offer_of p cut trial)) (source_of cut).node (pools_of kind b)) b
+
+-- the last solves, the pools and the ends stay, and so does the reason that lasts
+pub record KeepsKnown (old new : State) : Type 0 where
+  pub lasts : new.lasts.nodes.items ≡ old.lasts.nodes.items
+  pub banks : new.banks ≡ old.banks
+  pub ends : new.ends ≡ old.ends
+  pub lasting : new.lasting ≡ old.lasting
+
+-- nothing stops the method, or it is told as stuck by the number of solves
+abbrev pub IsOpenOrStuck : State → State → Type 0
+IsOpenOrStuck old new = (new.stop ≡ None) ⊎ (new.stop ≡ Some (Solves old.budget.solves))
+
+-- where no reason stopped the method, and none lasts behind a point or where there is none; what came to nothing leaves all that is known
+abbrev pub HaltsBy : Solved → State → State → Type 0
+HaltsBy (solved.Point x value cut) old new = old.stop ≡ None → new.lasting ≡ None → IsOpenOrStuck old new
+HaltsBy (solved.NoPoint cut) old new = old.stop ≡ None → new.lasting ≡ None → IsOpenOrStuck old new
+HaltsBy solved.Loose old new = KeepsKnown old new
+HaltsBy solved.PivotsEnded old new = KeepsKnown old new
+HaltsBy (solved.Passed in_cut o) old new = KeepsKnown old new
+HaltsBy solved.NotGood old new = KeepsKnown old new
+
+-- what a solve of node n at this trial leaves that came to this, whatever stops the method behind it: the pools as they were, or with its
+-- cut offered; and a reason that lasts is gained only where one stops the method
+pub record LeavesAnyhow (n : ℕ) (trial : List Entry) (all : Solved) (old new : State) : Type 0 where
+  pub banks : (new.banks ≡ old.banks) ⊎ (new.banks ≡ offered_banks old.kind n (cut_given all) trial old.banks)
+  pub lasting : new.stop ≡ None → new.lasting ≡ old.lasting
+  pub halts : HaltsBy all old new
 
 -- ---- the opening of a run
 -- the kind of the run behind a closed one

@@ -40,7 +40,7 @@ use Rattle.pass_core.specs.declared.state.State.{State}
 use Rattle.pass_core.specs.Counting.{with_commit}
 use Rattle.pass_core.specs.Reasons.{PassesInJoin, PassesAtCost, Halts, solve_halts, IsOfSolve, IsOfOpening, GainsReasons}
 use Rattle.pass_core.specs.Tabled.{HasRoom, IsTabledBy, committed_with, EndsBegun, Opens}
-use Rattle.pass_core.specs.Left.{StaysInRun, LeavesBy, places_in, next_kind, OpensRun}
+use Rattle.pass_core.specs.Left.{StaysInRun, LeavesBy, IsOpenOrStuck, LeavesAnyhow, places_in, next_kind, OpensRun}
 use Rattle.pass_core.specs.Grounds.{OpeningDual, PassesInDual, put_cuts, CanPutCuts, OneIsNotPut}
 use Rattle.pass_core.specs.Made.{cuts_there}
 
@@ -192,6 +192,7 @@ pub record SolvesNode (p : Program) (old : State) (m : Machine) (n : ℕ) (new :
   pub stays : StaysInRun old new
   pub answer : IsAnswer task (node_solved task)
   pub leaves : (tree : Tree) → tree_walk p ≡ Ok tree → new.stop ≡ None → LeavesBy p tree n task.trial (node_solved task) old new
+  pub anyhow : LeavesAnyhow n task.trial (node_solved task) old new
 
 -- ---- steps
 -- the last solves of a run, for which there are places once something was done
@@ -217,6 +218,19 @@ pub record IsAtRest (s : State) (m : Machine) : Type 0 where
   pub idle : (n : ℕ) → MayBegin m n → ⊥
   pub last : IsClosed m → s.kind ≡ Cost
 
+-- the pools get first cuts of the run behind a closed one
+pub record GetsFirstCuts (p : Program) (tree : Tree) (old new : State) : Type 0 where
+  pub dual : List At
+  pub cuts : List (Option Stored)
+  pub are : AreFirstCuts (next_kind old.kind) p tree old.versions dual cuts
+  pub banks : new.banks ≡ put_cuts (next_kind old.kind) cuts old.banks
+
+-- behind a closed run, whatever stops the method then: nothing changes but that; or the next run opens
+pub data OpensAnyhow (p : Program) (old new : State) : Type 0 where
+  stays_closed : new ≡ record old { stop = new.stop } → OpensAnyhow p old new
+  is_open : OpensRun old new → ByTree p (λ tree. GetsFirstCuts p tree old new) → (old.stop ≡ None → IsOpenOrStuck old new)
+      → OpensAnyhow p old new
+
 -- a step of a state whose table fits this machine, and whether it is told that something was done: the run is at rest, or there is no
 -- room for another solve, and nothing is found; the run is closed, and the next one opens or something stops the method; or the program
 -- of a node is solved, which alone is counted
@@ -226,7 +240,8 @@ pub data MakesStep (p : Program) (old : State) (m : Machine) (new : State) : Boo
   opens_run : IsClosed m → (old.kind ≡ Cost → ⊥) → Opens p m new → PointsStand p new.lasts.nodes.items
       → GainsReasons (IsBeforeRun p old) old new
       → (new.stop ≡ None → OpensRun old new)
-      → ((tree : Tree) → tree_walk p ≡ Ok tree → new.stop ≡ None → PutsFirstCuts p tree old new) → MakesStep p old m new true
+      → ((tree : Tree) → tree_walk p ≡ Ok tree → new.stop ≡ None → PutsFirstCuts p tree old new)
+      → OpensAnyhow p old new → MakesStep p old m new true
   solves : (lasts : Lasts) (n : ℕ) → AreReady old lasts → SolvesNode p (record old { lasts = lasts }) m n new → MakesStep p old m new true
 
 -- no solve was counted, and something stops the method, or the run behind one that isn't a Cost run is open

@@ -87,6 +87,11 @@ impl State {
         ensures kind { OnOk result (self.new.kind ≡ Kind.Feasible) }
         ensures points { OnOk result (self.new.lasts.nodes.items ≡ []) }
         ensures counts { OnOk result (self.new.counts ≡ after_edit self.old.counts) }
+        ensures begun { OnOk result (self.new.is_begun ≡ false) }
+        // nothing stops the method, where the table fitted a machine of the program before, and no node came or went untold
+        ensures stop { let p = content program.now in (q : ProgramOf) → IsTabled q self.old
+            → (is_grown ≡ false → frame_of p ≡ self.old.frame) → length p.nodes < nothing
+            → OnOk result (self.new.stop ≡ None) }
         // the table fits a machine of the program again, where it did so of the one before, and no node came or went untold
         ensures tabled { let p = content program.now in (q : ProgramOf) → IsTabled q self.old
             → (is_grown ≡ false → frame_of p ≡ self.old.frame) → length p.nodes < nothing

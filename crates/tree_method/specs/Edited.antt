@@ -1,7 +1,8 @@
 -- The method behind an edit of its program: which pools are swept for what the edit touches.
-use Rattle.std.specs.Prelude.{◌≡◌, ◌<◌, Bool, true, false, length, List, [], Option, Ok, Err}
+use Rattle.std.specs.Prelude.{◌≡◌, ◌<◌, Bool, true, false, length, List, [], Option, None, Ok, Err}
 use Rattle.rationals.specs.Passes.{Operation}
 use Rattle.scen_defs.specs.Lists.{pick}
+use Rattle.scen_defs.specs.declared.report.Kind.TheVariants.{Feasible}
 use Rattle.scen_defs.specs.declared.report.Place.TheVariants.{Dual}
 use Rattle.scen_defs.specs.Program.{Node, Program, view_of}
 use Rattle.scen_tree.specs.Trees.{tree_walk}
@@ -69,13 +70,21 @@ abbrev pub KeepsTabled : Program → Bool → State → State → Type 0
 KeepsTabled p grows old new = (q : Program) → IsTabled q old → (grows ≡ false → frame_of p ≡ old.frame) → length p.nodes < nothing
     → IsTabled p new
 
--- The method at work behind an edit of the program on which it was at work. Its frame is made anew where nodes came or went, no node has a
--- last solve, and the solves since the last report stay counted.
+-- So nothing stops the method then.
+abbrev pub ClearsStop : Program → Bool → State → State → Type 0
+ClearsStop p grows old new = (q : Program) → IsTabled q old → (grows ≡ false → frame_of p ≡ old.frame) → length p.nodes < nothing
+    → new.stop ≡ None
+
+-- The method at work behind an edit of the program on which it was at work. Its frame is made anew where nodes came or went, a Feasible
+-- run begins, in which no node has a last solve, and the solves since the last report stay counted.
 pub record IsEdited (p : Program) (e : Edit) (old new : Working) : Type 0 where
   pub tree : tree_walk (after p e) ≡ Ok new.tree
   pub frame : new.state.frame ≡ pick (is_grown e) (frame_of (after p e)) old.state.frame
   pub budget : new.state.budget ≡ old.state.budget
   pub reasons : IsUnstopped new.state
+  pub stop : ClearsStop (after p e) (is_grown e) old.state new.state
+  pub kind : new.state.kind ≡ Feasible
+  pub is_begun : new.state.is_begun ≡ false
   pub points : new.state.lasts.nodes.items ≡ []
   pub counts : new.state.counts ≡ after_edit old.state.counts
   pub versions : new.state.versions ≡ raised_versions p e old.state.versions

@@ -1,7 +1,8 @@
 //! How the method goes on behind an edit of its program.
-ghost use Rattle.std.specs.Prelude.{◌≡◌, ℕ, [], ◌∷◌, List, IfOk, IfNone, OnOk, MatchOption};
+ghost use Rattle.std.specs.Prelude.{◌≡◌, ℕ, [], ◌∷◌, false, List, IfOk, IfNone, OnOk, MatchOption};
 ghost use Rattle.scen_defs.specs.Program.{content, Program as ProgramOf};
 ghost use Rattle.scen_defs.specs.Valid.{IsProgram};
+ghost use Rattle.scen_defs.specs.declared.report.Kind.TheVariants.{Feasible};
 ghost use Rattle.edit_defs.specs.After.{after};
 ghost use Rattle.edit_defs.specs.Limits.{counts};
 ghost use Rattle.edit_defs.specs.Touches.{touches};
@@ -13,7 +14,7 @@ ghost use Rattle.pass_core.specs.declared.budget.Budget.{Budget as BudgetOf};
 ghost use Rattle.pass_core.specs.Explained.{IsUnstopped};
 ghost use Rattle.run_data.specs.Frames.{frame_of};
 ghost use Rattle.scen_defs.specs.Lists.{pick};
-ghost use Rattle.tree_method.specs.Edited.{is_grown, dues_of, fit_versions, KeepsTabled, IsEdited, HasNoTree};
+ghost use Rattle.tree_method.specs.Edited.{is_grown, dues_of, fit_versions, KeepsTabled, ClearsStop, IsEdited, HasNoTree};
 ghost use Rattle.edit_defs.specs.declared.edit.Edit.{Edit as EditOf};
 ghost use Rattle.tree_method.specs.Stands.{StandsOn, GoesOn, CarriesVersions};
 ghost use Rattle.tree_method.specs.Scripted.{IsInScript, GoesOnInScript};
@@ -72,6 +73,9 @@ impl Working {
         ensures frame { OnOk result (self.new.state.frame ≡ pick is_grown (frame_of (content program.now)) self.old.state.frame) }
         ensures budget { self.new.state.budget ≡ self.old.state.budget }
         ensures reasons { OnOk result (IsUnstopped self.new.state) }
+        ensures stop { OnOk result (ClearsStop (content program.now) is_grown self.old.state self.new.state) }
+        ensures kind { OnOk result (self.new.state.kind ≡ Feasible) }
+        ensures begun { OnOk result (self.new.state.is_begun ≡ false) }
         ensures points { OnOk result (self.new.state.lasts.nodes.items ≡ []) }
         ensures counts { OnOk result (self.new.state.counts ≡ after_edit self.old.state.counts) }
         ensures versions { OnOk result (self.new.state.versions
