@@ -1,0 +1,4 @@
+pub mod Stale
+pub mod Offers
+pub mod FirstCuts
+pub mod Edits

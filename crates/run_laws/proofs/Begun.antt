@@ -18,7 +18,7 @@ use Rattle.pass_core.specs.Left.{places_in}
 use Rattle.pass_core.specs.Tabled.{IsTabledBy}
 use Rattle.pass_core.specs.Turns.{AreReady}
 use Rattle.pass_core.proofs.Parentage.{root_lives}
-use Rattle.run_laws.proofs.Standing.{Known, known_of, EndsHold, BanksStand, HasFirstCuts, StandsBy}
+use Rattle.run_laws.proofs.Standing.{Known, known_of, EndsHold, HasFirstCuts, StandsBy}
 
 -- no node of the machine has a last solve
 abbrev pub IsUnsolved : Machine → Type 0
@@ -26,11 +26,10 @@ IsUnsolved m = (n : ℕ) → (m.last n).commit ≡ 0
 
 pub unsolved_stands : (p : Program) (tree : Tree) (w : Known) (m : Machine) → IsProgram p → IsUnsolved m
     → ((n : ℕ) → m.live n ≡ passes_at is_live n p.nodes) → EndsHold p w.ends
-    → ((w.kind ≡ Feasible → ⊥) → (u : Priced) × (w.ends.upper ≡ Some u)) → BanksStand p w m
+    → ((w.kind ≡ Feasible → ⊥) → (u : Priced) × (w.ends.upper ≡ Some u))
     → ((w.kind ≡ Feasible → ⊥) → HasFirstCuts p tree w) → StandsBy p tree w m
-unsolved_stands p tree w m i none live ends policy banks grounds = record {
+unsolved_stands p tree w m i none live ends policy grounds = record {
   policy = policy;
-  banks = banks;
   grounds = grounds;
   lasts = λ n l c h. let z : (m.last n).commit ≡ 0 = none n in absurd (omega (arith, c, z));
   nones = λ n l c h. let z : (m.last n).commit ≡ 0 = none n in absurd (omega (arith, c, z));
@@ -105,7 +104,7 @@ ready_stands p tree s lasts m i few frame table stands long ready = go s.is_begu
     }
     go false e = record {
       stands = unsolved_stands p tree (known_of (record s { lasts = lasts })) m i (unused_unsolved p s m i frame table e) table.machine.live stands.ends
-          stands.policy stands.banks (λ ne. let g : HasFirstCuts p tree (known_of s) = stands.grounds ne in
+          stands.policy (λ ne. let g : HasFirstCuts p tree (known_of s) = stands.grounds ne in
           record { dual = g.dual; cuts = g.cuts; are = g.are; placed = g.placed });
       long = ap length (ready.none e) ∙ length-replicate (places_in s.frame) None ∙ ap places_in frame ∙ places_of p few;
     }

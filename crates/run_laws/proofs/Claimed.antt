@@ -45,15 +45,15 @@ use Rattle.run_ends.specs.Settled.{where_so, shown, ended, or_case, why_open}
 use Rattle.run_ends.specs.Claims.{found_or, multipliers_of, policy_of, cut_of, by_ray, by_direction, by_ends, closed_by}
 use Rattle.pass_core.specs.declared.state.State.{State}
 use Rattle.pass_core.specs.Assembled.{AssemblesWell}
-use Rattle.pass_core.specs.Made.{script_books, run_book, IsMadeAbout}
+use Rattle.pass_core.specs.Made.{script_books, run_book, IsMadeAbout, CutsAreMade}
 use Rattle.pass_core.proofs.Assembling.{roots_assemble_well}
 use Rattle.tree_method.specs.Stands.{settled_in}
-use Rattle.run_laws.specs.Laws.{IsRunTo}
+use Rattle.run_laws.specs.Courses.{IsRunTo}
 use Rattle.run_laws.specs.Settled.{finding_shown, ClaimsRightly, TellsAssembly, SettledClaimsHold}
 use Rattle.run_laws.proofs.Standing.{ShowsNone}
-use Rattle.run_laws.proofs.Kept.{IsMadeHere, solves_made}
+use Rattle.run_laws.proofs.Kept.{run_held}
 use Rattle.run_laws.proofs.NoDead.{no_point, no_point_feasible, none_contradicts}
-use Rattle.run_laws.proofs.Shown.{FitsPolicy, Recedes, ShowsByForms, IsShowing, HasEnds, solves_show, solves_end}
+use Rattle.run_laws.proofs.Shown.{FitsPolicy, Recedes, ShowsByForms, IsShowing, HasEnds, run_shows, run_ends}
 
 -- ---- comparisons
 equal_is : (a b : ℚ) → same a b ≡ true → a ≡ b
@@ -149,13 +149,13 @@ module _ (p : lists.Program) (i : IsProgram p) (cut : Stored) (made : IsMadeAbou
 -- ---- a run
 module _ (program : Program) (s : State) (r : IsRunTo (content program) s) (stop : s.stop ≡ None) (why : Open) where
   show : IsShowing (content program) s
-  show = solves_show (content program) r.tree r.program r.few r.walk r.budget r.first s r.begins r.solves stop
+  show = run_shows (content program) s r stop
 
-  has : HasEnds (content program) r.tree r.program r.few r.walk s
-  has = solves_end (content program) r.tree r.program r.few r.walk r.budget r.first s r.begins r.solves stop
+  has : HasEnds (content program) r.tree r.program r.few r.walk r.most s
+  has = run_ends (content program) s r stop
 
-  of_made : IsMadeHere (content program) r.tree r.program r.few r.walk s
-  of_made = solves_made (content program) r.tree r.program r.few r.walk r.budget r.first s r.begins r.solves stop
+  of_made : CutsAreMade (script_books (content program) []) s
+  of_made = (run_held (content program) s r).made
 
   -- the claim holds, or an operation ends the assembly
   abbrev IsSo : Finding → Closed → Type 0
@@ -175,7 +175,7 @@ module _ (program : Program) (s : State) (r : IsRunTo (content program) s) (stop
   nowhere_by cut there (Ok fs) e =
       let g : ShowsByForms cut = subst (λ o. IfSome o ShowsByForms) there show.ends.nowhere in
       let q = subst (λ o. IfSome o (λ (cut : Stored). (k : Kind) × IsMadeAbout (run_book k (script_books (content program) [])) 0 cut)) there
-      of_made.made.1.nowhere in
+      of_made.1.nowhere in
       let h = ray_holds (content program) r.program cut (plain_made cut g.shows q.0 q.1) g.forms fs e g.shows in
       inl (record { holds = record { ray_fits = h.0; shows = h.1 }; asks = refl })
   nowhere_by cut there (Err o) e =
@@ -237,7 +237,7 @@ module _ (program : Program) (s : State) (r : IsRunTo (content program) s) (stop
       = subst (λ o. IfSome o (λ (l : Bounded). (l.value ≡ constant_of l.cut) × ((source_of l.cut).kind ≡ Bound))) at_lower has.hold.lower in
       let forms : HasForms l.cut = subst (λ o. IfSome o (λ (l : Bounded). HasForms l.cut)) at_lower show.ends.lower in
       let made : IsMadeAbout (book run_kind.Cost (content program) []) 0 l.cut
-      = subst (λ o. IfSome o (λ (l : Bounded). IsMadeAbout (book run_kind.Cost (content program) []) 0 l.cut)) at_lower of_made.made.1.lower in
+      = subst (λ o. IfSome o (λ (l : Bounded). IsMadeAbout (book run_kind.Cost (content program) []) 0 l.cut)) at_lower of_made.1.lower in
       let g = are_good (content program) r.program l.cut made forms fs e Bound facts.1 in
       inl (record {
         holds = record {

@@ -72,7 +72,7 @@ no_solves : (o : Operation) → IsPassing o → passes o.op o.a o.b ≡ false �
 no_solves o h e = let no : true ≡ false = sym h.holds ∙ e in absurd (cc)
 
 module _ (never : NeverStuck) (claims : SettledClaimsHold) (walks : WalksEndPassing) where
-  module _ (program : Program) (s : State) (r : IsEndOfRun program s) (small : s.budget.solves < 2 ^ 63) where
+  module _ (program : Program) (s : State) (r : IsEndOfRun program s) where
     -- ---- what stops the method
     stops_passing : (place : Place) (o : Operation) → PassesInRun (content program) s.frame r.run.tree s.budget.pivots place o → IsPassing o
     stops_passing (Solve k) o h = walks.solve h.task false o h.comes
@@ -87,9 +87,7 @@ module _ (never : NeverStuck) (claims : SettledClaimsHold) (walks : WalksEndPass
     -- it isn't told as a number of solves
     stop_told : (why : Open) → s.stop ≡ Some why → IsForSolves why → ⊥
     stop_told (Solves n) e h =
-        let allowed : n ≡ s.budget.solves =
-        subst (λ (x : Option Open). IfSome x (IsExplained (content program) s.frame r.run.tree s.budget)) e r.explained.0 in
-        never (content program) s n r.run (subst (λ (x : ℕ). x < 2 ^ 63) (sym allowed) small) e
+        never (content program) s n r.run r.numbers e
     stop_told (Pivots k) e h = h
     stop_told (Passed place o) e h =
         let explained : IsExplained (content program) s.frame r.run.tree s.budget (Passed place o) =
@@ -108,7 +106,7 @@ module _ (never : NeverStuck) (claims : SettledClaimsHold) (walks : WalksEndPass
         go (inr a) = assembly_told a.0 a.2 a.1 h
 
   pub finished : EndsAreFinished
-  finished program s number place solves report n r small claimed told = by_stop s.stop refl
+  finished program s number place solves report n r claimed told = by_stop s.stop refl
     where
       reason : IsForSolves (closing s).why
       reason = solves_are_reasons program number place (closing s).why solves (closing s).claim report n claimed told
@@ -126,13 +124,12 @@ module _ (never : NeverStuck) (claims : SettledClaimsHold) (walks : WalksEndPass
           go : ClaimsRightly program finding (closing s) ⊎ TellsAssembly s.ends (closing s) → ⊥
           go (inl c) = by (claims_show program number place (closing s).why solves (closing s).claim report
               (programs_are_trees (content program) r.run.program).0 claimed c.holds) c.asks
-          go (inr a) = assembly_told program s r small a.operation a.ends a.told reason
+          go (inr a) = assembly_told program s r a.operation a.ends a.told reason
 
       by_case : (case : Option Settled) → s.stop ≡ None → settled_in s ≡ case → s.budget.solves ≤ s.counts.since_report
       by_case None none e =
           absurd (ends_are_settled (content program) s r.tabled.0 r.run r.tabled.1
-          (has_room (content program) r.run.program r.run.tree r.run.few r.run.walk r.run.budget r.run.first s small r.run.begins r.run.solves e
-          r.tabled.0 r.tabled.1) r.ends e)
+          (has_room (content program) s r.run r.numbers e r.tabled.0 r.tabled.1) r.ends e)
       by_case (Some Spent) none e = leb-true s.budget.solves s.counts.since_report
           (all_spent s.kind s.table.closed s.ends s.counts.since_report s.budget.solves
           (subst (λ (x : Option Open). settled s.kind s.table.closed s.ends x s.counts.since_report s.budget.solves ≡ Some Spent) none e))
@@ -144,7 +141,7 @@ module _ (never : NeverStuck) (claims : SettledClaimsHold) (walks : WalksEndPass
 
       by_stop : (o : Option Open) → s.stop ≡ o → s.budget.solves ≤ s.counts.since_report
       by_stop None e = by_case (settled_in s) e refl
-      by_stop (Some why) e = absurd (stopped program s r small why e reason)
+      by_stop (Some why) e = absurd (stopped program s r why e reason)
 
 pub ends_are_finished : EndsAreFinished
 ends_are_finished = finished (never_stuck solves_are_used openings_are_made) settled_claims_hold walks_end_passing

@@ -1,3 +1,5 @@
+pub mod Course
+pub mod Held
 pub mod Standing
 pub mod Same
 pub mod Turned

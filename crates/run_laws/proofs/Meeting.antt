@@ -32,7 +32,7 @@ use Rattle.run_ends.specs.Ends.{meet}
 use Rattle.run_ends.specs.Lasts.{joined_points}
 use Rattle.run_ends.specs.Settled.{settled, ended, or_case, where_so}
 use Rattle.pass_core.specs.declared.state.State.{State}
-use Rattle.pass_core.specs.Made.{IsMadeAbout}
+use Rattle.pass_core.specs.Made.{script_books, IsMadeAbout, CutsAreMade}
 use Rattle.pass_core.specs.Tabled.{IsTabledBy}
 use Rattle.pass_core.proofs.Parentage.{root_lives}
 use Rattle.pass_core.proofs.Assembling.{root_is_worth}
@@ -41,7 +41,7 @@ use Rattle.policy_laws.proofs.Costs.{joined_points_cost}
 use Rattle.tree_method.specs.Stands.{settled_in}
 use Rattle.run_laws.specs.Laws.{ClosedRunsMeet}
 use Rattle.run_laws.proofs.Standing.{Known, known_of, HasLast, HasCost, StandsBy}
-use Rattle.run_laws.proofs.Kept.{IsStanding, IsMadeHere, solves_stand, solves_made}
+use Rattle.run_laws.proofs.Kept.{IsStanding, run_stands, run_held}
 use Rattle.run_laws.proofs.Policies.{all_meet, complete, cost_below, root_value}
 
 -- numbers of which each is at most the other compare as the same
@@ -57,7 +57,7 @@ pub some_is : {A : Type 0} (a b : A) → Some a ≡ Some b → a ≡ b
 some_is a b e = cc
 
 module _ (p : Program) (tree : Tree) (i : IsProgram p) (few : length p.nodes < nothing) (t : tree_walk p ≡ Ok tree) (s : State) (m : Machine)
-    (standing : IsStanding p tree s) (made : IsMadeHere p tree i few t s) (table : IsTabledBy p s m) (closed : IsClosed m) (costly : s.kind ≡ run_kind.Cost) where
+    (standing : IsStanding p tree s) (made : CutsAreMade (script_books p []) s) (table : IsTabledBy p s m) (closed : IsClosed m) (costly : s.kind ≡ run_kind.Cost) where
   w : Known
   w = known_of s
 
@@ -129,7 +129,7 @@ module _ (p : Program) (tree : Tree) (i : IsProgram p) (few : length p.nodes < n
   lower_facts = subst (λ o. IfSome o (λ (l : Bounded). (l.value ≡ constant_of l.cut) × ((source_of l.cut).kind ≡ Bound))) lower_is stands.ends.lower
 
   lower_made : IsMadeAbout (book run_kind.Cost p []) 0 least.cut
-  lower_made = subst (λ o. IfSome o (λ (l : Bounded). IsMadeAbout (book run_kind.Cost p []) 0 l.cut)) lower_is made.made.1.lower
+  lower_made = subst (λ o. IfSome o (λ (l : Bounded). IsMadeAbout (book run_kind.Cost p []) 0 l.cut)) lower_is made.1.lower
 
   upper_facts : Feasible (view_of p) (at best.policy) × (cost (view_of p) (at best.policy) ≡ best.cost)
   upper_facts = subst (λ o. IfSome o (λ (u : Priced). Feasible (view_of p) (at u.policy) × (cost (view_of p) (at u.policy) ≡ u.cost))) upper_is stands.ends.upper
@@ -151,5 +151,5 @@ module _ (p : Program) (tree : Tree) (i : IsProgram p) (few : length p.nodes < n
 
 pub closed_runs_meet : ClosedRunsMeet
 closed_runs_meet p s m r table closed costly stop =
-    is_optimal p r.tree r.program r.few r.walk s m (solves_stand p r.tree r.program r.few r.walk r.budget r.first s r.begins r.solves stop)
-    (solves_made p r.tree r.program r.few r.walk r.budget r.first s r.begins r.solves stop) table closed costly
+    is_optimal p r.tree r.program r.few r.walk s m (run_stands p s r stop)
+    (run_held p s r).made table closed costly

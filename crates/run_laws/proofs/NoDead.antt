@@ -34,7 +34,7 @@ use Rattle.run_ends.specs.declared.settled.Settled.TheVariants.{Infeasible, Opti
 use Rattle.run_ends.specs.Lasts.{trial_of}
 use Rattle.run_ends.specs.Settled.{settled, ended, or_case, where_so}
 use Rattle.pass_core.specs.declared.state.State.{State}
-use Rattle.pass_core.specs.Made.{run_book, script_books, IsMadeAbout}
+use Rattle.pass_core.specs.Made.{run_book, script_books, IsMadeAbout, CutsAreMade}
 use Rattle.pass_core.specs.Tabled.{IsTabledBy}
 use Rattle.pass_core.proofs.Parentage.{children_are}
 use Rattle.pass_core.proofs.Assembling.{root_is_worth}
@@ -43,7 +43,7 @@ use Rattle.tree_method.specs.Stands.{settled_in}
 use Rattle.run_laws.proofs.Standing.{known_of, ShowsNone, HasLast, HasNone, StandsBy}
 use Rattle.run_laws.specs.Laws.{IsFollowed, RunsGoOn, EndsAreSettled}
 use Rattle.pass_core.specs.Turns.{IsAtRest}
-use Rattle.run_laws.proofs.Kept.{IsStanding, IsMadeHere, unstopped, solves_stand, solves_made}
+use Rattle.run_laws.proofs.Kept.{IsStanding, unstopped, run_stands, run_held}
 use Rattle.run_laws.proofs.Meeting.{closed_runs_meet}
 use Rattle.run_laws.proofs.Policies.{UpToDate, no_ray_above}
 
@@ -104,7 +104,7 @@ none_contradicts kind p i cut made shows x f =
     (record { good = g.0; above = lt_by shows.1 (λ k. le_trans_ℚ g.1 k) }) x f
 
 module _ (p : Program) (tree : Tree) (i : IsProgram p) (few : length p.nodes < nothing) (t : tree_walk p ≡ Ok tree) (s : State) (m : Machine)
-    (standing : IsStanding p tree s) (made : IsMadeHere p tree i few t s) (table : IsTabledBy p s m) (open_yet : settled_in s ≡ None)
+    (standing : IsStanding p tree s) (made : CutsAreMade (script_books p []) s) (table : IsTabledBy p s m) (open_yet : settled_in s ≡ None)
     (fails : (n : ℕ) → MayBegin m n → ⊥) where
   stands : StandsBy p tree (known_of s) m
   stands = standing.stands m table
@@ -126,7 +126,7 @@ module _ (p : Program) (tree : Tree) (i : IsProgram p) (few : length p.nodes < n
       let u = stands.policy ne in
       let f : Feasible (view_of p) (at u.0.policy)
       = (subst (λ o. IfSome o (λ (u : Priced). Feasible (view_of p) (at u.policy) × (cost (view_of p) (at u.policy) ≡ u.cost))) u.1 stands.ends.upper).0 in
-      let q = subst (λ o. IfSome o (λ (cut : Stored). (k : Kind) × IsMadeAbout (run_book k (script_books p [])) 0 cut)) c.1.0 made.made.1.nowhere in
+      let q = subst (λ o. IfSome o (λ (cut : Stored). (k : Kind) × IsMadeAbout (run_book k (script_books p [])) 0 cut)) c.1.0 made.1.nowhere in
       by c.0 q.0 q.1 (at u.0.policy) f c.1.1
     where
       by : (cut : Stored) (k : Kind) → IsMadeAbout (run_book k (script_books p [])) 0 cut → (x : ℕ → ℕ → ℚ) → Feasible (view_of p) x → ShowsNone cut → ⊥
@@ -198,8 +198,8 @@ pub runs_go_on : RunsGoOn
 runs_go_on p s m r table open_yet fails =
     let stop : s.stop ≡ None = unstopped s open_yet in
     let closed : IsClosed m = is_closed p r.tree r.program r.few r.walk s m
-    (solves_stand p r.tree r.program r.few r.walk r.budget r.first s r.begins r.solves stop)
-    (solves_made p r.tree r.program r.few r.walk r.budget r.first s r.begins r.solves stop) table open_yet fails in
+    (run_stands p s r stop)
+    (run_held p s r).made table open_yet fails in
     record {
       closed = closed;
       earlier = λ costly. let q : None ≡ Some Optimal = sym open_yet ∙ closed_runs_meet p s m r table closed costly stop in absurd (cc);

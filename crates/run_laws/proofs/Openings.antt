@@ -52,7 +52,7 @@ use Rattle.pass_core.specs.declared.state.State.{State}
 use Rattle.pass_core.specs.Assembled.{AssemblesWell}
 use Rattle.pass_core.specs.Grounds.{OpeningDual, put_cut, CanPutInPool, CanPutCuts, IsNotPut, OneIsNotPut}
 use Rattle.pass_core.specs.Left.{next_kind}
-use Rattle.pass_core.specs.Made.{run_book, script_books, IsMadeAbout}
+use Rattle.pass_core.specs.Made.{run_book, script_books, IsMadeAbout, CutsAreMade}
 use Rattle.pass_core.specs.Tabled.{IsTabledBy}
 use Rattle.pass_core.specs.Turns.{datum_in, IsStuckBefore, not_made, not_put}
 use Rattle.pass_core.proofs.Assembling.{roots_assemble_well}
@@ -60,13 +60,15 @@ use Rattle.pass_core.proofs.Parentage.{root_lives}
 use Rattle.policy_laws.proofs.Costs.{joined_points_cost}
 use Rattle.policy_laws.proofs.Places.{tree_in}
 use Rattle.tree_method.specs.Stands.{settled_in}
-use Rattle.tree_method.proofs.StandLemmas.{goes_on}
 use Rattle.run_laws.specs.Stuck.{OpeningsAreMade}
 use Rattle.run_laws.proofs.Standing.{known_of, PoolStands, runs_before, HasLast, HasCost, StandsBy}
-use Rattle.run_laws.proofs.Kept.{IsStanding, IsMadeHere, IsCounted, unstopped, solves_stand, solves_made, solves_counted}
+use Rattle.run_laws.proofs.Kept.{IsStanding, unstopped, run_stands, run_held}
+use Rattle.run_laws.proofs.Held.{IsHeld}
 use Rattle.run_laws.proofs.Meeting.{some_is}
 use Rattle.run_laws.proofs.Policies.{all_meet, complete, cost_below, root_value}
-use Rattle.run_laws.proofs.PoolSteps.{first_at, can_put_all}
+use Rattle.keep_laws.specs.Kept.{IsCutNow}
+use Rattle.keep_laws.proofs.FirstCuts.{first_cuts_are_kept}
+use Rattle.run_laws.proofs.PoolSteps.{first_at, can_put_all, pool_stands}
 use Rattle.run_laws.proofs.FirstCutsMade.{HasParts, parts_of}
 use Rattle.run_laws.proofs.RootForms.{numbers_are_flat}
 use Rattle.run_laws.proofs.GoodDuals.{lives_in, makes_one}
@@ -151,7 +153,8 @@ assembled_is (Ok fs) dual e = (fs, (refl, cc))
 assembled_is (Err o) dual e = absurd (cc)
 
 module _ (p : Program) (tree : Tree) (i : IsProgram p) (few : length p.nodes < nothing) (t : tree_walk p ≡ Ok tree) (s : State) (m : Machine)
-    (standing : IsStanding p tree s) (made : IsMadeHere p tree i few t s) (counted : IsCounted p tree i few t s) (small : s.budget.solves < 2 ^ 63)
+    (standing : IsStanding p tree s) (made : CutsAreMade (script_books p []) s) (most : ℕ) (held : IsHeld p most s)
+    (small : most + s.counts.all < 2 ^ 63)
     (table : IsTabledBy p s m) (open_yet : settled_in s ≡ None) (closed : IsClosed m) (earlier : s.kind ≡ run_kind.Cost → ⊥)
     (flat : (cut : Stored) (fs : List (List Entry)) → s.ends.root ≡ Some cut → IsMadeAbout (book run_kind.Recession p []) 0 cut
     → flat_from [] one_ℚ cut ≡ Ok fs → flat_of fs ≡ at (numbers_by_node 0 fs)) where
@@ -230,7 +233,7 @@ module _ (p : Program) (tree : Tree) (i : IsProgram p) (few : length p.nodes < n
 
       root_made : IsMadeAbout (book run_kind.Recession p []) 0 cut
       root_made = subst (λ (k : Kind). IsMadeAbout (run_book k (script_books p [])) 0 cut) recedes
-          (subst (λ o. IfSome o (IsMadeAbout (run_book s.kind (script_books p [])) 0)) there made.made.1.root)
+          (subst (λ o. IfSome o (IsMadeAbout (run_book s.kind (script_books p [])) 0)) there made.1.root)
 
       root_is_good : (dual : List At) → assembled cut ≡ Ok dual → IsGood (view_of p) (at dual)
       root_is_good dual e =
@@ -254,18 +257,16 @@ module _ (p : Program) (tree : Tree) (i : IsProgram p) (few : length p.nodes < n
   dual_is_good run_kind.Cost e dual o = absurd (earlier e)
 
   -- the pools stand, so they take its first cuts
-  pool_at : (k : Kind) (n : ℕ) → Lives p n → PoolStands (m.commits + runs_before s.kind) (pools_of k s.banks) n
-  pool_at run_kind.Feasible n l = stands.banks Plain n l
-  pool_at run_kind.Recession n l = stands.banks Cone n l
-  pool_at run_kind.Cost n l = stands.banks Plain n l
+  pool_at : (k : Kind) (n : ℕ) → Lives p n → PoolStands p s.versions held.count (pools_of k s.banks) n
+  pool_at k n l = pool_stands p s held.count standing.frame m table held.kept k n l
 
   at_most_two : (k : Kind) → runs_before k ≤ 2
   at_most_two run_kind.Feasible = omega arith
   at_most_two run_kind.Recession = omega arith
   at_most_two run_kind.Cost = omega arith
 
-  few_commits : m.commits + runs_before s.kind < 18446744073709551615
-  few_commits = omega (arith, counted.most m table, goes_on s open_yet, small, at_most_two s.kind)
+  few_changes : held.count < 18446744073709551615
+  few_changes = omega (arith, held.few (omega (arith, small)), small, at_most_two s.kind)
 
   pub never_stuck_before : IsStuckBefore p tree s → ⊥
   never_stuck_before (not_made dual opening e) =
@@ -273,14 +274,17 @@ module _ (p : Program) (tree : Tree) (i : IsProgram p) (few : length p.nodes < n
       e.node refl e.lives e.walk
   never_stuck_before (not_put dual cuts opening are h) =
       all_put (next_kind s.kind) cuts s.banks
-      (can_put_all (next_kind s.kind) 0 cuts s.banks (m.commits + runs_before s.kind) (first_at (next_kind s.kind) p tree s.versions dual cuts are) few_commits
+      (can_put_all p s.versions (next_kind s.kind) held.count few_changes 0 cuts s.banks (first_at (next_kind s.kind) p tree s.versions dual cuts are)
       (λ n cut q. let z : n ≡ 0 + n = omega arith in
-      subst (PoolStands (m.commits + runs_before s.kind) (pools_of (next_kind s.kind) s.banks)) z (pool_at (next_kind s.kind) n (are.only n cut q)))) h
+      subst (λ (j : ℕ). IsCutNow p s.versions j cut) z
+      (subst (λ o. IfSome o (IsCutNow p s.versions n)) q (first_cuts_are_kept.cuts (next_kind s.kind) p tree s.versions dual cuts i are n)))
+      (λ n cut q. let z : n ≡ 0 + n = omega arith in
+      subst (PoolStands p s.versions held.count (pools_of (next_kind s.kind) s.banks)) z (pool_at (next_kind s.kind) n (are.only n cut q)))) h
 
 pub openings_are_made : OpeningsAreMade
 openings_are_made p s m tree r small table open_yet closed earlier t stuck =
     let stop : s.stop ≡ None = unstopped s open_yet in
-    never_stuck_before p tree r.program r.few t s m (solves_stand p tree r.program r.few t r.budget r.first s r.begins r.solves stop)
-    (solves_made p tree r.program r.few t r.budget r.first s r.begins r.solves stop)
-    (solves_counted p tree r.program r.few t r.budget r.first s small r.begins r.solves stop) small table open_yet closed earlier
+    let same : tree ≡ r.tree = (let q : Ok tree ≡ Ok r.tree = sym t ∙ r.walk in cc) in
+    never_stuck_before p tree r.program r.few t s m (subst (λ (x : Tree). IsStanding p x s) (sym same) (run_stands p s r stop))
+    (run_held p s r).made r.most (run_held p s r) small table open_yet closed earlier
     (λ cut fs there made e. numbers_are_flat p s cut fs r stop there made e) stuck

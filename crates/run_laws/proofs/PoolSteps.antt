@@ -1,5 +1,5 @@
 -- The pools of both banks through the steps of runs: each is of its node, no edit touched it, and its number stays low.
-use Rattle.std.proofs.Common.{◌≡◌, ℕ, zero, suc, ◌+◌, ◌<◌, ◌≤◌, ◌⊎◌, inl, inr, Bool, true, false, ◌&&◌, List, [], ◌∷◌, ◌++◌, Option, Some, None, Result, Ok, Err, IfSome, is_none, get_or, slice_get, slice_index_or, refl, sym, ap, ap₂, subst, ◌∙◌, arith, eq-eqb}
+use Rattle.std.proofs.Common.{◌≡◌, ℕ, zero, suc, ◌+◌, ◌<◌, ◌≤◌, ◌⊎◌, inl, inr, Bool, true, false, ◌&&◌, List, [], ◌∷◌, ◌++◌, Option, Some, None, Result, Ok, Err, IfSome, is_none, get_or, length, slice_get, slice_index_or, refl, sym, ap, ap₂, subst, ◌∙◌, arith, eq-eqb}
 use Rattle.std.specs.List.{Contains}
 use Rattle.std.proofs.lemmas.Bool.{lt-ltb, cases_eq}
 use Rattle.scen_defs.specs.Lists.{pick, passes_at}
@@ -34,25 +34,17 @@ use Rattle.pass_core.specs.Reasons.{IsStale, IsRefused, by_none, by_pool}
 use Rattle.pass_core.specs.Grounds.{put_in_pool, put_cut, put_cuts, CanPutInPool, CanPutCut, CanPutCuts}
 use Rattle.solve_laws.specs.Offers.{offered_pools, StaysOrGrows, stays, grows}
 use Rattle.solve_laws.proofs.Offers.{offers_hold, placed, ChangesAt, changes_at, as_before, changed}
+use Rattle.std.proofs.lemmas.List.{length-map}
+use Rattle.scen_defs.specs.Program.{is_live}
+use Rattle.scen_defs.specs.Valid.{Lives}
+use Rattle.edit_defs.proofs.Lists.{passes-within}
+use Rattle.pass_table.specs.Machine.{Machine}
+use Rattle.run_data.specs.Frames.{Frame, parent_of}
+use Rattle.pass_core.specs.declared.state.State.{State}
+use Rattle.pass_core.specs.Tabled.{IsTabledBy}
+use Rattle.keep_laws.specs.Kept.{IsCutNow, AreKept, BanksAreKept}
+use Rattle.keep_laws.proofs.Stale.{nothing_is_stale}
 use Rattle.run_laws.proofs.Standing.{HasMember, PoolStands}
-
-pub weaker : (a b : ℕ) (pools : List Held) (n : ℕ) → a ≤ b → PoolStands a pools n → PoolStands b pools n
-weaker a b pools n l h = record { pool = h.pool; there = h.there; node = h.node; known = h.known; few = omega (arith, l, h.few) }
-
--- before any cut
-empty_at : (k count j : ℕ) → j < count → slice_get (all_empty k count) j ≡ Some (no_cuts (k + j))
-empty_at k zero j less = absurd (omega (arith, less))
-empty_at k (suc count) zero less = let e : k ≡ k + 0 = omega arith in ap (λ i. Some (no_cuts i)) e
-empty_at k (suc count) (suc j) less = empty_at (suc k) count j (omega (arith, less)) ∙ (let e : suc k + j ≡ k + suc j = omega arith in ap (λ i. Some (no_cuts i)) e)
-
-pub empty_stand : (count n : ℕ) → n < count → PoolStands 0 (all_empty 0 count) n
-empty_stand count n less = record {
-  pool = no_cuts n;
-  there = empty_at 0 count n less ∙ (let e : 0 + n ≡ n = omega arith in ap (λ i. Some (no_cuts i)) e);
-  node = refl;
-  known = refl;
-  few = omega arith;
-}
 
 -- ---- a bank and the kind of a run
 bank_of : Kind → Bank
@@ -70,51 +62,17 @@ with_in Recession Cone pools b = inl (refl, refl)
 with_in Cost Plain pools b = inl (refl, refl)
 with_in Cost Cone pools b = inr refl
 
-same_list : (most : ℕ) (old new : List Held) (n : ℕ) → new ≡ old → PoolStands most old n → PoolStands (most + 1) new n
-same_list most old new n e h = subst (λ (ps : List Held). PoolStands (most + 1) ps n) (sym e) (weaker most (most + 1) old n (omega arith) h)
-
--- ---- an offer
-offered_stands : (most : ℕ) (cut : Stored) (trial : List Entry) (pools : List Held) (j : ℕ) → PoolStands most pools j
-    → PoolStands (most + 1) (offered_pools cut trial pools) j
-offered_stands most cut trial pools j h = go (offers_hold.places cut trial pools j)
-  where
-    go : StaysOrGrows cut pools (offered_pools cut trial pools) j → PoolStands (most + 1) (offered_pools cut trial pools) j
-    go (stays e) = record { pool = h.pool; there = e ∙ h.there; node = h.node; known = h.known; few = omega (arith, h.few) }
-    go (grows p at there now) =
-        let same : p ≡ h.pool = (let q : Some p ≡ Some h.pool = sym there ∙ h.there in cc) in
-        record {
-          pool = with_cut p cut;
-          there = now;
-          node = ap (λ (x : Held). x.node) same ∙ h.node;
-          known = ap (λ (x : Held). x.known) same ∙ h.known;
-          few = omega (arith, h.few, ap (λ (x : Held). x.number) same);
-        }
-
-pub offers_stand : (kind : Kind) (n : ℕ) (cut : Option Stored) (trial : List Entry) (old new : Banks) → OffersCut kind n cut trial old new
-    → (bank : Bank) (most j : ℕ) → PoolStands most (pools_in bank old) j → PoolStands (most + 1) (pools_in bank new) j
-offers_stand kind zero cut trial old new e bank most j h = same_list most (pools_in bank old) (pools_in bank new) j (ap (pools_in bank) e) h
-offers_stand kind (suc n) None trial old new e bank most j h = same_list most (pools_in bank old) (pools_in bank new) j (ap (pools_in bank) e) h
-offers_stand kind (suc n) (Some cut) trial old new o bank most j h = go (with_in kind bank (offered_pools cut trial (pools_of kind old)) old)
-  where
-    go : ((pools_in bank (with_pools kind (offered_pools cut trial (pools_of kind old)) old) ≡ offered_pools cut trial (pools_of kind old))
-        × (pools_in bank old ≡ pools_of kind old)) ⊎ (pools_in bank (with_pools kind (offered_pools cut trial (pools_of kind old)) old) ≡ pools_in bank old)
-        → PoolStands (most + 1) (pools_in bank new) j
-    go (inl (e, f)) = subst (λ (ps : List Held). PoolStands (most + 1) ps j) (sym (ap (pools_in bank) o.banks ∙ e))
-        (offered_stands most cut trial (pools_of kind old) j (subst (λ (ps : List Held). PoolStands most ps j) f h))
-    go (inr e) = same_list most (pools_in bank old) (pools_in bank new) j (ap (pools_in bank) o.banks ∙ e) h
-
--- where no touch is known no stamp is stale
-none_known : (xs : List Stamp) → first_stale [] xs ≡ None
-none_known [] = refl
-none_known (a ∷ xs) = none_known xs
-
 -- a cut that is offered to such a pool isn't refused
-pub never_refused : (most : ℕ) (pools : List Held) (trial : List Entry) (cut : Stored) (n : ℕ) → PoolStands most pools n → (source_of cut).node ≡ n
-    → most < 18446744073709551615 → IsRefused pools trial cut → ⊥
-never_refused most pools trial cut n h at small refused = go refused
+pub never_refused : (p : Program) (versions : List Version) (most : ℕ) (pools : List Held) (trial : List Entry) (cut : Stored) (n : ℕ)
+    → PoolStands p versions most pools n → IsCutNow p versions n cut → most < 18446744073709551615 → IsRefused pools trial cut → ⊥
+never_refused p versions most pools trial cut n h now small refused = go refused
   where
+    at : (source_of cut).node ≡ n
+    at = now.node
+
     takes : may_take cut h.pool ≡ true
-    takes = ap₂ ◌&&◌ (eq-eqb h.pool.node (source_of cut).node (h.node ∙ sym at)) (lt-ltb h.pool.number 18446744073709551615 (omega (arith, h.few, small)))
+    takes = ap₂ ◌&&◌ (eq-eqb h.pool.node (source_of cut).node (h.kept.node ∙ sym at))
+        (lt-ltb h.pool.number 18446744073709551615 (omega (arith, h.kept.few, small)))
 
     pool_there : (ps : List Held) (k : ℕ) → slice_get ps k ≡ Some h.pool → pool_if (may_take cut) k ps ≡ Some h.pool
     pool_there [] k e = absurd (cc)
@@ -151,7 +109,7 @@ never_refused most pools trial cut n h at small refused = go refused
     go (by_none e) = let q : None ≡ Some h.pool = sym e ∙ found in absurd (cc)
     go (by_pool pool e stale) =
         let same : pool ≡ h.pool = (let q : Some pool ≡ Some h.pool = sym e ∙ found in cc) in
-        no_stale (first_stale h.pool.known (support cut)) (ap (λ ts. first_stale ts (support cut)) h.known ∙ none_known (support cut))
+        no_stale (first_stale h.pool.known (support cut)) (nothing_is_stale p versions most n n h.pool cut h.kept now)
         (subst (λ (p : Held). IsStale (offer_of p cut trial)) same stale)
 
 -- ---- the first cuts of a run
@@ -159,36 +117,6 @@ never_refused most pools trial cut n h at small refused = go refused
 abbrev pub AreAt : ℕ → List (Option Stored) → Type 0
 AreAt k [] = Unit {0}
 AreAt k (place ∷ places) = IfSome place (λ c. (source_of c).node ≡ k) × AreAt (suc k) places
-
--- a cut in the pool of node n: the other bank and the other nodes' pools stay
-put_stands : (kind : Kind) (n : ℕ) (cut : Stored) (b : Banks) (bank : Bank) (most j : ℕ) → PoolStands most (pools_in bank b) j
-    → PoolStands (most + 1) (pools_in bank (put_in_pool kind n cut b)) j
-put_stands kind zero cut b bank most j h = weaker most (most + 1) (pools_in bank b) j (omega arith) h
-put_stands kind (suc n) cut b bank most j h = go (with_in kind bank (with_pool (may_put cut) (λ p. with_cut p cut) (suc n) (pools_of kind b)) b)
-  where
-    new : List Held
-    new = with_pool (may_put cut) (λ p. with_cut p cut) (suc n) (pools_of kind b)
-
-    by : PoolStands most (pools_of kind b) j → ChangesAt (λ p. with_cut p cut) (pools_of kind b) (with_pool (may_put cut) (λ p. with_cut p cut) (suc n) (pools_of kind b)) (suc n) j
-        → PoolStands (most + 1) (with_pool (may_put cut) (λ p. with_cut p cut) (suc n) (pools_of kind b)) j
-    by g (as_before e) = record { pool = g.pool; there = e ∙ g.there; node = g.node; known = g.known; few = omega (arith, g.few) }
-    by g (changed p at there now) =
-        let same : p ≡ g.pool = (let q : Some p ≡ Some g.pool = sym there ∙ g.there in cc) in
-        record {
-          pool = with_cut p cut;
-          there = now;
-          node = ap (λ (x : Held). x.node) same ∙ g.node;
-          known = ap (λ (x : Held). x.known) same ∙ g.known;
-          few = omega (arith, g.few, ap (λ (x : Held). x.number) same);
-        }
-
-    go : ((pools_in bank (with_pools kind (with_pool (may_put cut) (λ p. with_cut p cut) (suc n) (pools_of kind b)) b)
-        ≡ with_pool (may_put cut) (λ p. with_cut p cut) (suc n) (pools_of kind b)) × (pools_in bank b ≡ pools_of kind b))
-        ⊎ (pools_in bank (with_pools kind (with_pool (may_put cut) (λ p. with_cut p cut) (suc n) (pools_of kind b)) b) ≡ pools_in bank b)
-        → PoolStands (most + 1) (pools_in bank (put_in_pool kind (suc n) cut b)) j
-    go (inl (e, f)) = subst (λ (ps : List Held). PoolStands (most + 1) ps j) (sym e)
-        (by (subst (λ (ps : List Held). PoolStands most ps j) f h) (changes_at (may_put cut) (λ p. with_cut p cut) (suc n) j (pools_of kind b)))
-    go (inr e) = same_list most (pools_in bank b) _ j e h
 
 -- the pool of another node stays
 put_other : (kind : Kind) (n : ℕ) (cut : Stored) (b : Banks) (bank : Bank) (j : ℕ) → (j ≡ n → ⊥)
@@ -218,28 +146,9 @@ puts_before kind k (Some cut ∷ places) b bank j h less =
     puts_before kind (suc k) places (put_in_pool kind (source_of cut).node cut b) bank j h.1 (omega (arith, less))
     ∙ put_other kind (source_of cut).node cut b bank j (λ e. omega (arith, e, h.0, less))
 
-stays_there : (most : ℕ) (old new : List Held) (j : ℕ) → slice_get new j ≡ slice_get old j → PoolStands most old j → PoolStands most new j
-stays_there most old new j e h = record { pool = h.pool; there = e ∙ h.there; node = h.node; known = h.known; few = h.few }
-
--- each pool gets one cut at most
-pub puts_stand : (kind : Kind) (k : ℕ) (places : List (Option Stored)) (b : Banks) (bank : Bank) (most j : ℕ) → AreAt k places → k ≤ j
-    → PoolStands most (pools_in bank b) j → PoolStands (most + 1) (pools_in bank (put_cuts kind places b)) j
-puts_stand kind k [] b bank most j at less h = weaker most (most + 1) (pools_in bank b) j (omega arith) h
-puts_stand kind k (place ∷ places) b bank most j at less h =
-    go (λ c l g. puts_stand kind (suc k) places c bank most j at.1 l g) (cases_eq j k) place at.0
-  where
-    go : ((c : Banks) → suc k ≤ j → PoolStands most (pools_in bank c) j → PoolStands (most + 1) (pools_in bank (put_cuts kind places c)) j)
-        → (j ≡ k) ⊎ (j ≡ k → ⊥) → (place : Option Stored) → IfSome place (λ c. (source_of c).node ≡ k)
-        → PoolStands (most + 1) (pools_in bank (put_cuts kind places (put_cut kind place b))) j
-    go rest (inl e) None a = stays_there (most + 1) (pools_in bank b) _ j (puts_before kind (suc k) places b bank j at.1 (omega (arith, e)))
-        (weaker most (most + 1) (pools_in bank b) j (omega arith) h)
-    go rest (inl e) (Some cut) a = stays_there (most + 1) (pools_in bank (put_in_pool kind (source_of cut).node cut b)) _ j
-        (puts_before kind (suc k) places (put_in_pool kind (source_of cut).node cut b) bank j at.1 (omega (arith, e)))
-        (put_stands kind (source_of cut).node cut b bank most j h)
-    go rest (inr ne) None a = rest b (omega (arith, less, ne)) h
-    go rest (inr ne) (Some cut) a = rest (put_in_pool kind (source_of cut).node cut b) (omega (arith, less, ne))
-        (stays_there most (pools_in bank b) (pools_in bank (put_in_pool kind (source_of cut).node cut b)) j
-        (put_other kind (source_of cut).node cut b bank j (λ e. ne (e ∙ a))) h)
+stays_there : (p : Program) (versions : List Version) (most : ℕ) (old new : List Held) (j : ℕ) → slice_get new j ≡ slice_get old j
+    → PoolStands p versions most old j → PoolStands p versions most new j
+stays_there p versions most old new j e h = record { pool = h.pool; there = e ∙ h.there; kept = h.kept }
 
 -- ---- the cut of each place is in its pool
 -- where the pool may take it
@@ -326,46 +235,76 @@ first_at kind p tree versions dual cuts h = at_places 0 cuts (λ i cut e. go i c
         ∙ (let q : i ≡ 0 + i = omega arith in q)
 
 -- ---- the pools take the cuts that a run begins with
-takes_first : (most : ℕ) (pools : List Held) (cut : Stored) (n : ℕ) → PoolStands most pools n → (source_of cut).node ≡ n
-    → most < 18446744073709551615 → passes_at (may_put cut) n pools ≡ true
-takes_first most pools cut n h at small = there pools n h.there
+takes_first : (p : Program) (versions : List Version) (most : ℕ) (pools : List Held) (cut : Stored) (n : ℕ) → PoolStands p versions most pools n
+    → IsCutNow p versions n cut → most < 18446744073709551615 → passes_at (may_put cut) n pools ≡ true
+takes_first p versions most pools cut n h now small = there pools n h.there
   where
     passes : may_put cut h.pool ≡ true
     passes = ap₂ ◌&&◌
-        (ap₂ ◌&&◌ (eq-eqb h.pool.node (source_of cut).node (h.node ∙ sym at)) (lt-ltb h.pool.number 18446744073709551615 (omega (arith, h.few, small))))
-        (ap (λ (o : Option Stamp). is_none o) (ap (λ ts. first_stale ts (support cut)) h.known ∙ none_known (support cut)))
+        (ap₂ ◌&&◌ (eq-eqb h.pool.node (source_of cut).node (h.kept.node ∙ sym now.node))
+        (lt-ltb h.pool.number 18446744073709551615 (omega (arith, h.kept.few, small))))
+        (ap (λ (o : Option Stamp). is_none o) (nothing_is_stale p versions most n n h.pool cut h.kept now))
 
     there : (ps : List Held) (k : ℕ) → slice_get ps k ≡ Some h.pool → passes_at (may_put cut) k ps ≡ true
     there [] k e = absurd (cc)
-    there (p ∷ ps) zero e = let same : p ≡ h.pool = cc in ap (may_put cut) same ∙ passes
-    there (p ∷ ps) (suc k) e = there ps k e
+    there (q ∷ ps) zero e = let same : q ≡ h.pool = cc in ap (may_put cut) same ∙ passes
+    there (q ∷ ps) (suc k) e = there ps k e
 
-pub can_put_all : (kind : Kind) (k : ℕ) (places : List (Option Stored)) (b : Banks) (most : ℕ) → AreAt k places → most < 18446744073709551615
-    → ((i : ℕ) (cut : Stored) → slice_index_or places i None ≡ Some cut → PoolStands most (pools_of kind b) (k + i))
-    → CanPutCuts kind places b
-can_put_all kind k [] b most at small stands = tt
-can_put_all kind k (place ∷ places) b most at small stands = (
-  own place at.0 (λ cut e. stands 0 cut e),
-  can_put_all kind (suc k) places (put_cut kind place b) most at.1 small (λ i cut e. later place at.0 i (stands (suc i) cut e)),
-)
+module _ (p : Program) (versions : List Version) (kind : Kind) (most : ℕ) (small : most < 18446744073709551615) where
+  pub can_put_all : (k : ℕ) (places : List (Option Stored)) (b : Banks) → AreAt k places
+      → ((i : ℕ) (cut : Stored) → slice_index_or places i None ≡ Some cut → IsCutNow p versions (k + i) cut)
+      → ((i : ℕ) (cut : Stored) → slice_index_or places i None ≡ Some cut → PoolStands p versions most (pools_of kind b) (k + i))
+      → CanPutCuts kind places b
+  can_put_all k [] b at now stands = tt
+  can_put_all k (place ∷ places) b at now stands = (
+    own place at.0 (λ cut e. now 0 cut e) (λ cut e. stands 0 cut e),
+    can_put_all (suc k) places (put_cut kind place b) at.1
+        (λ i cut e. let q : k + suc i ≡ suc k + i = omega arith in subst (λ (j : ℕ). IsCutNow p versions j cut) q (now (suc i) cut e))
+        (λ i cut e. later place at.0 i (stands (suc i) cut e)),
+  )
+    where
+      in_pool : (cut : Stored) (n : ℕ) → (source_of cut).node ≡ n → n ≡ k + 0 → IsCutNow p versions (k + 0) cut
+          → PoolStands p versions most (pools_of kind b) (k + 0) → CanPutInPool kind n cut b
+      in_pool cut zero e q c h = tt
+      in_pool cut (suc n) e q c h =
+          takes_first p versions most (pools_of kind b) cut (suc n) (subst (PoolStands p versions most (pools_of kind b)) (sym q) h)
+          (subst (λ (j : ℕ). IsCutNow p versions j cut) (sym q) c) small
+
+      own : (o : Option Stored) → IfSome o (λ c. (source_of c).node ≡ k) → ((cut : Stored) → o ≡ Some cut → IsCutNow p versions (k + 0) cut)
+          → ((cut : Stored) → o ≡ Some cut → PoolStands p versions most (pools_of kind b) (k + 0)) → CanPutCut kind o b
+      own None a c f = tt
+      own (Some cut) a c f = in_pool cut (source_of cut).node refl (omega (arith, a)) (c cut refl) (f cut refl)
+
+      later : (o : Option Stored) → IfSome o (λ c. (source_of c).node ≡ k) → (i : ℕ) → PoolStands p versions most (pools_of kind b) (k + suc i)
+          → PoolStands p versions most (pools_of kind (put_cut kind o b)) (suc k + i)
+      later None a i h = let q : k + suc i ≡ suc k + i = omega arith in subst (PoolStands p versions most (pools_of kind b)) q h
+      later (Some cut) a i h =
+          let q : k + suc i ≡ suc k + i = omega arith in
+          subst (PoolStands p versions most (pools_of kind (put_in_pool kind (source_of cut).node cut b))) q
+          (stays_there p versions most (pools_of kind b) (pools_of kind (put_in_pool kind (source_of cut).node cut b)) (k + suc i)
+          (ap (λ ps. slice_get ps (k + suc i)) (sym (of_kind kind (put_in_pool kind (source_of cut).node cut b)))
+          ∙ put_other kind (source_of cut).node cut b (bank_of kind) (k + suc i) (λ e. omega (arith, e, a))
+          ∙ ap (λ ps. slice_get ps (k + suc i)) (of_kind kind b)) h)
+
+-- ---- each live node has a pool
+pool_there : (pools : List Held) (n : ℕ) → n < length pools → (pool : Held) × (slice_get pools n ≡ Some pool)
+pool_there [] n less = absurd (omega (arith, less))
+pool_there (q ∷ ps) zero less = (q, refl)
+pool_there (q ∷ ps) (suc n) less = pool_there ps n (omega (arith, less))
+
+kept_there : (p : Program) (versions : List Version) (most : ℕ) (pools : List Held) (n : ℕ) → n < length pools → AreKept p versions most pools
+    → PoolStands p versions most pools n
+kept_there p versions most pools n less kept = let q = pool_there pools n less in
+    record { pool = q.0; there = q.1; kept = kept n q.0 q.1 }
+
+pub pool_stands : (p : Program) (s : State) (most : ℕ) → s.frame ≡ frame_of p → (m : Machine) → IsTabledBy p s m → BanksAreKept p s.versions most s.banks
+    → (kind : Kind) (n : ℕ) → Lives p n → PoolStands p s.versions most (pools_of kind s.banks) n
+pool_stands p s most frame m table kept kind n l = go kind
   where
-    in_pool : (cut : Stored) (n : ℕ) → (source_of cut).node ≡ n → n ≡ k + 0 → PoolStands most (pools_of kind b) (k + 0) → CanPutInPool kind n cut b
-    in_pool cut zero e q h = tt
-    in_pool cut (suc n) e q h =
-        takes_first most (pools_of kind b) cut (suc n) (subst (PoolStands most (pools_of kind b)) (sym q) h) e small
+    within : n < length s.frame.parents
+    within = omega (arith, passes-within is_live n p.nodes l, ap (λ (f : Frame). length f.parents) frame, length-map p.nodes parent_of)
 
-    own : (o : Option Stored) → IfSome o (λ c. (source_of c).node ≡ k)
-        → ((cut : Stored) → o ≡ Some cut → PoolStands most (pools_of kind b) (k + 0)) → CanPutCut kind o b
-    own None a f = tt
-    own (Some cut) a f = in_pool cut (source_of cut).node refl (omega (arith, a)) (f cut refl)
-
-    later : (o : Option Stored) → IfSome o (λ c. (source_of c).node ≡ k) → (i : ℕ) → PoolStands most (pools_of kind b) (k + suc i)
-        → PoolStands most (pools_of kind (put_cut kind o b)) (suc k + i)
-    later None a i h = let q : k + suc i ≡ suc k + i = omega arith in subst (PoolStands most (pools_of kind b)) q h
-    later (Some cut) a i h =
-        let q : k + suc i ≡ suc k + i = omega arith in
-        subst (PoolStands most (pools_of kind (put_in_pool kind (source_of cut).node cut b))) q
-        (stays_there most (pools_of kind b) (pools_of kind (put_in_pool kind (source_of cut).node cut b)) (k + suc i)
-        (ap (λ ps. slice_get ps (k + suc i)) (sym (of_kind kind (put_in_pool kind (source_of cut).node cut b)))
-        ∙ put_other kind (source_of cut).node cut b (bank_of kind) (k + suc i) (λ e. omega (arith, e, a))
-        ∙ ap (λ ps. slice_get ps (k + suc i)) (of_kind kind b)) h)
+    go : (kind : Kind) → PoolStands p s.versions most (pools_of kind s.banks) n
+    go Feasible = kept_there p s.versions most s.banks.plain n (omega (arith, within, table.pools.plain)) kept.plain
+    go Recession = kept_there p s.versions most s.banks.cone n (omega (arith, within, table.pools.cone)) kept.cone
+    go Cost = kept_there p s.versions most s.banks.plain n (omega (arith, within, table.pools.plain)) kept.plain

@@ -7,17 +7,17 @@ use Rattle.scen_defs.specs.declared.report.Kind.TheVariants.{Feasible, Recession
 use Rattle.scen_tree.specs.Trees.{Tree, tree_walk}
 use Rattle.pass_table.specs.Machine.{Machine, opened}
 use Rattle.pass_table.specs.Marks.{nothing}
-use Rattle.pass_core.specs.declared.budget.Budget.{Budget}
 use Rattle.pass_core.specs.declared.state.State.{State}
-use Rattle.pass_core.specs.Beginning.{IsBeginning}
-use Rattle.pass_core.specs.Left.{next_kind}
+use Rattle.pass_core.specs.Left.{OpensRun, next_kind}
 use Rattle.pass_core.specs.Tabled.{HasRoom, IsTabledBy, Opens, not_opened, is_opened}
-use Rattle.pass_core.specs.Turns.{MakesStep, begins_none, opens_run, solves}
-use Rattle.tree_method.specs.Stands.{SolvesNodes, none, more, anew, settled_in}
-use Rattle.tree_method.proofs.StandLemmas.{goes_on}
+use Rattle.pass_core.specs.Turns.{OpensAnyhow, stays_closed, is_open, MakesStep, begins_none, opens_run, solves}
+use Rattle.tree_method.specs.Stands.{settled_in}
+use Rattle.run_laws.specs.Courses.{IsOpening, GoesFrom, IsRunTo, HasNumbers}
 use Rattle.run_laws.proofs.Standing.{runs_before}
 use Rattle.run_laws.proofs.Begun.{unused_counts}
-use Rattle.run_laws.proofs.Kept.{IsCounted, solves_counted, unstopped}
+use Rattle.run_laws.proofs.Course.{course, beginning_opens}
+use Rattle.run_laws.proofs.Held.{tabled_before}
+use Rattle.run_laws.proofs.Kept.{IsClear, is_clear, not_stuck, unstopped, goes_lasting, run_clear, run_counted}
 use Rattle.run_laws.proofs.Turned.{turn_run}
 
 module _ (p : Program) (i : IsProgram p) where
@@ -25,8 +25,8 @@ module _ (p : Program) (i : IsProgram p) where
   record IsEarly (s : State) : Type 0 where
     most : (m : Machine) → IsTabledBy p s m → m.run ≤ 1 + runs_before s.kind
 
-  first_early : (budget : Budget) (s : State) → IsBeginning p budget s → IsEarly s
-  first_early budget s b = record {
+  first_early : (most : ℕ) (s : State) → IsOpening p most s → IsEarly s
+  first_early most s b = record {
     most = λ m table. let z : m.run ≡ 1 = (unused_counts p s m i b.frame table b.is_begun).1 in omega (arith, z);
   }
 
@@ -39,18 +39,27 @@ module _ (p : Program) (i : IsProgram p) where
   one_later Cost earlier = absurd (earlier refl)
 
   step_early : (old new : State) (m : Machine) (told : Bool) → IsEarly old → IsTabledBy p old m → MakesStep p old m new told
-      → new.stop ≡ None → IsEarly new
-  step_early old new m told h table (begins_none rests points reasons ready) stop = record {
+      → old.stop ≡ None → IsClear new → IsEarly new
+  step_early old new m told h table (begins_none rests points reasons ready) before clear = record {
     most = λ k t. omega (arith, h.most m table, same_runs new m k ready.tabled t, ap runs_before ready.run.kind);
   }
-  step_early old new m told h table (opens_run closed earlier opens points reasons run puts) stop = go opens
+  step_early old new m told h table (opens_run closed earlier opens points reasons run puts left) before clear = by left
     where
-      go : Opens p m new → IsEarly new
-      go (not_opened stops fits) = absurd (stops stop)
-      go (is_opened number fits) = record {
-        most = λ k t. omega (arith, h.most m table, same_runs new (opened m number) k fits t, ap runs_before (run stop).kind, one_later old.kind earlier);
+      go : OpensRun old new → new.stop ≡ None → Opens p m new → IsEarly new
+      go o stop (not_opened stops fits) = absurd (stops stop)
+      go o stop (is_opened number fits) = record {
+        most = λ k t. omega (arith, h.most m table, same_runs new (opened m number) k fits t, ap runs_before o.kind, one_later old.kind earlier);
       }
-  step_early old new m told h table (solves lasts n ready solve) stop = record {
+
+      by : OpensAnyhow p old new → IsEarly new
+      by (stays_closed e) = record {
+        most = λ k t.
+            let run : m.run ≡ k.run = sym table.fits.agrees.run ∙ ap (λ (s : State). s.table.run) (sym e) ∙ t.fits.agrees.run in
+            omega (arith, h.most m table, run, ap (λ (s : State). runs_before s.kind) e);
+      }
+      by (is_open o gets halts) =
+          let stop : new.stop ≡ None = not_stuck new old.budget.solves clear (halts before) in go (run stop) stop opens
+  step_early old new m told h table (solves lasts n ready solve) before clear = record {
     most = λ k t. omega (
       arith,
       h.most m table,
@@ -60,22 +69,26 @@ module _ (p : Program) (i : IsProgram p) where
     );
   }
 
-  solves_early : (budget : Budget) (old new : State) → IsBeginning p budget old → SolvesNodes p old new → new.stop ≡ None → IsEarly new
-  solves_early budget old new b none stop = first_early budget old b
-  solves_early budget old new b (more mid k m told before open_yet table step keeps) stop =
-      step_early mid k m told (solves_early budget old mid b before (unstopped mid open_yet)) table step stop
-  solves_early budget old new b (anew mid k before ends over) stop = first_early mid.budget k over.beginning
+  goes_early : (tree : Tree) (few : length p.nodes < nothing) (t : tree_walk p ≡ Ok tree) (most : ℕ) (first s : State) → IsOpening p most first
+      → GoesFrom p first s → IsClear s → IsEarly s
+  goes_early tree few t most first s o g = course p first (λ s. IsClear s → IsEarly s)
+      (λ budget k b clear. first_early most k (beginning_opens p most budget k b))
+      (λ mid k m told g h open_yet table step keeps clear.
+      let stop : mid.stop ≡ None = unstopped mid open_yet in
+      step_early mid k m told (h (is_clear mid (goes_lasting p tree i few t most first mid o g) stop)) table step stop clear)
+      (λ mid g h unstuck clear.
+      let q : IsEarly mid = h (record { lasting = clear.lasting; unstuck = unstuck }) in record { most = λ m fits. q.most m (tabled_before p mid m fits) })
+      s (λ clear. first_early most first o) g
 
   at_most_two : (k : Kind) → runs_before k ≤ 2
   at_most_two Feasible = omega arith
   at_most_two Recession = omega arith
   at_most_two Cost = omega arith
 
-  pub has_room : (tree : Tree) (few : length p.nodes < nothing) (t : tree_walk p ≡ Ok tree) (budget : Budget) (old new : State)
-      → new.budget.solves < 2 ^ 63 → IsBeginning p budget old → SolvesNodes p old new → settled_in new ≡ None
-      → (m : Machine) → IsTabledBy p new m → HasRoom m
-  has_room tree few t budget old new small b x open_yet m table =
-      let stop : new.stop ≡ None = unstopped new open_yet in
-      let c : IsCounted p tree i few t new = solves_counted p tree i few t budget old new small b x stop in
-      let e : IsEarly new = solves_early budget old new b x stop in
-      (omega (arith, c.most m table, goes_on new open_yet, small), omega (arith, e.most m table, at_most_two new.kind))
+pub has_room : (p : Program) (s : State) (r : IsRunTo p s) → HasNumbers p s r → settled_in s ≡ None → (m : Machine) → IsTabledBy p s m → HasRoom m
+has_room p s r small open_yet m table =
+    let clear : IsClear s = run_clear p s r (unstopped s open_yet) in
+    let all : s.counts.all < 2 ^ 63 = omega (arith, small) in
+    let c : m.commits ≤ s.counts.all = (run_counted p s r).most all m table in
+    let e : IsEarly p r.program s = goes_early p r.program r.tree r.few r.walk r.most r.first s r.opens r.goes clear in
+    (omega (arith, c, all), omega (arith, e.most m table, at_most_two p r.program s.kind))

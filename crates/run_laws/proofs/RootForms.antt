@@ -17,13 +17,13 @@ use Rattle.fit_laws.proofs.Rows.{made_are_on_rows}
 use Rattle.fit_laws.proofs.Multipliers.{multipliers_fit}
 use Rattle.pass_core.specs.Made.{IsMadeAbout}
 use Rattle.pass_core.specs.declared.state.State.{State}
-use Rattle.run_laws.specs.Laws.{IsRunTo}
-use Rattle.run_laws.proofs.Shown.{IsShowing, solves_show}
+use Rattle.run_laws.specs.Courses.{IsRunTo}
+use Rattle.run_laws.proofs.Shown.{IsShowing, run_shows}
 
 pub numbers_are_flat : (p : Program) (s : State) (cut : Stored) (fs : List (List Entry)) → IsRunTo p s → s.stop ≡ None → s.ends.root ≡ Some cut
     → IsMadeAbout (book run_kind.Recession p []) 0 cut → flat_from [] one_ℚ cut ≡ Ok fs → flat_of fs ≡ at (numbers_by_node 0 fs)
 numbers_are_flat p s cut fs r stop there made e =
-    let show : IsShowing p s = solves_show p r.tree r.program r.few r.walk r.budget r.first s r.begins r.solves stop in
+    let show : IsShowing p s = run_shows p s r stop in
     let forms : HasForms cut = subst (λ o. IfSome o HasForms) there show.ends.root in
     let fit = multipliers_fit run_kind.Recession p cut fs r.program (made_are_on_rows run_kind.Recession p cut made.made) e
     (forms_assemble cut fs forms e) in

@@ -1,14 +1,13 @@
 -- Two machines that a table fits agree on what the table tells.
-use Rattle.std.proofs.Common.{◌≡◌, ℕ, ◌+◌, ◌<◌, arith, sym, subst, ◌∙◌}
+use Rattle.std.proofs.Common.{◌≡◌, ℕ, ◌<◌, Bool, arith, sym, ap, subst, ◌∙◌}
 use Rattle.scen_defs.specs.Program.{Program}
-use Rattle.pass_table.specs.Machine.{Machine, IsLive, IsMade, IsComplete}
+use Rattle.pass_table.specs.Machine.{IsAbove, Last, Machine, IsLive, IsMade, IsGood, IsComplete}
 use Rattle.pass_table.specs.Fits.{lists_of, AreRead}
 use Rattle.pass_table.proofs.Agree.{made_is, made_at}
 use Rattle.pass_core.specs.declared.state.State.{State}
 use Rattle.pass_core.specs.Tabled.{IsTabledBy}
 use Rattle.scen_tree.specs.Trees.{Tree}
-use Rattle.run_laws.proofs.Standing.{known_of, PoolStands, runs_before, HasLast, HasNone, StandsBy}
-use Rattle.cut_banks.specs.Banks.{pools_in as pools_of_bank}
+use Rattle.run_laws.proofs.Standing.{Known, known_of, HasLast, HasNone, StandsBy}
 
 -- what two machines of one state agree on at a live node
 pub record Agree (m k : Machine) (n : ℕ) : Type 0 where
@@ -35,13 +34,13 @@ agree p s m k tm tk n l =
 pub complete_too : (p : Program) (s : State) (m k : Machine) → IsTabledBy p s m → IsTabledBy p s k → IsComplete k → IsComplete m
 complete_too p s m k tm tk c = tm.fits.complete.0 (tk.fits.complete.1 c)
 
--- what stands by the one stands by the other
-pub stands_too : (p : Program) (tree : Tree) (s : State) (m k : Machine) → IsTabledBy p s m → IsTabledBy p s k → StandsBy p tree (known_of s) m
-    → StandsBy p tree (known_of s) k
-stands_too p tree s m k tm tk h = record {
+-- what stands by the one stands by the other, where they agree at live nodes
+pub stands_alike : (p : Program) (tree : Tree) (w : Known) (m k : Machine) → ((n : ℕ) → IsLive k n → IsLive m n)
+    → ((n : ℕ) → IsLive k n → Agree m k n) → (IsComplete k → IsComplete m) → StandsBy p tree w m → StandsBy p tree w k
+stands_alike p tree w m k live agrees complete h = record {
   lasts = λ n l c q.
-      let a : Agree m k n = agree p s m k tm tk n l in
-      let b : HasLast p (known_of s) m n = h.lasts n (live_too p s m k tm tk n l) (omega (arith, a.commit, c)) (sym a.point ∙ q) in
+      let a : Agree m k n = agrees n l in
+      let b : HasLast p w m n = h.lasts n (live n l) (omega (arith, a.commit, c)) (sym a.point ∙ q) in
       record {
         last = b.last;
         there = b.there;
@@ -60,13 +59,45 @@ stands_too p tree s m k tm tk h = record {
         root = b.root;
       };
   nones = λ n l c q.
-      let a : Agree m k n = agree p s m k tm tk n l in
-      let b : HasNone p (known_of s) m n = h.nones n (live_too p s m k tm tk n l) (omega (arith, a.commit, c)) (sym a.point ∙ q) in
+      let a : Agree m k n = agrees n l in
+      let b : HasNone p w m n = h.nones n (live n l) (omega (arith, a.commit, c)) (sym a.point ∙ q) in
       record { trial = b.trial; made = λ z. b.made (a.made z); offered = b.offered; root = b.root };
   ends = h.ends;
-  complete = λ c. h.complete (complete_too p s m k tm tk c);
+  complete = λ c. h.complete (complete c);
   policy = h.policy;
-  banks = λ bank n l. let e : m.commits ≡ k.commits = sym tm.fits.agrees.commits ∙ tk.fits.agrees.commits in
-      subst (λ (c : ℕ). PoolStands (c + runs_before s.kind) (pools_of_bank bank s.banks) n) e (h.banks bank n l);
   grounds = h.grounds;
 }
+
+-- so do two that a table fits
+pub stands_too : (p : Program) (tree : Tree) (s : State) (m k : Machine) → IsTabledBy p s m → IsTabledBy p s k → StandsBy p tree (known_of s) m
+    → StandsBy p tree (known_of s) k
+stands_too p tree s m k tm tk h =
+    stands_alike p tree (known_of s) m k (live_too p s m k tm tk) (agree p s m k tm tk) (complete_too p s m k tm tk) h
+
+-- and two with the same last solves and the same numbers of pools
+pub stands_still : (p : Program) (tree : Tree) (w : Known) (m k : Machine) → k.live ≡ m.live → k.parent ≡ m.parent → k.last ≡ m.last
+    → ((n : ℕ) → k.number n ≡ m.number n) → StandsBy p tree w m → StandsBy p tree w k
+stands_still p tree w m k live parent last number h =
+    stands_alike p tree w m k (λ n l. lives n l) (λ n l. record {
+      commit = ap (λ (f : ℕ → Last). (f n).commit) last;
+      point = ap (λ (f : ℕ → Last). (f n).point) last;
+      made = λ z. made n z;
+      read = λ c r. read n r;
+    }) (λ c n l. let g : IsGood k n = c n (ap (λ (f : ℕ → Bool). f n) live ∙ l) in (made n g.0, ap (λ (f : ℕ → Last). (f n).point) (sym last) ∙ g.1)) h
+  where
+    lives : (n : ℕ) → IsLive k n → IsLive m n
+    lives n l = ap (λ (f : ℕ → Bool). f n) (sym live) ∙ l
+
+    made : (n : ℕ) → IsMade k n → IsMade m n
+    made n z = record {
+      solved = subst (λ (f : ℕ → Last). 0 < (f n).commit) last z.solved;
+      above = λ a up. ap (λ (f : ℕ → Last). (f a).commit) (sym last) ∙ z.above a (subst (λ (f : ℕ → ℕ). IsAbove f a n) (sym parent) up)
+          ∙ ap (λ (f : ℕ → Last). (f n).above a) last;
+    }
+
+    read : (n : ℕ) → AreRead k n → AreRead m n
+    read n r c child = sym (number c) ∙ r c (record {
+      live = ap (λ (f : ℕ → Bool). f c) live ∙ child.live;
+      lower = child.lower;
+      parent = ap (λ (f : ℕ → ℕ). f c) parent ∙ child.parent;
+    }) ∙ ap (λ (f : ℕ → Last). (f n).below c) last

@@ -1,10 +1,8 @@
 -- What a run that nothing stops keeps of what its findings rest on: the multipliers of its cuts are forms, its policies fit the program, and
 -- its direction is a point of the recession.
-use Rattle.std.proofs.Common.{◌≡◌, ℕ, zero, suc, ◌<◌, ◌⊎◌, inl, inr, Bool, true, false, List, [], ◌∷◌, Option, Some, None, Ok, IfSome, length, replicate, slice_get, slice_index_or, refl, sym, ap, subst, ◌∙◌}
-use Rattle.std.specs.Option.{option_map, option_to_list}
+use Rattle.std.proofs.Common.{◌≡◌, ℕ, zero, suc, ◌<◌, Bool, true, false, List, Option, Some, None, Ok, IfSome, length, replicate, refl, sym, ap, subst, ◌∙◌}
 use Rattle.rationals.specs.Rational.{ℚ, zero_ℚ, ◌<ℚ◌}
-use Rattle.rationals.specs.Sparse.{Entry}
-use Rattle.scen_defs.specs.Lists.{Each, passes_at}
+use Rattle.scen_defs.specs.Lists.{passes_at}
 use Rattle.scen_defs.specs.Program.{Program, is_live, view_of}
 use Rattle.scen_defs.specs.Flat.{Feasible, cost}
 use Rattle.scen_defs.specs.Values.{at}
@@ -13,18 +11,12 @@ use Rattle.scen_defs.specs.declared.report.Kind.{Kind}
 use Rattle.scen_defs.specs.declared.report.Kind.TheVariants as run_kind
 use Rattle.scen_model.specs.Derived.{all_fit}
 use Rattle.scen_tree.specs.Trees.{Tree, tree_walk}
-use Rattle.cut_defs.specs.Stored.{Source, Stored, source_of}
-use Rattle.cut_defs.specs.declared.kinds.Bank.{Bank}
-use Rattle.cut_defs.specs.declared.kinds.Bank.TheVariants.{Plain, Cone}
-use Rattle.cut_defs.proofs.Present.{each_unmap}
-use Rattle.cut_pool.specs.Held.{Held}
-use Rattle.cut_pool.specs.Pool.{with_cut}
-use Rattle.cut_banks.specs.declared.banks.Banks.{Banks}
-use Rattle.cut_banks.specs.Banks.{pools_of, pools_in as pools_of_bank, with_pools, empty_banks}
-use Rattle.cut_banks.specs.Pools.{no_cuts, all_empty, may_put, with_pool, cuts_of, cuts_at, cuts_read}
+use Rattle.rationals.specs.Sparse.{Entry}
+use Rattle.cut_defs.specs.Stored.{Source, Stored, StoredUses}
+use Rattle.cut_defs.specs.Stored.Stored.{Stored_of}
+use Rattle.cut_defs.specs.Stored.StoredUses.{No_stored, Use_stored}
 use Rattle.edit_defs.specs.Data.{view_in}
-use Rattle.edit_defs.proofs.Lists.{each-append}
-use Rattle.fit_laws.specs.Rows.{HasForms}
+use Rattle.fit_laws.specs.Rows.{HasForms, AllHaveForms}
 use Rattle.fit_laws.proofs.Points.{policies_fit}
 use Rattle.node_lp.specs.declared.solved.Solved.{Solved}
 use Rattle.node_lp.specs.declared.solved.Solved.TheVariants as solved
@@ -32,7 +24,7 @@ use Rattle.node_lp.specs.Answers.{value_at_trial, IsAnswer, RayAnswer}
 use Rattle.node_lp.specs.Told.{node_solved}
 use Rattle.pass_table.specs.Machine.{Machine, opened}
 use Rattle.pass_table.specs.Marks.{nothing}
-use Rattle.run_data.specs.Frames.{children_in}
+use Rattle.run_data.specs.declared.versions.Version.{Version}
 use Rattle.run_ends.specs.declared.last.Last.{Last}
 use Rattle.run_ends.specs.declared.last.Lasts.{Lasts}
 use Rattle.run_ends.specs.declared.ends.Priced.{Priced}
@@ -40,116 +32,36 @@ use Rattle.run_ends.specs.declared.ends.Bounded.{Bounded}
 use Rattle.run_ends.specs.declared.ends.Ends.{Ends}
 use Rattle.run_ends.specs.Ends.{no_ends, after_policy}
 use Rattle.run_ends.specs.Lasts.{last_at, with_last, joined_points}
-use Rattle.pass_core.specs.declared.budget.Budget.{Budget}
 use Rattle.pass_core.specs.declared.state.State.{State}
-use Rattle.pass_core.specs.Beginning.{IsBeginning}
-use Rattle.pass_core.specs.Grounds.{put_in_pool, put_cuts}
-use Rattle.pass_core.specs.Left.{OffersCut, ends_behind, ends_without, TakesComplete, LeavesPoint, LeavesNone, LeavesBy, OpensRun, next_kind, places_in}
+use Rattle.pass_core.specs.Explained.{cut_given}
+use Rattle.pass_core.specs.Left.{KeepsKnown, HaltsBy, ends_behind, ends_without, TakesComplete, LeavesPoint, LeavesNone, LeavesBy, OpensRun, places_in}
 use Rattle.pass_core.specs.Tabled.{IsTabledBy, Opens, not_opened, is_opened}
-use Rattle.pass_core.specs.Turns.{AreReady, PutsFirstCuts, SolvesNode, MakesStep, begins_none, opens_run, solves}
+use Rattle.pass_core.specs.Turns.{AreReady, SolvesNode, OpensAnyhow, stays_closed, is_open, MakesStep, begins_none, opens_run, solves}
 use Rattle.policy_laws.specs.Points.{AllMeet}
 use Rattle.policy_laws.proofs.Policies.{policies_join}
 use Rattle.policy_laws.proofs.Costs.{joined_points_cost}
-use Rattle.solve_laws.specs.Offers.{offered_pools, StaysOrGrows, stays, grows}
-use Rattle.solve_laws.proofs.Offers.{offers_hold, ChangesAt, changes_at, as_before, changed}
-use Rattle.tree_method.specs.Stands.{SolvesNodes, none, more, anew}
+use Rattle.tree_method.specs.Stands.{none, more}
+use Rattle.keep_laws.specs.Kept.{EachRecord, EachUsed, IsUpToDate, IsCutNow}
+use Rattle.keep_laws.proofs.Offers.{solves_give_cuts}
+use Rattle.run_laws.specs.Courses.{IsOpening, GoesFrom, by_solves, IsRunTo}
 use Rattle.run_laws.proofs.Standing.{known_of, ShowsNone, EndsHold, StandsBy}
 use Rattle.run_laws.proofs.Places.{last_other}
 use Rattle.run_laws.proofs.Ends.{cheaper_holds, greater_holds}
-use Rattle.run_laws.proofs.PoolSteps.{with_in}
 use Rattle.run_laws.proofs.Policies.{all_meet}
 use Rattle.run_laws.proofs.Solved.{IsKept, kept_is, plain_value, no_trial}
-use Rattle.run_laws.proofs.Kept.{IsStanding, unstopped, with_places, solves_stand}
-use Rattle.run_laws.proofs.Forms.{SolvedForms, solved_forms, first_forms}
+use Rattle.run_laws.proofs.Course.{course, beginning_opens}
+use Rattle.run_laws.proofs.Held.{IsHeld, solve_lives, goes_held}
+use Rattle.run_laws.proofs.Kept.{IsClear, is_clear, not_stuck, IsStanding, unstopped, goes_lasting, goes_stand, run_clear}
 
--- ---- the pools
--- the multipliers of all cuts of the pools are forms
-abbrev pub PoolsHaveForms : List Held → Type 0
-PoolsHaveForms pools = (n : ℕ) (pool : Held) → slice_get pools n ≡ Some pool → Each HasForms pool.cuts
+-- ---- the cuts
+-- the multipliers of the records of a cut that is up to date are forms
+mutual
+  forms_of : (p : Program) (versions : List Version) (cut : Stored) → EachRecord (IsUpToDate p versions) cut → HasForms cut
+  forms_of p versions (Stored_of s uses constant form) h = (h.0.form, all_forms p versions uses h.1)
 
--- at place n stands what stood there, or that with one cut more
-abbrev GainsAt : Stored → List Held → List Held → ℕ → Type 0
-GainsAt cut old new n = (slice_get new n ≡ slice_get old n)
-    ⊎ ((pool : Held) × ((slice_get old n ≡ Some pool) × (slice_get new n ≡ Some (with_cut pool cut))))
-
-one_pool : (p q : Held) → Some p ≡ Some q → p ≡ q
-one_pool p q e = cc
-
-gain_forms : (cut : Stored) (old new : List Held) → HasForms cut → ((n : ℕ) → GainsAt cut old new n) → PoolsHaveForms old → PoolsHaveForms new
-gain_forms cut old new f gains h n pool e = go (gains n)
-  where
-    go : GainsAt cut old new n → Each HasForms pool.cuts
-    go (inl s) = h n pool (sym s ∙ e)
-    go (inr (q, (s, t))) =
-        let same : with_cut q cut ≡ pool = one_pool (with_cut q cut) pool (sym t ∙ e) in
-        subst (λ (x : Held). Each HasForms x.cuts) same (each-append HasForms q.cuts (cut ∷ []) (h n q s) (f, tt))
-
--- a change of the pools of a run leaves the other bank
-bank_forms : (kind : Kind) (pools : List Held) (b : Banks) (bank : Bank) → (PoolsHaveForms (pools_of kind b) → PoolsHaveForms pools)
-    → PoolsHaveForms (pools_of_bank bank b) → PoolsHaveForms (pools_of_bank bank (with_pools kind pools b))
-bank_forms kind pools b bank step h = go (with_in kind bank pools b)
-  where
-    go : ((pools_of_bank bank (with_pools kind pools b) ≡ pools) × (pools_of_bank bank b ≡ pools_of kind b))
-        ⊎ (pools_of_bank bank (with_pools kind pools b) ≡ pools_of_bank bank b) → PoolsHaveForms (pools_of_bank bank (with_pools kind pools b))
-    go (inl (e, f)) = subst PoolsHaveForms (sym e) (step (subst PoolsHaveForms f h))
-    go (inr e) = subst PoolsHaveForms (sym e) h
-
-offer_forms : (kind : Kind) (n : ℕ) (cut : Option Stored) (trial : List Entry) (old new : Banks) → OffersCut kind n cut trial old new
-    → IfSome cut HasForms → (bank : Bank) → PoolsHaveForms (pools_of_bank bank old) → PoolsHaveForms (pools_of_bank bank new)
-offer_forms kind zero cut trial old new e f bank h = subst (λ (b : Banks). PoolsHaveForms (pools_of_bank bank b)) (sym e) h
-offer_forms kind (suc n) None trial old new e f bank h = subst (λ (b : Banks). PoolsHaveForms (pools_of_bank bank b)) (sym e) h
-offer_forms kind (suc n) (Some cut) trial old new o f bank h =
-    subst (λ (b : Banks). PoolsHaveForms (pools_of_bank bank b)) (sym o.banks)
-    (bank_forms kind (offered_pools cut trial (pools_of kind old)) old bank
-    (gain_forms cut (pools_of kind old) (offered_pools cut trial (pools_of kind old)) f
-    (λ j. go j (offers_hold.places cut trial (pools_of kind old) j))) h)
-  where
-    go : (j : ℕ) → StaysOrGrows cut (pools_of kind old) (offered_pools cut trial (pools_of kind old)) j
-        → GainsAt cut (pools_of kind old) (offered_pools cut trial (pools_of kind old)) j
-    go j (stays e) = inl e
-    go j (grows p at there now) = inr (p, (there, now))
-
-put_forms : (kind : Kind) (n : ℕ) (cut : Stored) (b : Banks) (bank : Bank) → HasForms cut → PoolsHaveForms (pools_of_bank bank b)
-    → PoolsHaveForms (pools_of_bank bank (put_in_pool kind n cut b))
-put_forms kind zero cut b bank f h = h
-put_forms kind (suc n) cut b bank f h =
-    bank_forms kind (with_pool (may_put cut) (λ p. with_cut p cut) (suc n) (pools_of kind b)) b bank
-    (gain_forms cut (pools_of kind b) (with_pool (may_put cut) (λ p. with_cut p cut) (suc n) (pools_of kind b)) f
-    (λ j. go j (changes_at (may_put cut) (λ p. with_cut p cut) (suc n) j (pools_of kind b)))) h
-  where
-    go : (j : ℕ) → ChangesAt (λ p. with_cut p cut) (pools_of kind b) (with_pool (may_put cut) (λ p. with_cut p cut) (suc n) (pools_of kind b)) (suc n) j
-        → GainsAt cut (pools_of kind b) (with_pool (may_put cut) (λ p. with_cut p cut) (suc n) (pools_of kind b)) j
-    go j (as_before e) = inl e
-    go j (changed p at there now) = inr (p, (there, now))
-
-puts_forms : (kind : Kind) (places : List (Option Stored)) (b : Banks) (bank : Bank)
-    → ((n : ℕ) → IfSome (slice_index_or places n None) HasForms) → PoolsHaveForms (pools_of_bank bank b)
-    → PoolsHaveForms (pools_of_bank bank (put_cuts kind places b))
-puts_forms kind [] b bank f h = h
-puts_forms kind (None ∷ places) b bank f h = puts_forms kind places b bank (λ n. f (suc n)) h
-puts_forms kind (Some cut ∷ places) b bank f h = puts_forms kind places (put_in_pool kind (source_of cut).node cut b) bank (λ n. f (suc n))
-    (put_forms kind (source_of cut).node cut b bank (f 0) h)
-
-empty_forms : (k count : ℕ) → PoolsHaveForms (all_empty k count)
-empty_forms k zero n pool e = absurd (cc)
-empty_forms k (suc count) zero pool e = subst (λ (x : Held). Each HasForms x.cuts) (one_pool (no_cuts k) pool e) tt
-empty_forms k (suc count) (suc n) pool e = empty_forms (suc k) count n pool e
-
--- the cuts that a solve reads
-read_forms : (pools : List Held) (ns : List ℕ) → PoolsHaveForms pools → Each (λ (c : ℕ × List Stored). Each HasForms c.1) (cuts_read pools ns)
-read_forms pools [] h = tt
-read_forms pools (n ∷ ns) h = each-append (λ (c : ℕ × List Stored). Each HasForms c.1) (cuts_at pools n) (cuts_read pools ns)
-    (go (slice_get pools n) refl) (read_forms pools ns h)
-  where
-    go : (o : Option Held) → slice_get pools n ≡ o
-        → Each (λ (c : ℕ × List Stored). Each HasForms c.1) (option_to_list (option_map (λ (p : Held). (n, p.cuts)) o))
-    go None e = tt
-    go (Some p) e = (h n p e, tt)
-
-in_run : (kind : Kind) (b : Banks) → ((bank : Bank) → PoolsHaveForms (pools_of_bank bank b)) → PoolsHaveForms (pools_of kind b)
-in_run run_kind.Feasible b h = h Plain
-in_run run_kind.Recession b h = h Cone
-in_run run_kind.Cost b h = h Plain
+  all_forms : (p : Program) (versions : List Version) (uses : StoredUses) → EachUsed (IsUpToDate p versions) uses → AllHaveForms uses
+  all_forms p versions No_stored h = tt
+  all_forms p versions (Use_stored weight cut uses) h = (forms_of p versions cut h.0, all_forms p versions uses h.1)
 
 -- ---- the last solves
 -- no node that isn't live has one
@@ -233,35 +145,33 @@ show_without p (suc n) cut e f s h = h
 
 -- ---- a state
 pub record IsShowing (p : Program) (s : State) : Type 0 where
-  pub pools : (bank : Bank) → PoolsHaveForms (pools_of_bank bank s.banks)
   pub lasts : OnlyLive p s.lasts.nodes.items
   pub ends : EndsShow p s.ends
 
 nothing_shown : (p : Program) → EndsShow p no_ends
 nothing_shown p = record { upper = tt; direction = tt; lower = tt; nowhere = tt; root = tt }
 
-showing_first : (p : Program) (budget : Budget) (s : State) → IsBeginning p budget s → IsShowing p s
-showing_first p budget s b = record {
-  pools = λ bank. subst (λ (x : Banks). PoolsHaveForms (pools_of_bank bank x)) (sym b.pools) (by bank);
+showing_first : (p : Program) (most : ℕ) (s : State) → IsOpening p most s → IsShowing p s
+showing_first p most s b = record {
   lasts = subst (OnlyLive p) (sym b.points) (λ n dead. refl);
   ends = subst (EndsShow p) (sym b.ends) (nothing_shown p);
 }
-  where
-    by : (bank : Bank) → PoolsHaveForms (pools_of_bank bank (empty_banks (length p.nodes)))
-    by Plain = empty_forms 0 (length p.nodes)
-    by Cone = empty_forms 0 (length p.nodes)
 
-module _ (p : Program) (tree : Tree) (i : IsProgram p) (few : length p.nodes < nothing) (t : tree_walk p ≡ Ok tree) where
+module _ (p : Program) (tree : Tree) (i : IsProgram p) (few : length p.nodes < nothing) (t : tree_walk p ≡ Ok tree) (most : ℕ) where
   -- behind a solve
-  module _ (old new : State) (m : Machine) (n : ℕ) (h : IsShowing p old) (standing : IsStanding p tree new) (table : IsTabledBy p old m)
-      (solve : SolvesNode p old m n new) where
+  module _ (old new : State) (lasts : Lasts) (m : Machine) (n : ℕ) (before : OnlyLive p lasts.nodes.items) (shown : EndsShow p old.ends)
+      (held : IsHeld p most old) (standing : IsStanding p tree new) (table : IsTabledBy p old m)
+      (solve : SolvesNode p (record old { lasts = lasts }) m n new) where
     live : Lives p n
-    live = subst (Lives p) solve.ends.node (sym (table.machine.live solve.ends.turn.node) ∙ solve.ends.turn.next.may.live)
+    live = solve_lives p old new lasts m n table solve
 
-    told_forms : SolvedForms (node_solved solve.task)
-    told_forms = solved_forms solve.task solve.fits (each_unmap (λ (c : ℕ × List Stored). Each HasForms c.1) cuts_of solve.task.children.items
-        (subst (Each (λ (c : ℕ × List Stored). Each HasForms c.1)) (sym solve.is_task.cuts)
-        (read_forms (pools_of old.kind old.banks) (children_in old.frame n) (in_run old.kind old.banks h.pools))))
+    given_forms : (o : Option Stored) → IfSome o (IsCutNow p old.versions n) → IfSome o HasForms
+    given_forms None h = tt
+    given_forms (Some cut) h = forms_of p old.versions cut h.records
+
+    told_forms : IfSome (cut_given (node_solved solve.task)) HasForms
+    told_forms = given_forms (cut_given (node_solved solve.task)) (solves_give_cuts p (record old { lasts = lasts }) n held.count solve.task i live held.frame
+        solve.is_task solve.fits solve.answer held.kept)
 
     stands : StandsBy p tree (known_of new) solve.ends.machine
     stands = standing.stands solve.ends.machine solve.ends.tabled
@@ -285,70 +195,78 @@ module _ (p : Program) (tree : Tree) (i : IsProgram p) (few : length p.nodes < n
         }) g)
 
     point_shows : (x : List Entry) (value : ℚ) (cut : Option Stored) → IfSome cut HasForms
-        → LeavesPoint p tree n solve.task.trial x value cut old new → IsShowing p new
+        → LeavesPoint p tree n solve.task.trial x value cut (record old { lasts = lasts }) new → IsShowing p new
     point_shows x value cut f left =
-        let keeps : IsKept old.lasts.nodes.items new.lasts.nodes.items n solve.task.trial x
-        = kept_is old.lasts.nodes.items new.lasts.nodes.items n solve.task.trial x left.lasts in
+        let keeps : IsKept lasts.nodes.items new.lasts.nodes.items n solve.task.trial x
+        = kept_is lasts.nodes.items new.lasts.nodes.items n solve.task.trial x left.lasts in
         let only : OnlyLive p new.lasts.nodes.items
-        = subst (OnlyLive p) keeps.is (with_last_live p old.lasts.nodes.items n (Some (record { point = x; along = keeps.along })) live h.lasts) in
+        = subst (OnlyLive p) keeps.is (with_last_live p lasts.nodes.items n (Some (record { point = x; along = keeps.along })) live before) in
         record {
-          pools = λ bank. offer_forms old.kind n cut solve.task.trial old.banks new.banks left.banks f bank (h.pools bank);
           lasts = only;
           ends = policy_shows new.table.complete refl (ends_behind old.kind n value cut old.ends) only
-              (show_at p old.kind n value cut old.ends f h.ends) left.ends;
+              (show_at p old.kind n value cut old.ends f shown) left.ends;
         }
 
-    none_shows : (cut : Stored) → HasForms cut → RayAnswer solve.task cut → LeavesNone n solve.task.trial cut old new → IsShowing p new
+    none_shows : (cut : Stored) → HasForms cut → RayAnswer solve.task cut → LeavesNone n solve.task.trial cut (record old { lasts = lasts }) new
+        → IsShowing p new
     none_shows cut f a left = record {
-      pools = λ bank. offer_forms old.kind n (Some cut) solve.task.trial old.banks new.banks left.banks f bank (h.pools bank);
-      lasts = subst (OnlyLive p) (sym left.lasts) (with_last_live p old.lasts.nodes.items n None live h.lasts);
+      lasts = subst (OnlyLive p) (sym left.lasts) (with_last_live p lasts.nodes.items n None live before);
       ends = subst (EndsShow p) (sym left.ends) (show_without p n cut old.ends f (λ z. (
         ap (λ (s : Source). s.kind) a.cut_of.source,
-        subst (λ q. zero_ℚ <ℚ q) (ap (value_at_trial cut) (solve.is_task.trial ∙ no_trial old.lasts.nodes.items old.frame n z) ∙ plain_value cut) a.above,
-      )) h.ends);
+        subst (λ q. zero_ℚ <ℚ q) (ap (value_at_trial cut) (solve.is_task.trial ∙ no_trial lasts.nodes.items old.frame n z) ∙ plain_value cut) a.above,
+      )) shown);
     }
 
-    solve_shows : (all : Solved) → IsAnswer solve.task all → SolvedForms all → LeavesBy p tree n solve.task.trial all old new → IsShowing p new
-    solve_shows (solved.Point x value cut) a f left = point_shows x value cut f left
-    solve_shows (solved.NoPoint cut) a f left = none_shows cut f a left
-    solve_shows solved.Loose a f left = absurd left
-    solve_shows solved.PivotsEnded a f left = absurd left
-    solve_shows (solved.Passed in_cut o) a f left = absurd left
-    solve_shows solved.NotGood a f left = absurd left
+    nothing_left : KeepsKnown (record old { lasts = lasts }) new → IsShowing p new
+    nothing_left kept = record {
+      lasts = subst (OnlyLive p) (sym kept.lasts) before;
+      ends = subst (EndsShow p) (sym kept.ends) shown;
+    }
 
-  step_shows : (old new : State) (m : Machine) (told : Bool) → IsShowing p old → IsStanding p tree new → IsTabledBy p old m
-      → MakesStep p old m new told → new.stop ≡ None → IsShowing p new
-  step_shows old new m told h standing table (begins_none rests points reasons ready) stop = record {
-    pools = λ bank. subst (λ (b : Banks). PoolsHaveForms (pools_of_bank bank b)) (sym ready.banks) (h.pools bank);
+    solve_shows : (all : Solved) → IfSome (cut_given all) HasForms → IsAnswer solve.task all → HaltsBy all (record old { lasts = lasts }) new
+        → (new.stop ≡ None → LeavesBy p tree n solve.task.trial all (record old { lasts = lasts }) new) → old.stop ≡ None → IsClear new
+        → IsShowing p new
+    solve_shows (solved.Point x value cut) f a halts left stop clear = point_shows x value cut f (left (not_stuck new old.budget.solves clear (halts stop clear.lasting)))
+    solve_shows (solved.NoPoint cut) f a halts left stop clear = none_shows cut f a (left (not_stuck new old.budget.solves clear (halts stop clear.lasting)))
+    solve_shows solved.Loose f a halts left stop clear = nothing_left halts
+    solve_shows solved.PivotsEnded f a halts left stop clear = nothing_left halts
+    solve_shows (solved.Passed in_cut o) f a halts left stop clear = nothing_left halts
+    solve_shows solved.NotGood f a halts left stop clear = nothing_left halts
+
+  step_shows : (old new : State) (m : Machine) (told : Bool) → IsShowing p old → IsHeld p most old → IsStanding p tree new → IsTabledBy p old m
+      → MakesStep p old m new told → old.stop ≡ None → IsClear new → IsShowing p new
+  step_shows old new m told h held standing table (begins_none rests points reasons ready) stop clear = record {
     lasts = ready_live p old new.lasts ready.ready h.lasts;
     ends = subst (EndsShow p) (sym ready.ends) h.ends;
   }
-  step_shows old new m told h standing table (opens_run closed earlier opens points reasons run puts) stop =
-      let o : OpensRun old new = run stop in
-      let first : PutsFirstCuts p tree old new = puts tree t stop in
-      record {
-        pools = λ bank. subst (λ (b : Banks). PoolsHaveForms (pools_of_bank bank b)) (sym first.banks)
-            (puts_forms (next_kind old.kind) first.cuts old.banks bank
-            (first_forms (next_kind old.kind) p i tree old.versions first.dual first.cuts first.are) (h.pools bank));
+  step_shows old new m told h held standing table (opens_run closed earlier opens points reasons run puts left) stop clear = by left
+    where
+      by : OpensAnyhow p old new → IsShowing p new
+      by (stays_closed e) = record {
+        lasts = subst (λ (s : State). OnlyLive p s.lasts.nodes.items) (sym e) h.lasts;
+        ends = subst (λ (s : State). EndsShow p s.ends) (sym e) h.ends;
+      }
+      by (is_open o gets halts) = record {
         lasts = subst (OnlyLive p) (sym o.lasts) (λ n dead. no_last (places_in new.frame) n);
         ends = subst (EndsShow p) (sym o.ends)
             (record { upper = h.ends.upper; direction = h.ends.direction; lower = h.ends.lower; nowhere = h.ends.nowhere; root = tt });
       }
-  step_shows old new m told h standing table (solves lasts n ready solve) stop =
-      solve_shows (record old { lasts = lasts }) new m n
-      (record { pools = h.pools; lasts = ready_live p old lasts ready h.lasts; ends = h.ends }) standing (with_places p tree i few t old lasts m table) solve
-      (node_solved solve.task) solve.answer
-      (told_forms (record old { lasts = lasts }) new m n
-      (record { pools = h.pools; lasts = ready_live p old lasts ready h.lasts; ends = h.ends }) standing (with_places p tree i few t old lasts m table) solve)
-      (solve.leaves tree t stop)
+  step_shows old new m told h held standing table (solves lasts n ready solve) stop clear =
+      solve_shows old new lasts m n (ready_live p old lasts ready h.lasts) h.ends held standing table solve (node_solved solve.task)
+      (told_forms old new lasts m n (ready_live p old lasts ready h.lasts) h.ends held standing table solve) solve.answer solve.anyhow.halts
+      (λ stop. solve.leaves tree t stop) stop clear
 
-  -- behind solves that nothing stopped
-  pub solves_show : (budget : Budget) (old new : State) → IsBeginning p budget old → SolvesNodes p old new → new.stop ≡ None → IsShowing p new
-  solves_show budget old new b none stop = showing_first p budget old b
-  solves_show budget old new b (more mid k m told before open_yet table step keeps) stop =
-      step_shows mid k m told (solves_show budget old mid b before (unstopped mid open_yet))
-      (solves_stand p tree i few t budget old k b (more mid k m told before open_yet table step keeps) stop) table step stop
-  solves_show budget old new b (anew mid k before ends over) stop = showing_first p mid.budget k over.beginning
+  -- behind solves and reports
+  goes_show : (first s : State) → IsOpening p most first → GoesFrom p first s → IsClear s → IsShowing p s
+  goes_show first s o g = course p first (λ s. IsClear s → IsShowing p s)
+      (λ budget k b clear. showing_first p most k (beginning_opens p most budget k b))
+      (λ mid k m told g h open_yet table step keeps clear.
+      let stop : mid.stop ≡ None = unstopped mid open_yet in
+      step_shows mid k m told (h (is_clear mid (goes_lasting p tree i few t most first mid o g) stop)) (goes_held p most i tree t first mid o g)
+      (goes_stand p tree i few t most first k o (by_solves mid k g (more mid k m told none open_yet table step keeps)) clear) table step stop clear)
+      (λ mid g h unstuck clear. let q : IsShowing p mid = h (record { lasting = clear.lasting; unstuck = unstuck }) in
+      record { lasts = q.lasts; ends = q.ends })
+      s (λ clear. showing_first p most first o) g
 
   -- ---- what the run has by its table
   -- the ends hold, and behind a Feasible run there is a policy
@@ -359,21 +277,34 @@ module _ (p : Program) (tree : Tree) (i : IsProgram p) (few : length p.nodes < n
   ends_of_stands : (s : State) (m : Machine) → StandsBy p tree (known_of s) m → HasEnds s
   ends_of_stands s m h = record { hold = h.ends; policy = h.policy }
 
-  first_ends : (budget : Budget) (s : State) → IsBeginning p budget s → HasEnds s
-  first_ends budget s b = record { hold = subst (EndsHold p) (sym b.ends) (record { upper = tt; lower = tt }); policy = λ ne. absurd (ne b.kind) }
+  first_ends : (s : State) → IsOpening p most s → HasEnds s
+  first_ends s b = record { hold = subst (EndsHold p) (sym b.ends) (record { upper = tt; lower = tt }); policy = λ ne. absurd (ne b.kind) }
 
-  step_ends : (old new : State) (m : Machine) (told : Bool) → IsStanding p tree new → MakesStep p old m new told → new.stop ≡ None → HasEnds new
-  step_ends old new m told h (begins_none rests points reasons ready) stop = ends_of_stands new m (h.stands m ready.tabled)
-  step_ends old new m told h (opens_run closed earlier opens points reasons run puts) stop = go opens
+  step_ends : (old new : State) (m : Machine) (told : Bool) → HasEnds old → IsStanding p tree new → MakesStep p old m new told → IsClear new
+      → HasEnds new
+  step_ends old new m told before h (begins_none rests points reasons ready) clear = ends_of_stands new m (h.stands m ready.tabled)
+  step_ends old new m told before h (opens_run closed earlier opens points reasons run puts left) clear = go opens
     where
       go : Opens p m new → HasEnds new
-      go (not_opened stops fits) = absurd (stops stop)
+      go (not_opened stops fits) = ends_of_stands new m (h.stands m fits)
       go (is_opened number fits) = ends_of_stands new (opened m number) (h.stands (opened m number) fits)
-  step_ends old new m told h (solves lasts n ready solve) stop =
+  step_ends old new m told before h (solves lasts n ready solve) clear =
       ends_of_stands new solve.ends.machine (h.stands solve.ends.machine solve.ends.tabled)
 
-  pub solves_end : (budget : Budget) (old new : State) → IsBeginning p budget old → SolvesNodes p old new → new.stop ≡ None → HasEnds new
-  solves_end budget old new b none stop = first_ends budget old b
-  solves_end budget old new b (more mid k m told before open_yet table step keeps) stop =
-      step_ends mid k m told (solves_stand p tree i few t budget old k b (more mid k m told before open_yet table step keeps) stop) step stop
-  solves_end budget old new b (anew mid k before ends over) stop = first_ends mid.budget k over.beginning
+  goes_end : (first s : State) → IsOpening p most first → GoesFrom p first s → IsClear s → HasEnds s
+  goes_end first s o g = course p first (λ s. IsClear s → HasEnds s)
+      (λ budget k b clear. first_ends k (beginning_opens p most budget k b))
+      (λ mid k m told g h open_yet table step keeps clear.
+      let stop : mid.stop ≡ None = unstopped mid open_yet in
+      step_ends mid k m told (h (is_clear mid (goes_lasting p tree i few t most first mid o g) stop))
+      (goes_stand p tree i few t most first k o (by_solves mid k g (more mid k m told none open_yet table step keeps)) clear) step clear)
+      (λ mid g h unstuck clear. let q : HasEnds mid = h (record { lasting = clear.lasting; unstuck = unstuck }) in
+      record { hold = q.hold; policy = q.policy })
+      s (λ clear. first_ends first o) g
+
+-- ---- of a run
+pub run_shows : (p : Program) (s : State) → IsRunTo p s → s.stop ≡ None → IsShowing p s
+run_shows p s r stop = goes_show p r.tree r.program r.few r.walk r.most r.first s r.opens r.goes (run_clear p s r stop)
+
+pub run_ends : (p : Program) (s : State) (r : IsRunTo p s) → s.stop ≡ None → HasEnds p r.tree r.program r.few r.walk r.most s
+run_ends p s r stop = goes_end p r.tree r.program r.few r.walk r.most r.first s r.opens r.goes (run_clear p s r stop)

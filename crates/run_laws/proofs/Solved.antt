@@ -45,15 +45,13 @@ use Rattle.pass_core.proofs.Parentage.{children_are}
 use Rattle.policy_laws.specs.Points.{AllMeet}
 use Rattle.policy_laws.proofs.Policies.{policies_join}
 use Rattle.policy_laws.proofs.Costs.{joined_points_cost}
-use Rattle.run_laws.proofs.Standing.{Known, known_of, PoolStands, runs_before, HasFirstCuts, HasMember, IsAtLeast, IsAbove, ShowsNone, HasLast, HasNone, EndsHold, HasCost, StandsBy}
+use Rattle.run_laws.proofs.Standing.{Known, known_of, HasFirstCuts, HasMember, IsAtLeast, IsAbove, ShowsNone, HasLast, HasNone, EndsHold, HasCost, StandsBy}
 use Rattle.run_laws.proofs.Turned.{IsTurned, turned}
 use Rattle.run_laws.proofs.Places.{last_set, last_other, last_long, trial_same, PoolsGo, member_goes, reads_same}
 use Rattle.run_laws.proofs.Moved.{known, RootGoes, NowhereGoes, root_stays, turns_leave, turns_leave_none}
 use Rattle.run_laws.proofs.Ends.{cheaper_most, cheaper_holds, greater_most, greater_holds}
 use Rattle.run_laws.proofs.Offered.{pools_go, bound_held, ray_held}
-use Rattle.run_laws.proofs.PoolSteps.{weaker, offers_stand}
 use Rattle.run_laws.proofs.Policies.{all_meet}
-use Rattle.cut_pool.specs.Held.{Held}
 
 -- ---- what a kept point leaves
 value_ok : {A B : Type 0} (f : A → B) (w : Result A Operation) (r : B) → then_value f w ≡ Ok r → (x : A) × ((w ≡ Ok x) × (f x ≡ r))
@@ -209,10 +207,6 @@ module _ (p : Program) (tree : Tree) (i : IsProgram p) (t : tree_walk p ≡ Ok t
   -- the node's parent is another node
   not_own : 0 < n → get_or old.frame.parents n 0 ≡ n → ⊥
   not_own low e = omega (arith, table.valid.lower n low (table.machine.live n ∙ live), ap (λ (g : ℕ → ℕ). g n) table.machine.parent ∙ e)
-
-  -- one more commit
-  more : {ps : List Held} {j : ℕ} → PoolStands (m.commits + runs_before old.kind + 1) ps j → k.commits ≡ m.commits + 1 → PoolStands (k.commits + runs_before old.kind) ps j
-  more {ps} {j} h e = weaker (m.commits + runs_before old.kind + 1) (k.commits + runs_before old.kind) ps j (omega (arith, e)) h
 
   -- the first cuts stay in the pools
   still_first : HasFirstCuts p tree (known_of old) → PoolsGo (pools_of old.kind old.banks) (pools_of old.kind new.banks) n
@@ -412,8 +406,6 @@ module _ (p : Program) (tree : Tree) (i : IsProgram p) (t : tree_walk p ≡ Ok t
       ends = ends_hold new.table.complete refl left.ends;
       complete = λ c. has_cost new.table.complete refl c left.ends;
       policy = λ ne. has_policy new.table.complete left.ends (stands.policy ne);
-      banks = λ bank j l. more (offers_stand old.kind n cut task.trial old.banks new.banks left.banks bank (m.commits + runs_before old.kind) j
-          (stands.banks bank j l)) turn.commits;
       grounds = λ ne. still_first (stands.grounds ne) pools;
     })
 
@@ -509,8 +501,6 @@ module _ (p : Program) (tree : Tree) (i : IsProgram p) (t : tree_walk p ≡ Ok t
         lower = subst (λ o. IfSome o (λ (l : Bounded). (l.value ≡ constant_of l.cut) × ((source_of l.cut).kind ≡ Bound))) (sym (without_lower n)) stands.ends.lower;
       });
       policy = λ ne. let u = stands.policy ne in (u.0, ap (λ (e : Ends). e.upper) left.ends ∙ without_upper n ∙ u.1);
-      banks = λ bank j l. more (offers_stand old.kind n (Some cut) task.trial old.banks new.banks left.banks bank (m.commits + runs_before old.kind) j
-          (stands.banks bank j l)) turn.commits;
       grounds = λ ne. still_first (stands.grounds ne) no_pools;
       complete = λ c. let g : IsGood k n = c n (behind.machine.live n ∙ live) in
           let q : false ≡ true = sym turn.has_point ∙ g.1 in absurd (cc);

@@ -18,7 +18,7 @@ use Rattle.solve_laws.proofs.Bounds.{never_loose}
 use Rattle.walk_laws.proofs.Joins.{points_join}
 use Rattle.run_laws.specs.Stuck.{SolvesAreUsed}
 use Rattle.run_laws.proofs.Standing.{known_of, HasFirstCuts, StandsBy}
-use Rattle.run_laws.proofs.Kept.{unstopped, solves_stand}
+use Rattle.run_laws.proofs.Kept.{unstopped, run_stands}
 use Rattle.run_laws.proofs.FirstCutsMade.{has_least}
 use Rattle.run_laws.proofs.Refusals.{never_refuses}
 
@@ -26,10 +26,10 @@ pub solves_are_used : SolvesAreUsed
 solves_are_used p s m lasts n new r small table open_yet solve stuck = go (node_solved solve.task) refl solve.answer stuck
   where
     stands : StandsBy p r.tree (known_of s) m
-    stands = (solves_stand p r.tree r.program r.few r.walk r.budget r.first s r.begins r.solves (unstopped s open_yet)).stands m table
+    stands = (run_stands p s r (unstopped s open_yet)).stands m table
 
     frame : s.frame ≡ frame_of p
-    frame = (solves_stand p r.tree r.program r.few r.walk r.budget r.first s r.begins r.solves (unstopped s open_yet)).frame
+    frame = (run_stands p s r (unstopped s open_yet)).frame
 
     live : Lives p n
     live = subst (Lives p) solve.ends.node (sym (table.machine.live solve.ends.turn.node) ∙ solve.ends.turn.next.may.live)

@@ -1,5 +1,5 @@
 -- What a run that nothing stops keeps of the last solves of its nodes, of its pools and of its ends.
-use Rattle.std.specs.Prelude.{◌≡◌, ℕ, ◌+◌, ◌<◌, ◌≤◌, false, List, [], map, slice_index_or, Option, Some, None, Ok, IfSome, slice_get}
+use Rattle.std.specs.Prelude.{◌≡◌, ℕ, ◌<◌, false, List, map, slice_index_or, Option, Some, None, Ok, IfSome, slice_get}
 use Rattle.std.specs.List.{Contains}
 use Rattle.rationals.specs.Rational.{ℚ, zero_ℚ, one_ℚ, ◌≤ℚ◌, ◌<ℚ◌}
 use Rattle.rationals.specs.Forms.{add_scaled_walk}
@@ -14,9 +14,7 @@ use Rattle.cut_defs.specs.Stored.{Stored, source_of, constant_of}
 use Rattle.cut_defs.specs.declared.kinds.CutKind.TheVariants.{Bound, Ray}
 use Rattle.cut_pool.specs.Held.{Held}
 use Rattle.cut_banks.specs.declared.banks.Banks.{Banks}
-use Rattle.cut_banks.specs.Banks.{pools_of, pools_in as pools_of_bank}
-use Rattle.cut_defs.specs.declared.kinds.Bank.{Bank}
-use Rattle.scen_defs.specs.Valid.{Lives}
+use Rattle.cut_banks.specs.Banks.{pools_of}
 use Rattle.cut_banks.specs.Pools.{cuts_of, cuts_read}
 use Rattle.node_lp.specs.declared.task.Task.{Task}
 use Rattle.node_lp.specs.Answers.{value_at_trial, PointAnswer}
@@ -33,6 +31,7 @@ use Rattle.run_ends.specs.declared.ends.Ends.{Ends}
 use Rattle.run_ends.specs.Costs.{joined_cost}
 use Rattle.run_ends.specs.Lasts.{last_at, trial_of}
 use Rattle.pass_core.specs.declared.state.State.{State}
+use Rattle.keep_laws.specs.Kept.{IsKeptAt}
 use Rattle.pass_core.specs.Turns.{datum_in, AreFirstCuts}
 
 -- what a state knows in its run
@@ -66,13 +65,11 @@ pub record HasMember (pools : List Held) (n : ℕ) (Holds : Stored → Type 0) :
   pub member : Contains pool.cuts cut
   pub holds : Holds cut
 
--- the pool of node n: of that node, without touches, with a number that is at most this
-pub record PoolStands (most : ℕ) (pools : List Held) (n : ℕ) : Type 0 where
+-- node n has a pool, which is kept so
+pub record PoolStands (p : Program) (versions : List Version) (most : ℕ) (pools : List Held) (n : ℕ) : Type 0 where
   pub pool : Held
   pub there : slice_get pools n ≡ Some pool
-  pub node : pool.node ≡ n
-  pub known : pool.known ≡ []
-  pub few : pool.number ≤ most
+  pub kept : IsKeptAt p versions most n pool
 
 -- a Bound cut whose value at the trial is at least this
 abbrev pub IsAtLeast : List Entry → ℚ → Stored → Type 0
@@ -131,10 +128,6 @@ runs_before FeasibleRun = 0
 runs_before Recession = 1
 runs_before Cost = 2
 
--- the pools of both banks are of their nodes, no touch is known, and the number of each is at most that of the commits and runs
-abbrev pub BanksStand : Program → Known → Machine → Type 0
-BanksStand p w m = (bank : Bank) (n : ℕ) → Lives p n → PoolStands (m.commits + runs_before w.kind) (pools_of_bank bank w.banks) n
-
 -- the pools of the run have its first cuts
 pub record HasFirstCuts (p : Program) (tree : Tree) (w : Known) : Type 0 where
   pub dual : List At
@@ -150,5 +143,4 @@ pub record StandsBy (p : Program) (tree : Tree) (w : Known) (m : Machine) : Type
   pub complete : IsComplete m → HasCost p tree w
   -- behind a Feasible run there is a policy
   pub policy : (w.kind ≡ FeasibleRun → ⊥) → (u : Priced) × (w.ends.upper ≡ Some u)
-  pub banks : BanksStand p w m
   pub grounds : (w.kind ≡ FeasibleRun → ⊥) → HasFirstCuts p tree w

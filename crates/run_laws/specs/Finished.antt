@@ -1,5 +1,5 @@
 -- Where a report is left open for want of solves, they are spent.
-use Rattle.std.specs.Prelude.{◌≡◌, ℕ, ◌<◌, ◌≤◌, ◌^◌}
+use Rattle.std.specs.Prelude.{◌≡◌, ℕ, ◌≤◌}
 use Rattle.scen_defs.specs.Program.{content}
 use Rattle.scen_defs.specs.declared.program.Program.{Program}
 use Rattle.scen_defs.specs.declared.report.Finding.TheVariants.{OpenSolves}
@@ -10,20 +10,21 @@ use Rattle.pass_core.specs.declared.state.State.{State}
 use Rattle.pass_core.specs.Explained.{AreExplained}
 use Rattle.pass_core.specs.Tabled.{IsTabled}
 use Rattle.tree_method.specs.Stands.{IsAtEnd, closing}
-use Rattle.run_laws.specs.Laws.{IsRunTo}
+use Rattle.run_laws.specs.Courses.{IsRunTo, HasNumbers}
 
--- A program was begun, and its nodes solved up to this state, where the method can't go on; each reason that it keeps is explained, and its
--- table fits a machine of the program.
+-- A program came to this state, where the method can't go on; there are numbers for all solves; each reason that it keeps is explained, and
+-- its table fits a machine of the program.
 pub record IsEndOfRun (program : Program) (s : State) : Type 0 where
   pub run : IsRunTo (content program) s
+  pub numbers : HasNumbers (content program) s run
   pub ends : IsAtEnd (content program) s
   pub explained : AreExplained (content program) run.tree s
   pub tabled : IsTabled (content program) s
 
--- Where fewer than 2^63 solves are allowed, and the report of what is claimed there is left open by the number of solves, so many were
--- counted since the report before as are allowed. So else it has a finding, or it is open for pivots or for an operation.
+-- Where the report of what is claimed there is left open by the number of solves, so many were counted since the report before as are
+-- allowed. So else it has a finding, or it is open for pivots or for an operation.
 abbrev pub EndsAreFinished : Type 0
 EndsAreFinished = (program : Program) (s : State) (number : ℕ) (place : Place) (solves : ℕ) (report : Report) (n : ℕ)
-    → IsEndOfRun program s → s.budget.solves < 2 ^ 63
-    → IsClaimed program number place (closing s).why solves (closing s).claim report → report.finding ≡ OpenSolves n
+    → IsEndOfRun program s → IsClaimed program number place (closing s).why solves (closing s).claim report
+    → report.finding ≡ OpenSolves n
     → s.budget.solves ≤ s.counts.since_report

@@ -1,14 +1,10 @@
--- What the runs of the nested method come to on a program without edits.
-use Rattle.std.specs.Prelude.{◌≡◌, ℕ, ◌<◌, ◌^◌, Some, None, Ok}
+-- What the runs of the nested method come to on a program.
+use Rattle.std.specs.Prelude.{◌≡◌, ℕ, Some, None}
 use Rattle.scen_defs.specs.Program.{Program}
-use Rattle.scen_defs.specs.Valid.{IsProgram}
 use Rattle.scen_defs.specs.declared.report.Kind.TheVariants.{Cost}
-use Rattle.scen_tree.specs.Trees.{Tree, tree_walk}
 use Rattle.pass_table.specs.Machine.{Machine, IsClosed, MayBegin}
 use Rattle.run_ends.specs.declared.settled.Settled.TheVariants.{Optimal}
-use Rattle.pass_core.specs.declared.budget.Budget.{Budget}
 use Rattle.pass_core.specs.declared.state.State.{State}
-use Rattle.pass_core.specs.Beginning.{IsBeginning}
 use Rattle.cut_defs.specs.Stored.{Stored}
 use Rattle.node_lp.specs.Told.{node_solved}
 use Rattle.run_ends.specs.declared.last.Lasts.{Lasts}
@@ -16,18 +12,8 @@ use Rattle.pass_core.specs.Explained.{cut_given}
 use Rattle.pass_core.specs.Reasons.{RefusesCut}
 use Rattle.pass_core.specs.Tabled.{HasRoom, IsTabledBy}
 use Rattle.pass_core.specs.Turns.{SolvesNode}
-use Rattle.tree_method.specs.Stands.{HasFewNodes, SolvesNodes, IsAtEnd, settled_in}
-
--- a program with its tree was begun, and its nodes solved one behind the other, up to this state
-pub record IsRunTo (p : Program) (s : State) : Type 0 where
-  pub program : IsProgram p
-  pub few : HasFewNodes p
-  pub tree : Tree
-  pub walk : tree_walk p ≡ Ok tree
-  pub budget : Budget
-  pub first : State
-  pub begins : IsBeginning p budget first
-  pub solves : SolvesNodes p first s
+use Rattle.tree_method.specs.Stands.{IsAtEnd, settled_in}
+use Rattle.run_laws.specs.Courses.{IsRunTo, HasNumbers}
 
 -- where a run for the least cost is closed, and nothing stops the method, both ends are there and equal
 abbrev pub ClosedRunsMeet : Type 0
@@ -48,9 +34,9 @@ abbrev pub EndsAreSettled : Type 0
 EndsAreSettled = (p : Program) (s : State) (m : Machine) → IsRunTo p s → IsTabledBy p s m → HasRoom m → IsAtEnd p s
     → settled_in s ≡ None → ⊥
 
--- while something is left to find, and fewer than 2^63 solves are allowed, a cut that a solve offers is never refused
+-- while something is left to find, a cut that a solve offers is never refused
 abbrev pub NeverRefuses : Type 0
-NeverRefuses = (p : Program) (s : State) (m : Machine) (lasts : Lasts) (n : ℕ) (new : State) (cut : Stored) → IsRunTo p s
-    → s.budget.solves < 2 ^ 63 → IsTabledBy p s m → settled_in s ≡ None
+NeverRefuses = (p : Program) (s : State) (m : Machine) (lasts : Lasts) (n : ℕ) (new : State) (cut : Stored) → (run : IsRunTo p s)
+    → HasNumbers p s run → IsTabledBy p s m → settled_in s ≡ None
     → (solve : SolvesNode p (record s { lasts = lasts }) m n new) → cut_given (node_solved solve.task) ≡ Some cut
     → RefusesCut s.kind s.banks n solve.task.trial (Some cut) → ⊥

@@ -15,7 +15,7 @@ use Rattle.run_ends.specs.declared.settled.Settled.TheVariants.{Infeasible, Unbo
 use Rattle.run_ends.specs.Claims.{EndsAssembly}
 use Rattle.pass_core.specs.declared.state.State.{State}
 use Rattle.tree_method.specs.Stands.{settled_in, closing}
-use Rattle.run_laws.specs.Laws.{IsRunTo}
+use Rattle.run_laws.specs.Courses.{IsRunTo}
 
 -- the finding that a case shows; a method that is stopped, or has no solve left, shows none
 abbrev pub finding_shown : Settled → Option Finding

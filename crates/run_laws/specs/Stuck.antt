@@ -1,5 +1,5 @@
--- Where the method would be stuck on a program without edits: it never is.
-use Rattle.std.specs.Prelude.{◌≡◌, ℕ, ◌<◌, ◌^◌, Some, None, Ok}
+-- Where the method would be stuck on a program: it never is.
+use Rattle.std.specs.Prelude.{◌≡◌, ℕ, Some, None, Ok}
 use Rattle.scen_defs.specs.Program.{Program}
 use Rattle.scen_defs.specs.declared.report.Kind.TheVariants.{Cost}
 use Rattle.scen_tree.specs.Trees.{Tree, tree_walk}
@@ -12,20 +12,20 @@ use Rattle.pass_core.specs.Reasons.{IsStuck}
 use Rattle.pass_core.specs.Tabled.{IsTabledBy}
 use Rattle.pass_core.specs.Turns.{SolvesNode, IsStuckBefore}
 use Rattle.tree_method.specs.Stands.{settled_in}
-use Rattle.run_laws.specs.Laws.{IsRunTo}
+use Rattle.run_laws.specs.Courses.{IsRunTo, HasNumbers}
 
--- while something is left to find, and fewer than 2^63 solves are allowed, the method is never stuck behind a solve
+-- while something is left to find, the method is never stuck behind a solve
 abbrev pub SolvesAreUsed : Type 0
-SolvesAreUsed = (p : Program) (s : State) (m : Machine) (lasts : Lasts) (n : ℕ) (new : State) → IsRunTo p s
-    → s.budget.solves < 2 ^ 63 → IsTabledBy p s m → settled_in s ≡ None
+SolvesAreUsed = (p : Program) (s : State) (m : Machine) (lasts : Lasts) (n : ℕ) (new : State) → (run : IsRunTo p s)
+    → HasNumbers p s run → IsTabledBy p s m → settled_in s ≡ None
     → (solve : SolvesNode p (record s { lasts = lasts }) m n new)
     → IsStuck s.kind s.banks n solve.task.trial (node_solved solve.task) → ⊥
 
 -- nor before the run behind a closed one opens
 abbrev pub OpeningsAreMade : Type 0
-OpeningsAreMade = (p : Program) (s : State) (m : Machine) (tree : Tree) → IsRunTo p s → s.budget.solves < 2 ^ 63 → IsTabledBy p s m
+OpeningsAreMade = (p : Program) (s : State) (m : Machine) (tree : Tree) → (run : IsRunTo p s) → HasNumbers p s run → IsTabledBy p s m
     → settled_in s ≡ None → IsClosed m → (s.kind ≡ Cost → ⊥) → tree_walk p ≡ Ok tree → IsStuckBefore p tree s → ⊥
 
 -- so no such number of solves is told as the reason why the method stops
 abbrev pub NeverStuck : Type 0
-NeverStuck = (p : Program) (s : State) (n : ℕ) → IsRunTo p s → n < 2 ^ 63 → s.stop ≡ Some (Solves n) → ⊥
+NeverStuck = (p : Program) (s : State) (n : ℕ) → (run : IsRunTo p s) → HasNumbers p s run → s.stop ≡ Some (Solves n) → ⊥

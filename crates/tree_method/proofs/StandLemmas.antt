@@ -144,7 +144,7 @@ step_tabled p old new told step h = let s = step h.0 h.1 in (s.machine, s.tabled
 -- and the points standing
 step_points : (p : Program) (old new : State) (m : Machine) (told : Bool) → MakesStep p old m new told → PointsStand p new.lasts.nodes.items
 step_points p old new m told (begins_none rests points reasons ready) = points
-step_points p old new m told (opens_run closed earlier opens points reasons run first) = points
+step_points p old new m told (opens_run closed earlier opens points reasons run first left) = points
 step_points p old new m told (solves lasts n ready node) = node.points
 
 pub steps_points : (p : Program) (old new : State) (told : Bool)
@@ -156,7 +156,7 @@ steps_points p old new told step h points = step_points p old new h.0 told (step
 step_counts : (p : Program) (old new : State) (m : Machine) (told : Bool) → MakesStep p old m new told
     → (new.counts ≡ old.counts) ⊎ (new.counts ≡ with_commit old.counts)
 step_counts p old new m told (begins_none rests points reasons ready) = inl reasons.counts
-step_counts p old new m told (opens_run closed earlier opens points reasons run first) = inl reasons.counts
+step_counts p old new m told (opens_run closed earlier opens points reasons run first left) = inl reasons.counts
 step_counts p old new m told (solves lasts n ready node) = inr node.reasons.counts
 
 -- where something is left to find, so many solves aren't counted yet as are allowed
