@@ -1,6 +1,6 @@
 -- The first cuts of a run are up to date, and so are the pools with them, each of which gets one at most.
 use Rattle.std.proofs.Common.{◌≡◌, ℕ, zero, suc, ◌+◌, ◌<◌, ◌≤◌, ◌⊎◌, inl, inr, List, [], ◌∷◌, Option, Some, None, IfSome, get_or, slice_get, slice_index_or, refl, sym, ap, subst, ◌∙◌, arith}
-use Rattle.std.proofs.lemmas.Bool.{cases_eq}
+use Rattle.std.proofs.lemmas.Bool.{cases_lt, cases_eq}
 use Rattle.rationals.specs.Rational.{zero_ℚ}
 use Rattle.scen_defs.specs.Program.{Program}
 use Rattle.scen_defs.specs.Valid.{IsProgram}
@@ -17,7 +17,7 @@ use Rattle.solve_laws.proofs.Offers.{ChangesAt, changes_at, as_before, changed}
 use Rattle.run_data.specs.declared.versions.Version.{Version}
 use Rattle.run_data.specs.Counts.{version_of}
 use Rattle.run_data.specs.Frames.{frame_of, children_in}
-use Rattle.pass_core.specs.Grounds.{put_in_pool, put_cut, put_cuts}
+use Rattle.pass_core.specs.Grounds.{put_in_pool, put_cuts}
 use Rattle.pass_core.specs.Made.{cuts_there}
 use Rattle.pass_core.specs.Turns.{datum_in, IsFirstCut, AreFirstCuts}
 use Rattle.pass_core.proofs.Making.{ground_parts}
@@ -81,12 +81,6 @@ module _ (p : Program) (versions : List Version) (most : ℕ) where
   finish : (k : ℕ) (pools : List Held) → AreKeptTo k pools → AreKept p versions (most + 1) pools
   finish k pools h n pool e = go (cases_lt n k)
     where
-      cases_lt : (a b : ℕ) → (a < b) ⊎ (b ≤ a)
-      cases_lt zero zero = inr (omega arith)
-      cases_lt zero (suc b) = inl (omega arith)
-      cases_lt (suc a) zero = inr (omega arith)
-      cases_lt (suc a) (suc b) = elim (cases_lt a b) [ inl l ↦ inl (omega (arith, l)) | inr l ↦ inr (omega (arith, l)) ]
-
       go : (n < k) ⊎ (k ≤ n) → IsKeptAt p versions (most + 1) n pool
       go (inl l) = (h n pool e).before l
       go (inr l) = still_kept p versions most (most + 1) n pool (omega arith) ((h n pool e).from l)

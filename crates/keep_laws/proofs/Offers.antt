@@ -1,9 +1,9 @@
 -- Pools to which a cut that is up to date is offered stay up to date.
-use Rattle.std.proofs.Common.{◌≡◌, ℕ, zero, suc, ◌+◌, List, Option, Some, None, IfSome, slice_get, sym, ap, subst, ◌∙◌, arith}
+use Rattle.std.proofs.Common.{ℕ, zero, suc, ◌+◌, List, Option, Some, None, IfSome, sym, subst, ◌∙◌, arith}
 use Rattle.rationals.specs.Sparse.{Entry}
 use Rattle.scen_defs.specs.Program.{Program}
 use Rattle.scen_defs.specs.declared.report.Kind.{Kind}
-use Rattle.cut_defs.specs.Stored.{Stored, source_of}
+use Rattle.cut_defs.specs.Stored.{Stored}
 use Rattle.cut_pool.specs.Held.{Held}
 use Rattle.cut_pool.specs.Pool.{with_cut}
 use Rattle.cut_banks.specs.declared.banks.Banks.{Banks}

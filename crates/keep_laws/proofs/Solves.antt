@@ -1,28 +1,23 @@
 -- The cut that a solve gives is up to date, where those of its task are.
-use Rattle.std.proofs.Common.{◌≡◌, ℕ, zero, suc, List, [], ◌∷◌, Option, Some, None, IfSome, slice_get, refl, sym, ap, subst, ◌∙◌}
+use Rattle.std.proofs.Common.{◌≡◌, ℕ, suc, List, [], ◌∷◌, Option, Some, None, IfSome, slice_get, refl, sym, ap, subst}
 use Rattle.scen_defs.specs.Lists.{Each}
 use Rattle.scen_defs.specs.Program.{Program}
-use Rattle.scen_defs.specs.Valid.{Lives}
 use Rattle.scen_defs.specs.declared.report.Kind.{Kind}
 use Rattle.scen_defs.specs.declared.report.Kind.TheVariants.{Feasible, Recession, Cost}
 use Rattle.scen_defs.proofs.SumLaws.{each-map}
 use Rattle.rationals.specs.Forms.{IsForm}
 use Rattle.cut_defs.specs.declared.kinds.CutKind.{CutKind}
 use Rattle.cut_defs.specs.Data.{Datum}
-use Rattle.cut_defs.specs.Stored.{Source, Stored, source_of}
+use Rattle.cut_defs.specs.Stored.{Stored, source_of}
 use Rattle.cut_pool.specs.Held.{Held}
 use Rattle.cut_banks.specs.declared.banks.Banks.{Banks}
 use Rattle.cut_banks.specs.Banks.{pools_of}
 use Rattle.node_lp.specs.declared.task.ChildCuts.{ChildCuts}
-use Rattle.node_lp.specs.declared.task.Task.{Task}
 use Rattle.node_lp.specs.Weighed.{Weighed}
 use Rattle.node_lp.specs.Told.{record_of, node_solved}
 use Rattle.run_data.specs.declared.versions.Version.{Version}
-use Rattle.run_data.specs.Counts.{version_of}
 use Rattle.run_data.specs.Frames.{children_in}
-use Rattle.pass_core.specs.declared.state.State.{State}
 use Rattle.pass_core.specs.Explained.{cut_given}
-use Rattle.pass_core.specs.Turns.{datum_in, IsTaskOf}
 use Rattle.pass_core.proofs.CutNodes.{answer_about}
 use Rattle.pass_core.proofs.Making.{AllHave, read_have}
 use Rattle.keep_laws.specs.Kept.{EachRecord, IsUpToDate, IsCutNow, AreKept, BanksAreKept}
