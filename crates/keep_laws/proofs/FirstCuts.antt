@@ -64,7 +64,7 @@ module _ (p : Program) (versions : List Version) (most : ℕ) where
   all_now k (place ∷ places) h = (
     (let here : k + 0 ≡ k = omega arith in subst (λ (j : ℕ). IfSome place (IsCutNow p versions j)) here (h 0)),
     all_now (suc k) places (λ i. let next : k + suc i ≡ suc k + i = omega arith in
-    subst (λ (j : ℕ). IfSome (slice_index_or places i None) (IsCutNow p versions j)) next (h (suc i))),
+        subst (λ (j : ℕ). IfSome (slice_index_or places i None) (IsCutNow p versions j)) next (h (suc i))),
   )
 
   -- the pools of the nodes before node k have got their cuts, the others not yet
