@@ -30,7 +30,8 @@ use Rattle.pass_core.specs.Tabled.{IsTabledBy, Opens, not_opened, is_opened}
 use Rattle.pass_core.specs.Turns.{SolvesNode, GetsFirstCuts, OpensAnyhow, stays_closed, is_open, MakesStep, begins_none, opens_run, solves}
 use Rattle.tree_method.specs.Stands.{settled_in}
 use Rattle.keep_laws.specs.Kept.{IsCutNow, BanksAreKept}
-use Rattle.keep_laws.proofs.Offers.{offers_keep_cuts, solves_give_cuts}
+use Rattle.keep_laws.proofs.Offers.{offers_keep_cuts}
+use Rattle.keep_laws.proofs.Solves.{solves_give_cuts}
 use Rattle.keep_laws.proofs.FirstCuts.{first_cuts_are_kept}
 use Rattle.run_laws.specs.Courses.{IsOpening, GoesFrom, behind_report}
 use Rattle.run_laws.proofs.Standing.{runs_before}

@@ -19,10 +19,10 @@ pub mod Rooms
 pub mod Finished
 pub mod FirstCutsMade
 pub mod SolvesUsed
-pub mod Forms
 pub mod Shown
 pub mod Claimed
 pub mod GoodDuals
 pub mod Openings
 pub mod NeverStuck
 pub mod RootForms
+pub mod Ways

@@ -7,7 +7,7 @@ use Rattle.cut_banks.specs.Banks.{pools_of}
 use Rattle.pass_core.specs.Reasons.{RefusesCut}
 use Rattle.run_laws.specs.Laws.{NeverRefuses}
 use Rattle.keep_laws.specs.Kept.{IsCutNow}
-use Rattle.keep_laws.proofs.Offers.{solves_give_cuts}
+use Rattle.keep_laws.proofs.Solves.{solves_give_cuts}
 use Rattle.run_laws.proofs.Standing.{runs_before}
 use Rattle.run_laws.proofs.Held.{IsHeld}
 use Rattle.run_laws.proofs.Kept.{IsStanding, unstopped, run_stands, run_held}

@@ -42,7 +42,7 @@ use Rattle.policy_laws.proofs.Policies.{policies_join}
 use Rattle.policy_laws.proofs.Costs.{joined_points_cost}
 use Rattle.tree_method.specs.Stands.{none, more}
 use Rattle.keep_laws.specs.Kept.{EachRecord, EachUsed, IsUpToDate, IsCutNow}
-use Rattle.keep_laws.proofs.Offers.{solves_give_cuts}
+use Rattle.keep_laws.proofs.Solves.{solves_give_cuts}
 use Rattle.run_laws.specs.Courses.{IsOpening, GoesFrom, by_solves, IsRunTo}
 use Rattle.run_laws.proofs.Standing.{known_of, ShowsNone, EndsHold, StandsBy}
 use Rattle.run_laws.proofs.Places.{last_other}

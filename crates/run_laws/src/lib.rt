@@ -1,10 +1,11 @@
-//! What the runs of the nested method come to on a program without edits. No code that runs.
+//! What the runs of the nested method come to on a program, and its way through a script of edits and reports. No code that runs.
 #![tactic(auto)]
 
 ghost use Rattle.run_laws.specs.Laws.{ClosedRunsMeet, RunsGoOn, EndsAreSettled, NeverRefuses};
 ghost use Rattle.run_laws.specs.Finished.{EndsAreFinished};
 ghost use Rattle.run_laws.specs.Settled.{SettledClaimsHold};
 ghost use Rattle.run_laws.specs.Stuck.{SolvesAreUsed, OpeningsAreMade, NeverStuck};
+ghost use Rattle.run_laws.specs.Ways.{WaysBegin, SolvesKeepWay, WaysHaveNumbers, ReportsKeepWay, EditsKeepWay};
 
 /// A closed Cost run that nothing stops has both ends, and they are equal: the least cost is found.
 pub fn closed_runs_meet()
@@ -51,6 +52,27 @@ pub fn ends_are_finished()
     ensures { EndsAreFinished }
 {}
 
-pub fn probe()
-    ensures { Unit {0} }
+/// A method begins on its way through a script.
+pub fn ways_begin()
+    ensures { WaysBegin }
+{}
+
+/// Solves keep it on its way.
+pub fn solves_keep_way()
+    ensures { SolvesKeepWay }
+{}
+
+/// On its way there are numbers for all solves and changes of pools.
+pub fn ways_have_numbers()
+    ensures { WaysHaveNumbers }
+{}
+
+/// A report that is told keeps the method on its way.
+pub fn reports_keep_way()
+    ensures { ReportsKeepWay }
+{}
+
+/// An edit does so too: the cuts that are left behind it are made of the data of the program after it.
+pub fn edits_keep_way()
+    ensures { EditsKeepWay }
 {}

@@ -1,4 +1,5 @@
--- The multipliers of the cuts that solves give, and of those that runs begin with, are forms.
+-- What holds of the records of the cuts about the children holds of those of a node's cut, where it holds of the cut's own record; so it is
+-- with the cuts that solves give, and with those that runs begin with. The own record's multipliers are a form.
 use Rattle.std.proofs.Common.{◌≡◌, ℕ, zero, suc, ◌+◌, ◌<◌, ◌≤◌, Bool, true, false, eqb, List, [], ◌∷◌, ◌++◌, map, Option, Some, None, Result, Ok, Err, IfSome, IfOk, get_or, length, slice_index_or, pos, take, drop, refl, sym, subst, ◌∙◌, arith}
 use Rattle.std.specs.Cmp.{signed_Decides}
 use Rattle.std.specs.Option.{option_to_list}
@@ -43,24 +44,25 @@ use Rattle.cut_proof.proofs.MadeFrom.{made_parts}
 use Rattle.edit_defs.specs.Data.{view_in}
 use Rattle.edit_defs.proofs.Lists.{each-append, passes-within}
 use Rattle.dual_assemble.specs.Ground.{quotients_from, uses_of_children, ground_source, ground_walk}
-use Rattle.fit_laws.specs.Rows.{HasForms, AllHaveForms}
 use Rattle.node_lp.specs.declared.task.ChildCuts.{ChildCuts}
 use Rattle.node_lp.specs.declared.task.Task.{Task}
 use Rattle.node_lp.specs.declared.solved.Solved.{Solved}
 use Rattle.node_lp.specs.declared.solved.Solved.TheVariants as solved
 use Rattle.node_lp.specs.Weighed.{Weighed}
-use Rattle.node_lp.specs.Problem.{Problem, IsProblem, is_priced, is_taken, problem_of}
+use Rattle.node_lp.specs.Problem.{Problem, IsProblem, is_priced, problem_of}
 use Rattle.node_lp.specs.Points.{weights_of}
 use Rattle.node_lp.specs.Stored.{stored_uses}
-use Rattle.node_lp.specs.Told.{stored_of, stored_cuts, record_of, cut_made, with_cut, told, node_solved}
+use Rattle.node_lp.specs.Told.{stored_cuts, record_of, cut_made, with_cut, told, node_solved}
 use Rattle.node_lp.specs.Walk.{node_parts, rows_walk, standard_seen, point_from, cost_walk, multipliers_from, best_walk, nowhere_walk, end_walk, path_walk, solve_walk, found_in}
 use Rattle.node_lp.proofs.EndLemmas.{ends_put, BeforeRows, rows_begin, rows_next}
 use Rattle.run_data.specs.declared.versions.Version.{Version}
 use Rattle.run_data.specs.Counts.{version_of}
 use Rattle.run_data.specs.Frames.{frame_of, children_in}
+use Rattle.pass_core.specs.Explained.{cut_given}
 use Rattle.pass_core.specs.Made.{cuts_there}
 use Rattle.pass_core.specs.Turns.{datum_in, IsFirstCut, AreFirstCuts}
-use Rattle.pass_core.proofs.Making.{children_after}
+use Rattle.pass_core.proofs.Making.{UsesHave, uses_have, children_after}
+use Rattle.keep_laws.specs.Kept.{EachRecord, EachUsed}
 
 -- ---- numbers by row
 -- one more behind those of earlier columns
@@ -93,49 +95,6 @@ quotients_forms total y (r ∷ rs) f own h b e =
     let a = ended (div_walk (y r.row) total) (λ q. quotients_from total y (f ++ put r.row q []) rs) own e in
     quotients_forms total y rs (f ++ put r.row a.result []) own (put_is_form r.row a.result f h b.0) (next_rows r rs a.result f b) a.next_is
 
--- ---- a cut that is made
-have_forms : (cut : Stored) → IsForm (source_of cut).multipliers → AllHaveForms (uses_of cut) → HasForms cut
-have_forms (Stored_of s uses constant form) h k = (h, k)
-
-made_forms : (d : Datum) (s : Source) (uses : StoredUses) (cut : Stored) → IsForm s.multipliers → AllHaveForms uses
-    → made d s uses ≡ Ok (Some cut) → HasForms cut
-made_forms d s uses cut h k e =
-    let q = made_parts d s uses cut e in
-    have_forms cut (subst (λ (x : Source). IsForm x.multipliers) (sym q.0) h) (subst AllHaveForms (sym q.1) k)
-
--- ---- what is told of a solve
-abbrev pub SolvedForms : Solved → Type 0
-SolvedForms (solved.Point x value cut) = IfSome cut HasForms
-SolvedForms (solved.NoPoint cut) = HasForms cut
-SolvedForms solved.Loose = Unit {0}
-SolvedForms solved.PivotsEnded = Unit {0}
-SolvedForms (solved.Passed in_cut o) = Unit {0}
-SolvedForms solved.NotGood = Unit {0}
-
-uses_forms : (ws : List ℚ) (cuts : List Stored) → Each HasForms cuts → AllHaveForms (stored_uses ws cuts)
-uses_forms [] [] h = tt
-uses_forms (w ∷ ws) [] h = tt
-uses_forms [] (c ∷ cuts) h = tt
-uses_forms (w ∷ ws) (c ∷ cuts) h = go (is_zero w) (uses_forms ws cuts h.1)
-  where
-    go : (z : Bool) → AllHaveForms (stored_uses ws cuts) → AllHaveForms (pick z (stored_uses ws cuts) (Use_stored w c (stored_uses ws cuts)))
-    go true k = k
-    go false k = (h.0, k)
-
-stored_of_forms : (priced : Bool) (cuts : List Stored) → Each HasForms cuts → Each HasForms (stored_of priced cuts)
-stored_of_forms priced [] h = tt
-stored_of_forms priced (c ∷ cuts) h = go (is_taken priced (source_of c).kind) (stored_of_forms priced cuts h.1)
-  where
-    go : (z : Bool) → Each HasForms (stored_of priced cuts) → Each HasForms (pick z (c ∷ stored_of priced cuts) (stored_of priced cuts))
-    go true k = (h.0, k)
-    go false k = k
-
-stored_cuts_forms : (priced : Bool) (children : List ChildCuts) → Each (λ (c : ChildCuts). Each HasForms c.cuts.items) children
-    → Each HasForms (stored_cuts priced children)
-stored_cuts_forms priced [] h = tt
-stored_cuts_forms priced (c ∷ cs) h = each-append HasForms (stored_of priced c.cuts.items) (stored_cuts priced cs)
-    (stored_of_forms priced c.cuts.items h.0) (stored_cuts_forms priced cs h.1)
-
 -- ---- what is told of what is found
 then_if : {A B P : Type 0} (Q : B → Type 0) (w : Result A P) (go : A → Result B P) → ((x : A) → w ≡ Ok x → IfOk (go x) Q)
     → IfOk (then_walk w go) Q
@@ -147,61 +106,51 @@ or_holds : {A : Type 0} (Q : A → Type 0) (w : Walk A) (tell : Operation → A)
 or_holds Q (Ok x) tell h k = h
 or_holds Q (Err o) tell h k = k o
 
-module _ (p : Problem) (rise : RowsRise 0 p.rows) (d : Datum) (b : Bool) (cuts : List Stored) (h : Each HasForms cuts) where
-  of_cut : (kind : CutKind) (m : Weighed) → IsForm m.rows → (cut : Stored) → cut_made d kind cuts m ≡ Ok (Some cut) → HasForms cut
-  of_cut kind m f cut e = made_forms d (record_of d kind m) (stored_uses m.weights cuts) cut f (uses_forms m.weights cuts h) e
-
-  told_with : (tell : Stored → Solved) → ((c : Stored) → HasForms c → SolvedForms (tell c)) → (w : Result (Option Stored) Operation)
-      → ((cut : Stored) → w ≡ Ok (Some cut) → HasForms cut) → SolvedForms (with_cut tell w)
+-- where each cut that is made with a form of multipliers has this, the cut that is told has it
+module _ (Has : Stored → Type 0) (p : Problem) (rise : RowsRise 0 p.rows) (d : Datum) (b : Bool) (cuts : List Stored)
+    (of_cut : (kind : CutKind) (m : Weighed) → IsForm m.rows → (cut : Stored) → cut_made d kind cuts m ≡ Ok (Some cut) → Has cut) where
+  told_with : (tell : Stored → Solved) → ((c : Stored) → Has c → IfSome (cut_given (tell c)) Has) → (w : Result (Option Stored) Operation)
+      → ((cut : Stored) → w ≡ Ok (Some cut) → Has cut) → IfSome (cut_given (with_cut tell w)) Has
   told_with tell f (Ok (Some cut)) k = f cut (k cut refl)
   told_with tell f (Ok None) k = tt
   told_with tell f (Err o) k = tt
 
   point_told : (z : Bool) (x : List Entry) (v : ℚ) (m : Weighed) → IsForm m.rows
-      → SolvedForms (pick z (with_cut (λ c. solved.Point x v (Some c)) (cut_made d cut_kind.Bound cuts m)) (solved.Point x v None))
+      → IfSome (cut_given (pick z (with_cut (λ c. solved.Point x v (Some c)) (cut_made d cut_kind.Bound cuts m)) (solved.Point x v None))) Has
   point_told true x v m f = told_with (λ c. solved.Point x v (Some c)) (λ c k. k) (cut_made d cut_kind.Bound cuts m) (of_cut cut_kind.Bound m f)
   point_told false x v m f = tt
 
   own_forms : (limits : List Limit) (y : List ℚ) (own : List Entry) → multipliers_from [] p.rows (turned_back limits y) ≡ Ok own → IsForm own
   own_forms limits y own e = multipliers_forms p.rows (turned_back limits y) [] own no_form (rows_begin p.rows rise) e
 
-  best_told : (limits : List Limit) (z : ℕ → ℚ) (y : List ℚ) → IfOk (best_walk p limits z y) (λ f. SolvedForms (told d b cuts f))
+  best_told : (limits : List Limit) (z : ℕ → ℚ) (y : List ℚ) → IfOk (best_walk p limits z y) (λ f. IfSome (cut_given (told d b cuts f)) Has)
   best_told limits z y =
-      then_if (λ f. SolvedForms (told d b cuts f)) (multipliers_from [] p.rows (turned_back limits y)) _ (λ own e.
-      then_if (λ f. SolvedForms (told d b cuts f)) (point_from z (node_parts p) [] 0 p.bounds) _ (λ x g.
-      then_if (λ f. SolvedForms (told d b cuts f)) (cost_walk p z x) _ (λ v k.
+      then_if (λ f. IfSome (cut_given (told d b cuts f)) Has) (multipliers_from [] p.rows (turned_back limits y)) _ (λ own e.
+      then_if (λ f. IfSome (cut_given (told d b cuts f)) Has) (point_from z (node_parts p) [] 0 p.bounds) _ (λ x g.
+      then_if (λ f. IfSome (cut_given (told d b cuts f)) Has) (cost_walk p z x) _ (λ v k.
       point_told b x v (record { rows = own; weights = weights_of p (turned_back limits y) }) (own_forms limits y own e))))
 
-  nowhere_told : (limits : List Limit) (standard : lp.Program) (y : List ℚ)
-      → IfOk (nowhere_walk p limits standard y) (λ f. SolvedForms (told d b cuts f))
+  nowhere_told : (limits : List Limit) (standard : lp.Program) (y : List ℚ) → IfOk (nowhere_walk p limits standard y) (λ f. IfSome (cut_given (told d b cuts f)) Has)
   nowhere_told limits standard y =
-      then_if (λ f. SolvedForms (told d b cuts f)) (multipliers_from [] p.rows (turned_back limits y)) _ (λ own e.
-      then_if (λ f. SolvedForms (told d b cuts f)) (ray_walk standard y) _ (λ shown k.
+      then_if (λ f. IfSome (cut_given (told d b cuts f)) Has) (multipliers_from [] p.rows (turned_back limits y)) _ (λ own e.
+      then_if (λ f. IfSome (cut_given (told d b cuts f)) Has) (ray_walk standard y) _ (λ shown k.
       let m : Weighed = record { rows = own; weights = weights_of p (turned_back limits y) } in
       told_with solved.NoPoint (λ c k. k) (cut_made d cut_kind.Ray cuts m) (of_cut cut_kind.Ray m (own_forms limits y own e))))
 
-  end_told : (limits : List Limit) (standard : lp.Program) (s : Solution)
-      → IfOk (end_walk p limits standard s) (λ f. SolvedForms (told d b cuts f))
+  end_told : (limits : List Limit) (standard : lp.Program) (s : Solution) → IfOk (end_walk p limits standard s) (λ f. IfSome (cut_given (told d b cuts f)) Has)
   end_told limits standard (Optimum x y) = best_told limits x y
   end_told limits standard (Nowhere y) = nowhere_told limits standard y
   end_told limits standard (Endless x d) = tt
   end_told limits standard Cut_off = tt
   end_told limits standard (Passes k o) = tt
 
-  found_told : (pivots : ℕ) → SolvedForms (told d b cuts (found_in p pivots))
-  found_told pivots = or_holds (λ f. SolvedForms (told d b cuts f)) (solve_walk p pivots) _
-      (then_if (λ f. SolvedForms (told d b cuts f)) (rows_walk p) (path_walk p pivots)
+  found_told : (pivots : ℕ) → IfSome (cut_given (told d b cuts (found_in p pivots))) Has
+  found_told pivots = or_holds (λ f. IfSome (cut_given (told d b cuts f)) Has) (solve_walk p pivots) _
+      (then_if (λ f. IfSome (cut_given (told d b cuts f)) Has) (rows_walk p) (path_walk p pivots)
       (λ limits e. end_told limits (standard_seen p limits) (solution (standard_seen p limits) pivots)))
       (λ o. tt)
 
--- where the cuts about the children are so, so is the cut of the node
-pub solved_forms : (t : Task) → IsProblem (problem_of t) → Each (λ (c : ChildCuts). Each HasForms c.cuts.items) t.children.items
-    → SolvedForms (node_solved t)
-solved_forms t fits h = found_told (problem_of t) fits.rows_rise t.datum (is_priced t.kind) (stored_cuts (is_priced t.kind) t.children.items)
-    (stored_cuts_forms (is_priced t.kind) t.children.items h) t.pivots
-
--- ---- the cuts that a run begins with
--- the rows of a node rise
+-- ---- the rows of a node rise
 places_rise : {A : Type 0} (test : A → Bool) (k j : ℕ) (xs : List A) (rows : List NodeRow) → k ≤ j
     → map (λ (r : NodeRow). r.row) rows ≡ places test j xs → RowsRise k rows
 places_rise test k j xs [] less e = tt
@@ -231,58 +180,86 @@ rows_rise kind p i n l = go kind (places_rise (λ (r : Row). eqb r.stage (node_a
     go run_kind.Recession h = zero_rows 0 (node_at p.nodes n).rows h
     go run_kind.Cost h = h
 
-snoc_forms : (uses : StoredUses) (w : ℚ) (cut : Stored) → AllHaveForms uses → HasForms cut → AllHaveForms (snoc uses w cut)
-snoc_forms No_stored w cut h k = (k, tt)
-snoc_forms (Use_stored v c uses) w cut h k = (h.0, snoc_forms uses w cut h.1 k)
+module _ (Has : Source → Type 0) where
+  -- ---- a cut that is made
+  of_parts : (cut : Stored) → Has (source_of cut) → EachUsed Has (uses_of cut) → EachRecord Has cut
+  of_parts (Stored_of s uses constant form) h k = (h, k)
 
-children_forms : (uses : StoredUses) (ss : List Share) (cuts : List Stored) → AllHaveForms uses → Each HasForms cuts
-    → AllHaveForms (uses_of_children uses ss cuts)
-children_forms uses [] cuts h k = h
-children_forms uses (s ∷ ss) [] h k = h
-children_forms uses (s ∷ ss) (c ∷ cuts) h k = children_forms (snoc uses s.share c) ss cuts (snoc_forms uses s.share c h k.0) k.1
+  made_records : (d : Datum) (s : Source) (uses : StoredUses) (cut : Stored) → Has s → EachUsed Has uses → made d s uses ≡ Ok (Some cut)
+      → EachRecord Has cut
+  made_records d s uses cut h k e =
+      let q = made_parts d s uses cut e in
+      of_parts cut (subst Has (sym q.0) h) (subst (EachUsed Has) (sym q.1) k)
 
-ground_forms : (d : Datum) (total : ℚ) (dual : List At) (cuts : List Stored) (cut : Stored) → RowsRise 0 d.rows → Each HasForms cuts
-    → ground_walk d total dual cuts ≡ Ok (Some cut) → HasForms cut
-ground_forms d total dual cuts cut rise h e =
-    let a = ended (quotients_from total (at dual d.node) [] d.rows)
-    (λ y. made d (ground_source d y) (uses_of_children No_stored d.shares cuts)) (Some cut) e in
-    made_forms d (ground_source d a.result) (uses_of_children No_stored d.shares cuts) cut
-    (quotients_forms total (at dual d.node) d.rows [] a.result no_form (rows_begin d.rows rise) a.first_is)
-    (children_forms No_stored d.shares cuts tt h) a.next_is
+  used_records : (uses : StoredUses) → UsesHave (EachRecord Has) uses → EachUsed Has uses
+  used_records No_stored h = tt
+  used_records (Use_stored w c uses) h = (h.0, used_records uses h.1)
 
-there_forms : (cuts : List (Option Stored)) (ns : List ℕ) → Each (λ (c : ℕ). IfSome (slice_index_or cuts c None) HasForms) ns
-    → Each HasForms (cuts_there cuts ns)
-there_forms cuts [] h = tt
-there_forms cuts (n ∷ ns) h = each-append HasForms (option_to_list (slice_index_or cuts n None)) (cuts_there cuts ns)
-    (go (slice_index_or cuts n None) h.0) (there_forms cuts ns h.1)
-  where
-    go : (o : Option Stored) → IfSome o HasForms → Each HasForms (option_to_list o)
-    go None h = tt
-    go (Some cut) h = (h, tt)
+  -- ---- where it holds of the cuts about the children, it holds of the cut that a solve gives
+  pub solved_records : (t : Task) → IsProblem (problem_of t) → ((kind : CutKind) (m : Weighed) → IsForm m.rows → Has (record_of t.datum kind m))
+      → Each (λ (c : ChildCuts). Each (EachRecord Has) c.cuts.items) t.children.items → IfSome (cut_given (node_solved t)) (EachRecord Has)
+  solved_records t fits own h = found_told (EachRecord Has) (problem_of t) fits.rows_rise t.datum (is_priced t.kind)
+      (stored_cuts (is_priced t.kind) t.children.items)
+      (λ kind m f cut e. made_records t.datum (record_of t.datum kind m)
+      (stored_uses m.weights (stored_cuts (is_priced t.kind) t.children.items)) cut (own kind m f) (used_records _ (uses_have (EachRecord Has) t m h)) e)
+      t.pivots
 
-module _ (kind : Kind) (p : Program) (i : IsProgram p) (tree : Tree) (versions : List Version) (dual : List At) (cuts : List (Option Stored))
-    (are : AreFirstCuts kind p tree versions dual cuts) where
-  cut_forms : (n : ℕ) (cut : Stored) → Lives p n
-      → (c : Stored) × ((slice_index_or cuts n None ≡ Some c) × IsFirstCut kind p tree versions dual cuts n c)
-      → slice_index_or cuts n None ≡ Some cut → ((m : ℕ) → n < m → IfSome (slice_index_or cuts m None) HasForms) → HasForms cut
-  cut_forms n cut l (c, (f, walk)) e below =
-      let same : c ≡ cut = (let q : Some c ≡ Some cut = sym f ∙ e in cc) in
-      subst HasForms same (ground_forms (datum_in kind p n (version_of versions n)) (get_or tree.chances.totals n zero_ℚ) dual
-      (cuts_there cuts (children_in (frame_of p) n)) c (rows_rise kind p i n l) (there_forms cuts (children_in (frame_of p) n)
-      (each-map (λ m q. below m q.1) (children_in (frame_of p) n) (children_after p i n l))) walk)
+  -- ---- the cuts that a run begins with
+  snoc_records : (uses : StoredUses) (w : ℚ) (cut : Stored) → EachUsed Has uses → EachRecord Has cut → EachUsed Has (snoc uses w cut)
+  snoc_records No_stored w cut h k = (k, tt)
+  snoc_records (Use_stored v c uses) w cut h k = (h.0, snoc_records uses w cut h.1 k)
 
-  -- from the last nodes on
-  first_from : (k n : ℕ) → length p.nodes ≤ n + k → IfSome (slice_index_or cuts n None) HasForms
-  first_from zero n less = go (slice_index_or cuts n None) refl
+  children_records : (uses : StoredUses) (ss : List Share) (cuts : List Stored) → EachUsed Has uses → Each (EachRecord Has) cuts
+      → EachUsed Has (uses_of_children uses ss cuts)
+  children_records uses [] cuts h k = h
+  children_records uses (s ∷ ss) [] h k = h
+  children_records uses (s ∷ ss) (c ∷ cuts) h k = children_records (snoc uses s.share c) ss cuts (snoc_records uses s.share c h k.0) k.1
+
+  ground_records : (d : Datum) (total : ℚ) (dual : List At) (cuts : List Stored) (cut : Stored) → RowsRise 0 d.rows
+      → ((y : List Entry) → IsForm y → Has (ground_source d y)) → Each (EachRecord Has) cuts
+      → ground_walk d total dual cuts ≡ Ok (Some cut) → EachRecord Has cut
+  ground_records d total dual cuts cut rise own h e =
+      let a = ended (quotients_from total (at dual d.node) [] d.rows)
+      (λ y. made d (ground_source d y) (uses_of_children No_stored d.shares cuts)) (Some cut) e in
+      made_records d (ground_source d a.result) (uses_of_children No_stored d.shares cuts) cut
+      (own a.result (quotients_forms total (at dual d.node) d.rows [] a.result no_form (rows_begin d.rows rise) a.first_is))
+      (children_records No_stored d.shares cuts tt h) a.next_is
+
+  there_records : (cuts : List (Option Stored)) (ns : List ℕ) → Each (λ (c : ℕ). IfSome (slice_index_or cuts c None) (EachRecord Has)) ns
+      → Each (EachRecord Has) (cuts_there cuts ns)
+  there_records cuts [] h = tt
+  there_records cuts (n ∷ ns) h = each-append (EachRecord Has) (option_to_list (slice_index_or cuts n None)) (cuts_there cuts ns)
+      (go (slice_index_or cuts n None) h.0) (there_records cuts ns h.1)
     where
-      go : (o : Option Stored) → slice_index_or cuts n None ≡ o → IfSome o HasForms
-      go None e = tt
-      go (Some cut) e = let q = passes-within is_live n p.nodes (are.only n cut e) in absurd (omega (arith, less, q))
-  first_from (suc k) n less = go (slice_index_or cuts n None) refl (λ m low. first_from k m (omega (arith, less, low)))
-    where
-      go : (o : Option Stored) → slice_index_or cuts n None ≡ o → ((m : ℕ) → n < m → IfSome (slice_index_or cuts m None) HasForms) → IfSome o HasForms
-      go None e below = tt
-      go (Some cut) e below = cut_forms n cut (are.only n cut e) (are.there n (are.only n cut e)) e below
+      go : (o : Option Stored) → IfSome o (EachRecord Has) → Each (EachRecord Has) (option_to_list o)
+      go None h = tt
+      go (Some cut) h = (h, tt)
 
-  pub first_forms : (n : ℕ) → IfSome (slice_index_or cuts n None) HasForms
-  first_forms n = first_from (length p.nodes) n (omega arith)
+  module _ (kind : Kind) (p : Program) (i : IsProgram p) (tree : Tree) (versions : List Version) (dual : List At) (cuts : List (Option Stored))
+      (are : AreFirstCuts kind p tree versions dual cuts)
+      (own : (n : ℕ) → Lives p n → (y : List Entry) → IsForm y → Has (ground_source (datum_in kind p n (version_of versions n)) y)) where
+    cut_records : (n : ℕ) (cut : Stored) → Lives p n
+        → (c : Stored) × ((slice_index_or cuts n None ≡ Some c) × IsFirstCut kind p tree versions dual cuts n c)
+        → slice_index_or cuts n None ≡ Some cut → ((m : ℕ) → n < m → IfSome (slice_index_or cuts m None) (EachRecord Has)) → EachRecord Has cut
+    cut_records n cut l (c, (f, walk)) e below =
+        let same : c ≡ cut = (let q : Some c ≡ Some cut = sym f ∙ e in cc) in
+        subst (EachRecord Has) same (ground_records (datum_in kind p n (version_of versions n)) (get_or tree.chances.totals n zero_ℚ) dual
+        (cuts_there cuts (children_in (frame_of p) n)) c (rows_rise kind p i n l) (own n l) (there_records cuts (children_in (frame_of p) n)
+        (each-map (λ m q. below m q.1) (children_in (frame_of p) n) (children_after p i n l))) walk)
+
+    -- from the last nodes on
+    first_from : (k n : ℕ) → length p.nodes ≤ n + k → IfSome (slice_index_or cuts n None) (EachRecord Has)
+    first_from zero n less = go (slice_index_or cuts n None) refl
+      where
+        go : (o : Option Stored) → slice_index_or cuts n None ≡ o → IfSome o (EachRecord Has)
+        go None e = tt
+        go (Some cut) e = let q = passes-within is_live n p.nodes (are.only n cut e) in absurd (omega (arith, less, q))
+    first_from (suc k) n less = go (slice_index_or cuts n None) refl (λ m low. first_from k m (omega (arith, less, low)))
+      where
+        go : (o : Option Stored) → slice_index_or cuts n None ≡ o → ((m : ℕ) → n < m → IfSome (slice_index_or cuts m None) (EachRecord Has))
+            → IfSome o (EachRecord Has)
+        go None e below = tt
+        go (Some cut) e below = cut_records n cut (are.only n cut e) (are.there n (are.only n cut e)) e below
+
+    pub first_records : (n : ℕ) → IfSome (slice_index_or cuts n None) (EachRecord Has)
+    first_records n = first_from (length p.nodes) n (omega arith)
