@@ -3,6 +3,7 @@ use Rattle.std.specs.Prelude.{◌≡◌, ℕ, Bool, false, ◌||◌, List, [], �
 use Rattle.std.specs.List.{flat_map}
 use Rattle.scen_defs.specs.Program.{Program}
 use Rattle.edit_defs.specs.declared.edit.Item.{Item}
+use Rattle.edit_defs.specs.Shifts.{HasWidths}
 use Rattle.command_words.specs.declared.command.Budget.{Budget}
 use Rattle.input_files.specs.Fetched.{Texts}
 use Rattle.program_files.specs.Meant.{MeansProgram}
@@ -25,10 +26,12 @@ any_open (told ∷ tolds) = is_open_finding told.finding || any_open tolds
 -- The output is the texts of reports, one for each SOLVE of the edit list, each of them true of the program after the edits before its
 -- SOLVE. Their findings give the status.
 pub record PrintsReports (budget : Budget) (texts : Texts) (status : Status) (output : List ℕ) : Type 0 where
-  -- the program that the texts mean, which has few nodes, and what the edit list means for it
+  -- the program that the texts mean, which has few nodes, and whose rows with two finite ends have the widths of their ranges
   pub program : Program
   pub means : MeansProgram texts program
   pub few : HasFewNodes program
+  pub widths : HasWidths program
+  -- what the edit list means for it
   pub items : List Item
   pub script : MeansScript texts program items
   -- the reports, all of them

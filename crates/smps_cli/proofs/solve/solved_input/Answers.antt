@@ -6,6 +6,7 @@ use Rattle.input_files.specs.Unfetched.{texts_view}
 use Rattle.smps_session.specs.declared.told.Told.{Told}
 use Rattle.smps_cli.specs.Findings.{open_status}
 use Rattle.smps_cli.specs.Solved.{PrintsReports, told_text, any_open}
+use Rattle.width_laws.proofs.Widths.{meant_have_widths}
 use Rattle.smps_cli.proofs.Few.{few_nodes}
 use Rattle.smps_cli.proofs.solve.solved_input.Goals as goal
 
@@ -17,6 +18,7 @@ returns c =
       program = content c.args.input.now.program;
       means = c.requires.means;
       few = few_nodes (texts_view c.args.texts.now) (content c.args.input.now.program) c.requires.means;
+      widths = meant_have_widths (texts_view c.args.texts.now) (content c.args.input.now.program) c.requires.means;
       items = c.args.input.now.script.items.items;
       script = c.requires.script;
       tolds = c.in_ok-tolds.tolds.items;
