@@ -96,7 +96,7 @@ same_frame : (a b : List ℕ) (c d : List Position) (e f : List ℕ) (g h : List
 same_frame a b c d e f g h i j k l = cc
 
 -- where no node comes or goes, the frame stays
-frame_stays : (p : Program) (e : Edit) → is_grown e ≡ false → frame_of (after p e) ≡ frame_of p
+pub frame_stays : (p : Program) (e : Edit) → is_grown e ≡ false → frame_of (after p e) ≡ frame_of p
 frame_stays p (Set name entry v) g =
     let nodes : List (Option Node) = change_node (home_of p name entry) (with_value p entry v) p.nodes in
     same_frame (map parent_of nodes) (map parent_of p.nodes) (map position_of nodes) (map position_of p.nodes)
