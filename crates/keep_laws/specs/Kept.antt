@@ -1,5 +1,5 @@
 -- What pools keep: cuts that are made of what the program has now.
-use Rattle.std.specs.Prelude.{◌≡◌, ℕ, ◌≤◌, List, Some, slice_get}
+use Rattle.std.specs.Prelude.{◌≡◌, ℕ, ◌<◌, ◌≤◌, List, [], length, Some, slice_get}
 use Rattle.rationals.specs.Forms.{IsForm}
 use Rattle.scen_defs.specs.Lists.{Each}
 use Rattle.scen_defs.specs.Program.{Program}
@@ -51,11 +51,14 @@ abbrev pub IsOldNews : Program → List Version → Touch → Type 0
 IsOldNews p versions t = Lives p t.node → IsNoNewer t.part t.version (version_of versions t.node)
 
 -- ---- pools
--- a pool of node n: its cuts are about the node and up to date, it knows no touch that is newer, and it changed so often at most
+-- a pool of node n: its cuts are about the node and up to date, that of the root has none, it knows no touch that is newer and none of a
+-- place that the program doesn't have, and it changed so often at most
 pub record IsKeptAt (p : Program) (versions : List Version) (most n : ℕ) (pool : Held) : Type 0 where
   pub node : pool.node ≡ n
   pub cuts : Each (IsCutNow p versions n) pool.cuts
+  pub root : n ≡ 0 → pool.cuts ≡ []
   pub known : Each (IsOldNews p versions) pool.known
+  pub places : Each (λ (t : Touch). t.node < length p.nodes) pool.known
   pub few : pool.number ≤ most
 
 -- each pool is kept at its place
