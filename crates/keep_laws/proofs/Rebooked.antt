@@ -96,12 +96,12 @@ bounds_here Feasible p n = refl
 bounds_here Recession p n = refl
 bounds_here Cost p n = refl
 
-stage_here : (kind : Kind) (p : Program) (n : ℕ) → (view_of p).stage n ≡ (view_in kind p).stage n
+pub stage_here : (kind : Kind) (p : Program) (n : ℕ) → (view_of p).stage n ≡ (view_in kind p).stage n
 stage_here Feasible p n = refl
 stage_here Recession p n = refl
 stage_here Cost p n = refl
 
-parent_here : (kind : Kind) (p : Program) (n : ℕ) → (view_of p).parent n ≡ (view_in kind p).parent n
+pub parent_here : (kind : Kind) (p : Program) (n : ℕ) → (view_of p).parent n ≡ (view_in kind p).parent n
 parent_here Feasible p n = refl
 parent_here Recession p n = refl
 parent_here Cost p n = refl
