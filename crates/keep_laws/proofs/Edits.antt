@@ -1,5 +1,5 @@
 -- What pools keep behind an edit.
-use Rattle.std.proofs.Common.{◌≡◌, ◌⊎◌, inl, inr, ℕ, zero, suc, ◌+◌, ◌-◌, ◌<◌, ◌≤◌, ◌^◌, Bool, true, false, ◌&&◌, ◌||◌, eqb, ltb, List, [], ◌∷◌, length, Option, Some, None, slice_get, refl, sym, ap, ap₂, subst, ◌∙◌, arith, eqb-true}
+use Rattle.std.proofs.Common.{◌≡◌, ◌⊎◌, inl, inr, ℕ, zero, suc, ◌+◌, ◌-◌, ◌<◌, ◌≤◌, ◌^◌, Bool, true, false, ◌&&◌, eqb, List, [], ◌∷◌, length, Option, Some, None, slice_get, refl, sym, ap, ap₂, subst, ◌∙◌, arith, eqb-true}
 use Rattle.std.proofs.lemmas.Bool.{and_parts, eq-eqb, eqb-false, ltb-false}
 use Rattle.rationals.specs.Forms.{IsForm}
 use Rattle.rationals.specs.Rational.{ℚ}
@@ -7,8 +7,7 @@ use Rattle.scen_defs.specs.Lists.{Each, pick, passes_at}
 use Rattle.scen_defs.specs.Program.{Node, Program, view_of, is_live}
 use Rattle.scen_defs.specs.Valid.{Lives, IsProgram}
 use Rattle.scen_defs.specs.declared.report.Kind.{Kind}
-use Rattle.scen_defs.specs.declared.report.Kind.TheVariants as run_kind
-use Rattle.scen_defs.proofs.SumLaws.{each-map}
+use Rattle.scen_defs.proofs.SumLaws.{each-map, each-both}
 use Rattle.cut_defs.specs.declared.kinds.Bank.{Bank}
 use Rattle.cut_defs.specs.declared.kinds.Bank.TheVariants.{Plain, Cone}
 use Rattle.cut_defs.specs.declared.kinds.CutKind.{CutKind}
@@ -24,16 +23,14 @@ use Rattle.cut_defs.specs.Repairs.{IsShift, is_moved, moved_source, repair}
 use Rattle.cut_defs.specs.Stored.{Source, Stored, StoredUses, source_of, IsStoredUse, IsMadeFor, AreMadeFor}
 use Rattle.cut_defs.specs.Stored.Stored.{Stored_of}
 use Rattle.cut_defs.specs.Stored.StoredUses.{No_stored, Use_stored}
-use Rattle.cut_defs.specs.Support.{IsAmong, rank, own_by, own_stamps, rows_stamp, costs_stamp, stamp_rests, rests_by, any_rests, cut_rests, reaches, any_reaches}
+use Rattle.cut_defs.specs.Support.{IsAmong, own_by, own_stamps, rows_stamp, costs_stamp, stamp_rests, rests_by, any_rests, cut_rests, reaches, any_reaches}
 use Rattle.cut_defs.proofs.Merges.{neither}
 use Rattle.cut_defs.proofs.Repairs.{repairs_are_made}
 use Rattle.cut_defs.proofs.Supports.{supports_are_exact}
-use Rattle.cut_proof.specs.Repairing.{touch_of}
 use Rattle.cut_pool.specs.Held.{Held}
 use Rattle.cut_pool.specs.Laws.{AllMadeFor}
 use Rattle.cut_pool.specs.Pool.{IsShiftOf}
-use Rattle.cut_banks.specs.declared.banks.Banks.{Banks}
-use Rattle.cut_banks.specs.Banks.{fit_banks, pools_in, swept_banks}
+use Rattle.cut_banks.specs.Banks.{fit_banks, swept_banks}
 use Rattle.cut_banks.specs.Pools.{no_cuts, fit_pools, fitting, same_bank, is_due, swept_for, pool_after, pools_after}
 use Rattle.edit_defs.specs.declared.edit.Edit.{Edit}
 use Rattle.edit_defs.specs.declared.edit.Edit.TheVariants.{Set, Prob, Drop, Add}
@@ -50,12 +47,11 @@ use Rattle.edit_retire.specs.Shifted.{shift_of}
 use Rattle.edit_retire.specs.Laws.{kind_of}
 use Rattle.run_data.specs.declared.versions.Version.{Version}
 use Rattle.run_data.specs.Counts.{version_of}
-use Rattle.pass_core.specs.Made.{script_books, PoolsAreMade}
-use Rattle.tree_method.specs.Edited.{is_grown, touches_of, dues_of, retired, raised_versions}
+use Rattle.tree_method.specs.Edited.{is_grown, touches_of, dues_of, raised_versions}
 use Rattle.tree_method.specs.Laws.{standing}
 use Rattle.tree_method.proofs.Histories.{shift_version, carried_of}
 use Rattle.tree_method.proofs.Standing.{touches_stand}
-use Rattle.keep_laws.specs.Kept.{EachRecord, EachUsed, IsUpToDate, IsCutNow, IsNoNewer, IsOldNews, IsKeptAt, AreKept, BanksAreKept}
+use Rattle.keep_laws.specs.Kept.{EachRecord, EachUsed, IsUpToDate, IsCutNow, IsNoNewer, IsOldNews, IsKeptAt, AreKept}
 use Rattle.keep_laws.specs.Laws.{KeepsCuts, EditsKeepCuts}
 use Rattle.keep_laws.proofs.Rebooked.{of_first, each_record, SaysSame, said_back, rebooked, from_versions, said_of, stage_here, parent_here, edit_shifts}
 use Rattle.keep_laws.proofs.Swept.{repaired_node, each_repaired, fitting_is, sweep_keeps, sweep_knows, sweep_stays, sweep_empties, after_each, after_counts, none_rests}
@@ -122,10 +118,6 @@ not_resting a t part n k h = sym (ap₂ (λ b x. b && rests_by x a t.version) (e
 told_each : (P : Stored → Touch → Type 0) (Told : Touch → Type 0) (cs : List Stored) → ((t : Touch) → Told t → Each (λ c. P c t) cs) → Each (λ c. (t : Touch) → Told t → P c t) cs
 told_each P Told [] f = tt
 told_each P Told (c ∷ cs) f = ((λ t h. (f t h).0), told_each P Told cs (λ t h. (f t h).1))
-
-each_both : {A : Type 0} (P Q R : A → Type 0) → ((x : A) → P x → Q x → R x) → (xs : List A) → Each P xs → Each Q xs → Each R xs
-each_both P Q R f [] h k = tt
-each_both P Q R f (x ∷ xs) h k = (f x h.0 k.0, each_both P Q R f xs h.1 k.1)
 
 each_there : (P : Held → Type 0) (pools : List Held) (n : ℕ) (pool : Held) → Each P pools → slice_get pools n ≡ Some pool → P pool
 each_there P [] n pool h e = absurd (cc)
@@ -397,10 +389,12 @@ module _ (p : Program) (e : Edit) (versions : List Version) (i : IsProgram p) (w
       → (n ≡ 0 → ⊥) → pool.number + length (dues_of p e versions) < 18446744073709551615
       → Each (IsCutBehind bank n) (pool_after bank n (dues_of p e versions) pool).cuts
   cuts_behind bank n pool now made before behind above few =
-      each_both (IsCutBetween p versions (raised_versions p e versions) (edit_book bank) n) (λ c. (t : Touch) → IsTold n t → cut_rests c t ≡ false) (IsCutBehind bank n)
+      each-both {P = IsCutBetween p versions (raised_versions p e versions) (edit_book bank) n} {Q = λ c. (t : Touch) → IsTold n t → cut_rests c t ≡ false}
+      {R = IsCutBehind bank n}
       is_behind (pool_after bank n (dues_of p e versions) pool).cuts
       (after_each (CutsBetween bank n) bank n (dues_of p e versions) (sweeps_between bank n) pool
-      (each_both (IsCutNow p versions n) (IsMadeFor (book (kind_of bank) p [])) (IsCutBetween p versions (raised_versions p e versions) (edit_book bank) n)
+      (each-both {P = IsCutNow p versions n} {Q = IsMadeFor (book (kind_of bank) p [])}
+      {R = IsCutBetween p versions (raised_versions p e versions) (edit_book bank) n}
       (λ c k m. now_between bank n c k m) pool.cuts now made))
       (told_each (λ c t. cut_rests c t ≡ false) (IsTold n) (pool_after bank n (dues_of p e versions) pool).cuts
       (λ t told. none_rests t bank n (dues_of p e versions) pool
@@ -477,7 +471,7 @@ module _ (p : Program) (e : Edit) (versions : List Version) (i : IsProgram p) (w
         (pool_after bank n (dues_of p e versions) pool).cuts (cuts_left bank most n pool ready few);
     root = λ z. still_empty bank n pool (ready.kept.root z);
     known = knows_behind (IsOldNews (after p e) (raised_versions p e versions)) bank n pool (touches_are_old p e versions i a long)
-        (each_both (λ (t : Touch). t.node < length p.nodes) (IsOldNews p versions) (IsOldNews (after p e) (raised_versions p e versions)) still_old pool.known
+        (each-both {P = λ (t : Touch). t.node < length p.nodes} {Q = IsOldNews p versions} {R = IsOldNews (after p e) (raised_versions p e versions)} still_old pool.known
         ready.kept.places ready.kept.known);
     places = knows_behind (λ (t : Touch). t.node < length (after p e).nodes) bank n pool
         (λ t among. within t (each_among (λ (u : Touch). u.node < length p.nodes) (touches_of p e versions) t among (touched_places p e versions i a long)))

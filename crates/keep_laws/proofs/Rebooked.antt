@@ -1,6 +1,6 @@
 -- Cuts that are made for one book are made for another that says the same of their records; and the book of an edit, by the versions
 -- before it.
-use Rattle.std.proofs.Common.{◌≡◌, ℕ, zero, suc, ◌+◌, ◌-◌, ◌<◌, Bool, true, false, List, [], ◌∷◌, map, Option, Some, None, refl, sym, ap, ap₂, subst, ◌∙◌, arith}
+use Rattle.std.proofs.Common.{◌≡◌, ℕ, suc, ◌-◌, Bool, true, false, List, [], ◌∷◌, map, Some, None, refl, sym, ap, subst, ◌∙◌, arith}
 use Rattle.rationals.specs.Passes.{passes}
 use Rattle.rationals.specs.declared.Op.TheVariants.{Sub}
 use Rattle.smps_words.specs.declared.entry.Entry.TheVariants.{Cost as CostEntry, Matrix, Rhs}
@@ -8,8 +8,8 @@ use Rattle.scen_defs.specs.Lists.{Once, pick}
 use Rattle.scen_defs.specs.declared.program.NodeRow.{NodeRow}
 use Rattle.scen_defs.specs.declared.report.Kind.{Kind}
 use Rattle.scen_defs.specs.declared.report.Kind.TheVariants.{Feasible, Recession, Cost}
-use Rattle.scen_defs.specs.Program.{Program, View, view_of}
-use Rattle.scen_defs.specs.Valid.{Lives, IsProgram}
+use Rattle.scen_defs.specs.Program.{Program, view_of}
+use Rattle.scen_defs.specs.Valid.{IsProgram}
 use Rattle.cut_defs.specs.declared.kinds.Bank.{Bank}
 use Rattle.cut_defs.specs.declared.kinds.Bank.TheVariants.{Plain, Cone}
 use Rattle.cut_defs.specs.declared.kinds.CutKind.TheVariants.{Bound}
