@@ -52,7 +52,7 @@ use Rattle.tree_method.specs.Laws.{standing}
 use Rattle.tree_method.proofs.Histories.{shift_version, carried_of}
 use Rattle.tree_method.proofs.Standing.{touches_stand}
 use Rattle.keep_laws.specs.Kept.{EachRecord, EachUsed, IsUpToDate, IsCutNow, IsNoNewer, IsOldNews, IsKeptAt, AreKept}
-use Rattle.keep_laws.specs.Laws.{KeepsCuts, EditsKeepCuts}
+use Rattle.keep_laws.specs.Laws.{CutsAreNow, EditsKeepCuts}
 use Rattle.keep_laws.proofs.Rebooked.{of_first, each_record, SaysSame, said_back, rebooked, from_versions, said_of, stage_here, parent_here, edit_shifts}
 use Rattle.keep_laws.proofs.Swept.{repaired_node, each_repaired, fitting_is, sweep_keeps, sweep_knows, sweep_stays, sweep_empties, after_each, after_counts, none_rests}
 use Rattle.keep_laws.proofs.Touched.{each_among, all_among, FindsTouch, found_touch, gone_as_told, touched_places, rows_behind, costs_behind, stays_live, is_left, touches_are_old, each_due, IsUnder, upwards, swept_for_touch}
@@ -555,7 +555,7 @@ pub edits_keep_cuts : EditsKeepCuts
 edits_keep_cuts p e versions most banks i w a long rows_few costs_few few k = go (is_grown e) refl
   where
     go : (grown : Bool) → is_grown e ≡ grown
-        → KeepsCuts (after p e) (raised_versions p e versions) (most + length (dues_of p e versions))
+        → CutsAreNow (after p e) (raised_versions p e versions) (most + length (dues_of p e versions))
         (swept_banks (dues_of p e versions) (pick grown (fit_banks (after p e).nodes banks) banks))
     go true g = record {
       made = record {

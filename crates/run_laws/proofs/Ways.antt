@@ -32,10 +32,9 @@ use Rattle.tree_method.specs.declared.method.Method.TheVariants.{Working as AtWo
 use Rattle.tree_method.specs.declared.method.Working.{Working}
 use Rattle.tree_method.specs.Edited.{is_grown, dues_of, IsEdited}
 use Rattle.tree_method.specs.Stands.{HasFewNodes, WorksOn, SolvesNodes, none, more, anew}
-use Rattle.tree_method.proofs.Standing.{grows}
 use Rattle.tree_method.proofs.StandLemmas.{frame_stays}
 use Rattle.keep_laws.specs.Kept.{IsKeptAt, AreKept, BanksAreKept}
-use Rattle.keep_laws.specs.Laws.{KeepsCuts}
+use Rattle.keep_laws.specs.Laws.{CutsAreNow}
 use Rattle.keep_laws.proofs.Pools.{still_kept}
 use Rattle.keep_laws.proofs.Touched.{rows_behind, costs_behind}
 use Rattle.keep_laws.proofs.Edits.{edits_keep_cuts}
@@ -178,7 +177,7 @@ one_most : (b : Bool) → one_if b ≤ 1
 one_most true = omega arith
 one_most false = omega arith
 
-weaker : (p : Program) (versions : List Version) (a b : ℕ) (banks : Banks) → a ≤ b → KeepsCuts p versions a banks → KeepsCuts p versions b banks
+weaker : (p : Program) (versions : List Version) (a b : ℕ) (banks : Banks) → a ≤ b → CutsAreNow p versions a banks → CutsAreNow p versions b banks
 weaker p versions a b banks less h = record {
   made = h.made;
   kept = record {
@@ -217,9 +216,9 @@ module _ (budget : Budget) (came : ℕ) (p : Program) (e : Edit) (old new : Work
   most : ℕ
   most = way.run.most + (2 + length (dues_of p e old.state.versions))
 
-  kept : KeepsCuts (after p e) new.state.versions (held.count + length (dues_of p e old.state.versions)) new.state.banks
-  kept = subst (λ (vs : List Version). KeepsCuts (after p e) vs (held.count + length (dues_of p e old.state.versions)) new.state.banks) (sym edited.versions)
-      (subst (KeepsCuts (after p e) _ (held.count + length (dues_of p e old.state.versions))) (sym edited.pools)
+  kept : CutsAreNow (after p e) new.state.versions (held.count + length (dues_of p e old.state.versions)) new.state.banks
+  kept = subst (λ (vs : List Version). CutsAreNow (after p e) vs (held.count + length (dues_of p e old.state.versions)) new.state.banks) (sym edited.versions)
+      (subst (CutsAreNow (after p e) _ (held.count + length (dues_of p e old.state.versions))) (sym edited.pools)
       (edits_keep_cuts p e old.state.versions held.count old.state.banks i way.widths applies before.versions
       (λ n. omega (arith, way.rows n, few.items)) (λ n. omega (arith, way.costs n, few.items)) (omega (arith, changes, numbers, dues_few))
       (record { made = held.made.0; kept = held.kept })))
