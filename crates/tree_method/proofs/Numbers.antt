@@ -163,11 +163,11 @@ module _ (p : Program) (old : State) where
       go : (b : Bool) → MakesStep p mid m new b → HasReason old why ⊎ Arises p old new why
       go b (begins_none rests points reasons ready) =
           elim (gained (λ w. ⊥) mid new why reasons h) [ inl x ↦ kept (rest x) | inr n ↦ absurd n ]
-      go b (opens_run closed earlier opens points reasons run first) =
+      go b (opens_run closed earlier opens points reasons run first left) =
           elim (gained (IsBeforeRun p mid) mid new why reasons h) [
             | inl x ↦ kept (rest x)
             | inr i ↦
-                inr (at_opening why mid new m before tabled closed (opens_run closed earlier opens points reasons run first) i)
+                inr (at_opening why mid new m before tabled closed (opens_run closed earlier opens points reasons run first left) i)
           ]
       go b (solves lasts n ready node) =
           elim (gained (IsOfThis mid lasts n node.task) (record mid { lasts = lasts; counts = with_commit mid.counts }) new why node.reasons h) [
@@ -192,7 +192,7 @@ module _ (p : Program) (old : State) where
 
       go : (b : Bool) → MakesStep p mid m new b → IsLasting why
       go b (begins_none rests points reasons ready) = by (λ w. ⊥) (reasons.lasting why e)
-      go b (opens_run closed earlier opens points reasons run first) = by (IsBeforeRun p mid) (reasons.lasting why e)
+      go b (opens_run closed earlier opens points reasons run first left) = by (IsBeforeRun p mid) (reasons.lasting why e)
       go b (solves lasts n ready node) = by (IsOfThis mid lasts n node.task) (node.reasons.lasting why e)
 
   -- what lasts for a run is told of a cut or of a cost
