@@ -136,7 +136,7 @@ pub record KeepsKnown (old new : State) : Type 0 where
 abbrev pub IsOpenOrStuck : State → State → Type 0
 IsOpenOrStuck old new = (new.stop ≡ None) ⊎ (new.stop ≡ Some (Solves old.budget.solves))
 
--- what stopped the method does so still; else nothing stops it, or it is told so
+-- what stops the method is as it was; or it is told as stuck so, where nothing stopped it
 abbrev pub StopsAsStuck : State → State → Type 0
 StopsAsStuck old new = (new.stop ≡ old.stop) ⊎ (new.stop ≡ first_stop old.stop (Solves old.budget.solves))
 
