@@ -108,7 +108,7 @@ dues_few v all s low (t ∷ ts) =
     omega (arith, stage, plain, cone, rest, first, all_of)
 
 pub dues_are_few : DuesAreFew
-dues_are_few p e versions i a small =
+dues_are_few p e versions i a =
     let ts : List Touch = touches_of p e versions in
     let many : length (touches_of p e versions) ≡ length (touches p e) = as_many (touches p e) versions in
     let few : length (touches p e) ≤ 16 = touches_few p e i a in

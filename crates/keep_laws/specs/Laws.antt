@@ -70,7 +70,6 @@ EditsKeepCuts = (p : Program) (e : Edit) (versions : List Version) (most : ℕ) 
     → CutsAreNow p versions most banks
     → CutsAreNow (after p e) (raised_versions p e versions) (most + length (dues_of p e versions)) (retired p e versions banks)
 
--- an edit of a program of at most 1,000,000 places has fewer than 2^41 sweeps
+-- an edit has at most 512 sweeps: it touches at most 16 places, above each of which there are at most 16 nodes, with pools in both banks
 abbrev pub DuesAreFew : Type 0
-DuesAreFew = (p : Program) (e : Edit) (versions : List Version) → IsProgram p → Applies p e → length p.nodes ≤ 1000000
-    → length (dues_of p e versions) < 2 ^ 41
+DuesAreFew = (p : Program) (e : Edit) (versions : List Version) → IsProgram p → Applies p e → length (dues_of p e versions) ≤ 512

@@ -11,7 +11,7 @@ use Rattle.pass_core.specs.declared.state.State.{State}
 use Rattle.pass_core.specs.Tabled.{IsTabledBy}
 use Rattle.pass_core.specs.Turns.{MakesStep, begins_none, opens_run, solves}
 use Rattle.tree_method.specs.Stands.{settled_in}
-use Rattle.run_laws.specs.Courses.{IsOpening, GoesFrom, IsRunTo, HasNumbers}
+use Rattle.run_laws.specs.Courses.{IsOpening, GoesFrom, IsRunTo, NumbersSuffice}
 use Rattle.run_laws.specs.Stuck.{SolvesAreUsed, OpeningsAreMade, NeverStuck}
 use Rattle.run_laws.proofs.Course.{course, beginning_opens}
 
@@ -27,7 +27,7 @@ first_keeps p most s b = record {
 }
 
 module _ (solves_are_used : SolvesAreUsed) (openings_are_made : OpeningsAreMade) (p : Program) where
-  stepped : (old new : State) (m : Machine) (told : Bool) → (r : IsRunTo p old) → HasNumbers p old r → settled_in old ≡ None → IsTabledBy p old m
+  stepped : (old new : State) (m : Machine) (told : Bool) → (r : IsRunTo p old) → NumbersSuffice p old r → settled_in old ≡ None → IsTabledBy p old m
       → KeepsOthers old → MakesStep p old m new told → KeepsOthers new
   stepped old new m told r small open_yet table h (begins_none rests points reasons ready) = record {
     stop = λ n e. go n (reasons.stop (Solves n) e);

@@ -12,7 +12,7 @@ use Rattle.pass_core.specs.Left.{OpensRun, next_kind}
 use Rattle.pass_core.specs.Tabled.{HasRoom, IsTabledBy, Opens, not_opened, is_opened}
 use Rattle.pass_core.specs.Turns.{OpensAnyhow, stays_closed, is_open, MakesStep, begins_none, opens_run, solves}
 use Rattle.tree_method.specs.Stands.{settled_in}
-use Rattle.run_laws.specs.Courses.{IsOpening, GoesFrom, IsRunTo, HasNumbers}
+use Rattle.run_laws.specs.Courses.{IsOpening, GoesFrom, IsRunTo, NumbersSuffice}
 use Rattle.run_laws.proofs.Standing.{runs_before}
 use Rattle.run_laws.proofs.Begun.{unused_counts}
 use Rattle.run_laws.proofs.Course.{course, beginning_opens}
@@ -85,7 +85,7 @@ module _ (p : Program) (i : IsProgram p) where
   at_most_two Recession = omega arith
   at_most_two Cost = omega arith
 
-pub has_room : (p : Program) (s : State) (r : IsRunTo p s) → HasNumbers p s r → settled_in s ≡ None → (m : Machine) → IsTabledBy p s m → HasRoom m
+pub has_room : (p : Program) (s : State) (r : IsRunTo p s) → NumbersSuffice p s r → settled_in s ≡ None → (m : Machine) → IsTabledBy p s m → HasRoom m
 has_room p s r small open_yet m table =
     let clear : IsClear s = run_clear p s r (unstopped s open_yet) in
     let all : s.counts.all < 2 ^ 63 = omega (arith, small) in

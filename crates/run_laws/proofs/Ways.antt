@@ -39,7 +39,7 @@ use Rattle.keep_laws.proofs.Pools.{still_kept}
 use Rattle.keep_laws.proofs.Touched.{rows_behind, costs_behind}
 use Rattle.keep_laws.proofs.Edits.{edits_keep_cuts}
 use Rattle.keep_laws.proofs.Dues.{dues_are_few}
-use Rattle.run_laws.specs.Courses.{IsOpening, here, by_solves, by_report, IsRunTo, HasNumbers, behind_report}
+use Rattle.run_laws.specs.Courses.{IsOpening, here, by_solves, by_report, IsRunTo, NumbersSuffice, behind_report}
 use Rattle.run_laws.specs.Ways.{AreFew, IsOnWay, WaysBegin, SolvesKeepWay, WaysHaveNumbers, ReportsKeepWay, EditsKeepWay}
 use Rattle.run_laws.proofs.Standing.{runs_before}
 use Rattle.run_laws.proofs.Course.{beginning_opens}
@@ -204,8 +204,8 @@ module _ (budget : Budget) (came : ℕ) (p : Program) (e : Edit) (old new : Work
   held : IsHeld p way.run.most old.state
   held = run_held p old.state way.run
 
-  dues_few : length (dues_of p e old.state.versions) < 2 ^ 41
-  dues_few = dues_are_few p e old.state.versions i applies allowed.places
+  dues_few : length (dues_of p e old.state.versions) ≤ 512
+  dues_few = dues_are_few p e old.state.versions i applies
 
   changes : held.count ≤ way.run.most + old.state.counts.all + 2
   changes = omega (arith, held.few (omega (arith, numbers)), at_most_two old.state.kind)

@@ -13,7 +13,7 @@ use Rattle.tree_method.specs.Stands.{HasFewNodes, SolvesNodes}
 use Rattle.keep_laws.specs.Laws.{CutsAreNow}
 
 -- A Feasible run begins, in which nothing was done. Nothing is known but cuts, which are made of the data of the program and up to date;
--- and the pools changed at most so often and once for each solve.
+-- and each pool changed at most so often, beside once for each solve.
 pub record IsOpening (p : Program) (most : ℕ) (s : State) : Type 0 where
   pub frame : s.frame ≡ frame_of p
   pub kind : s.kind ≡ Feasible
@@ -46,5 +46,5 @@ pub record IsRunTo (p : Program) (s : State) : Type 0 where
   pub goes : GoesFrom p first s
 
 -- there are numbers for all solves and for all changes of pools
-abbrev pub HasNumbers : (p : Program) (s : State) → IsRunTo p s → Type 0
-HasNumbers p s r = r.most + s.counts.all < 2 ^ 63
+abbrev pub NumbersSuffice : (p : Program) (s : State) → IsRunTo p s → Type 0
+NumbersSuffice p s r = r.most + s.counts.all < 2 ^ 63

@@ -10,13 +10,13 @@ use Rattle.pass_core.specs.declared.state.State.{State}
 use Rattle.pass_core.specs.Explained.{AreExplained}
 use Rattle.pass_core.specs.Tabled.{IsTabled}
 use Rattle.tree_method.specs.Stands.{IsAtEnd, closing}
-use Rattle.run_laws.specs.Courses.{IsRunTo, HasNumbers}
+use Rattle.run_laws.specs.Courses.{IsRunTo, NumbersSuffice}
 
 -- A program came to this state, where the method can't go on; there are numbers for all solves; each reason that it keeps is explained, and
 -- its table fits a machine of the program.
 pub record IsEndOfRun (program : Program) (s : State) : Type 0 where
   pub run : IsRunTo (content program) s
-  pub numbers : HasNumbers (content program) s run
+  pub numbers : NumbersSuffice (content program) s run
   pub ends : IsAtEnd (content program) s
   pub explained : AreExplained (content program) run.tree s
   pub tabled : IsTabled (content program) s

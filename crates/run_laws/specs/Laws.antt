@@ -13,7 +13,7 @@ use Rattle.pass_core.specs.Reasons.{RefusesCut}
 use Rattle.pass_core.specs.Tabled.{HasRoom, IsTabledBy}
 use Rattle.pass_core.specs.Turns.{SolvesNode}
 use Rattle.tree_method.specs.Stands.{IsAtEnd, settled_in}
-use Rattle.run_laws.specs.Courses.{IsRunTo, HasNumbers}
+use Rattle.run_laws.specs.Courses.{IsRunTo, NumbersSuffice}
 
 -- where a run for the least cost is closed, and nothing stops the method, both ends are there and equal
 abbrev pub ClosedRunsMeet : Type 0
@@ -37,6 +37,6 @@ EndsAreSettled = (p : Program) (s : State) (m : Machine) → IsRunTo p s → IsT
 -- while something is left to find, a cut that a solve offers is never refused
 abbrev pub NeverRefuses : Type 0
 NeverRefuses = (p : Program) (s : State) (m : Machine) (lasts : Lasts) (n : ℕ) (new : State) (cut : Stored) → (run : IsRunTo p s)
-    → HasNumbers p s run → IsTabledBy p s m → settled_in s ≡ None
+    → NumbersSuffice p s run → IsTabledBy p s m → settled_in s ≡ None
     → (solve : SolvesNode p (record s { lasts = lasts }) m n new) → cut_given (node_solved solve.task) ≡ Some cut
     → RefusesCut s.kind s.banks n solve.task.trial (Some cut) → ⊥

@@ -12,20 +12,20 @@ use Rattle.pass_core.specs.Reasons.{IsStuck}
 use Rattle.pass_core.specs.Tabled.{IsTabledBy}
 use Rattle.pass_core.specs.Turns.{SolvesNode, IsStuckBefore}
 use Rattle.tree_method.specs.Stands.{settled_in}
-use Rattle.run_laws.specs.Courses.{IsRunTo, HasNumbers}
+use Rattle.run_laws.specs.Courses.{IsRunTo, NumbersSuffice}
 
 -- while something is left to find, the method is never stuck behind a solve
 abbrev pub SolvesAreUsed : Type 0
 SolvesAreUsed = (p : Program) (s : State) (m : Machine) (lasts : Lasts) (n : ℕ) (new : State) → (run : IsRunTo p s)
-    → HasNumbers p s run → IsTabledBy p s m → settled_in s ≡ None
+    → NumbersSuffice p s run → IsTabledBy p s m → settled_in s ≡ None
     → (solve : SolvesNode p (record s { lasts = lasts }) m n new)
     → IsStuck s.kind s.banks n solve.task.trial (node_solved solve.task) → ⊥
 
 -- nor before the run behind a closed one opens
 abbrev pub OpeningsAreMade : Type 0
-OpeningsAreMade = (p : Program) (s : State) (m : Machine) (tree : Tree) → (run : IsRunTo p s) → HasNumbers p s run → IsTabledBy p s m
+OpeningsAreMade = (p : Program) (s : State) (m : Machine) (tree : Tree) → (run : IsRunTo p s) → NumbersSuffice p s run → IsTabledBy p s m
     → settled_in s ≡ None → IsClosed m → (s.kind ≡ Cost → ⊥) → tree_walk p ≡ Ok tree → IsStuckBefore p tree s → ⊥
 
 -- so no such number of solves is told as the reason why the method stops
 abbrev pub NeverStuck : Type 0
-NeverStuck = (p : Program) (s : State) (n : ℕ) → (run : IsRunTo p s) → HasNumbers p s run → s.stop ≡ Some (Solves n) → ⊥
+NeverStuck = (p : Program) (s : State) (n : ℕ) → (run : IsRunTo p s) → NumbersSuffice p s run → s.stop ≡ Some (Solves n) → ⊥

@@ -14,7 +14,7 @@ use Rattle.tree_method.specs.declared.method.Method.TheVariants.{Working as AtWo
 use Rattle.tree_method.specs.declared.method.Working.{Working}
 use Rattle.tree_method.specs.Edited.{IsEdited}
 use Rattle.tree_method.specs.Stands.{HasFewNodes, WorksOn, SolvesNodes, Begins}
-use Rattle.run_laws.specs.Courses.{IsRunTo, HasNumbers, behind_report}
+use Rattle.run_laws.specs.Courses.{IsRunTo, NumbersSuffice, behind_report}
 
 -- few items of a script came before, and few solves are allowed for a report: so there are numbers for all solves
 pub record AreFew (budget : Budget) (came : ℕ) : Type 0 where
@@ -22,14 +22,14 @@ pub record AreFew (budget : Budget) (came : ℕ) : Type 0 where
   pub solves : budget.solves < 2 ^ 40
 
 -- Behind so many items of a script the program has come to this state from an opening. Its rows have the widths of their ranges; no part
--- of its data was touched more often than items came; the pools changed less than 2^42 times for each item, beside once for each solve; and
+-- of its data was touched more often than items came; each pool changed at most 1,024 times for each item, beside once for each solve; and
 -- for each item so many solves at most were counted as are allowed, beside those since the report before.
 pub record IsOnWay (budget : Budget) (came : ℕ) (p : Program) (s : State) : Type 0 where
   pub run : IsRunTo p s
   pub widths : HasWidths p
   pub rows : (n : ℕ) → (version_of s.versions n).rows ≤ came
   pub costs : (n : ℕ) → (version_of s.versions n).costs ≤ came
-  pub most : run.most ≤ came * 2 ^ 42
+  pub most : run.most ≤ came * 2 ^ 10
   pub counted : s.counts.all ≤ came * budget.solves + s.counts.since_report
 
 -- so is a method at work; one that can't work has nothing but a program
@@ -51,7 +51,7 @@ SolvesKeepWay = (budget : Budget) (came : ℕ) (p : Program) (old new : State) �
 -- there are numbers for all solves and changes of pools
 abbrev pub WaysHaveNumbers : Type 0
 WaysHaveNumbers = (budget : Budget) (came : ℕ) (p : Program) (s : State) → AreFew budget came → (way : IsOnWay budget came p s)
-    → s.counts.since_report ≤ budget.solves → HasNumbers p s way.run
+    → s.counts.since_report ≤ budget.solves → NumbersSuffice p s way.run
 
 -- a report that is told keeps it
 abbrev pub ReportsKeepWay : Type 0
