@@ -51,8 +51,8 @@ abbrev pub IsOldNews : Program → List Version → Touch → Type 0
 IsOldNews p versions t = Lives p t.node → IsNoNewer t.part t.version (version_of versions t.node)
 
 -- ---- pools
--- a pool of node n: its cuts are about the node and up to date, the root has none; the touches that it knows are of places of the program
--- and not newer than that; and it changed so often at most
+-- a pool of node n: its cuts are about the node and up to date, that of the root has none, it knows no touch that is newer and none of a
+-- place that the program doesn't have, and it changed so often at most
 pub record IsKeptAt (p : Program) (versions : List Version) (most n : ℕ) (pool : Held) : Type 0 where
   pub node : pool.node ≡ n
   pub cuts : Each (IsCutNow p versions n) pool.cuts

@@ -56,7 +56,7 @@ pub record FirstCutsAreKept : Type 0 where
       → BanksAreKept p versions (most + 1) (put_cuts kind cuts banks)
 
 -- what pools keep behind an edit: their cuts are made of the data of the program after it, and are up to date
-pub record KeepsCuts (p : Program) (versions : List Version) (most : ℕ) (b : Banks) : Type 0 where
+pub record CutsAreNow (p : Program) (versions : List Version) (most : ℕ) (b : Banks) : Type 0 where
   pub made : PoolsAreMade (script_books p []) b
   pub kept : BanksAreKept p versions most b
 
@@ -67,8 +67,8 @@ EditsKeepCuts = (p : Program) (e : Edit) (versions : List Version) (most : ℕ) 
     → IsProgram p → HasWidths p → Applies p e → length p.nodes ≤ length versions
     → ((n : ℕ) → (version_of versions n).rows < 2 ^ 32 - 1) → ((n : ℕ) → (version_of versions n).costs < 2 ^ 32 - 1)
     → most + length (dues_of p e versions) < 2 ^ 64 - 1
-    → KeepsCuts p versions most banks
-    → KeepsCuts (after p e) (raised_versions p e versions) (most + length (dues_of p e versions)) (retired p e versions banks)
+    → CutsAreNow p versions most banks
+    → CutsAreNow (after p e) (raised_versions p e versions) (most + length (dues_of p e versions)) (retired p e versions banks)
 
 -- an edit of a program of at most 1,000,000 places has fewer than 2^41 sweeps
 abbrev pub DuesAreFew : Type 0

@@ -1,5 +1,5 @@
 -- The first step of a program that is begun is a solve, which is counted.
-use Rattle.std.proofs.Common.{◌≡◌, ℕ, ◌-◌, ◌^◌, min, Bool, false, length, refl, ap, ◌∙◌, arith}
+use Rattle.std.proofs.Common.{◌≡◌, ℕ, ◌-◌, ◌^◌, min, Bool, true, false, length, refl, ap, ◌∙◌, arith}
 use Rattle.std.proofs.lemmas.List.{length-map}
 use Rattle.scen_defs.specs.Program.{Program}
 use Rattle.scen_defs.specs.Valid.{IsSmall, IsProgram}
@@ -35,6 +35,16 @@ module _ (p : Program) (s : State) (i : IsProgram p) where
 
   not_closed : IsClosed (first_machine p s) → ⊥
   not_closed closed = let low = (closed 0 (root_lives p i)).0.made.solved in omega (arith, low)
+
+  -- where the run is closed something was done
+  pub closed_begun : (m : Machine) → s.frame ≡ frame_of p → IsTabledBy p s m → IsClosed m → s.is_begun ≡ true
+  closed_begun m frame t closed = go s.is_begun refl
+    where
+      go : (b : Bool) → s.is_begun ≡ b → s.is_begun ≡ true
+      go true e = e
+      go false e =
+          let first = first_tabled p s i frame t.pools (t.unused e) in
+          absurd (not_closed (first.fits.closed.0 (t.fits.closed.1 closed)))
 
   is_counted : (new : State) (told : Bool) → MakesStep p s (first_machine p s) new told → new.counts ≡ with_commit s.counts
   is_counted new told (begins_none rests points reasons ready) = absurd ((rests (omega arith, omega arith)).idle 0 root_begins)

@@ -1,6 +1,6 @@
 -- The cuts that a run begins with: made from the greatest number on, and put into the pools one after the other.
 use Rattle.std.proofs.Common.{◌≡◌, ℕ, zero, suc, ◌+◌, ◌<◌, ◌≤◌, Bool, true, false, eqb, List, [], ◌∷◌, ◌++◌, length, drop}
-use Rattle.std.proofs.Common.{get_or, replicate, Option, Some, None, Result, Ok, Err, IfErr, IsErrAnd, slice_index_or, slice_set}
+use Rattle.std.proofs.Common.{get_or, replicate, Option, Some, None, Result, Ok, Err, IfErr, IsErrAnd, OnOk, slice_index_or, slice_set}
 use Rattle.std.proofs.Common.{arith, refl, sym, ap, subst, ◌∙◌, eqb-true, eq-eqb, drop-cons}
 use Rattle.std.specs.Option.{option_to_list}
 use Rattle.std.proofs.lemmas.List.{get_or-set_same, get_or-set_other}
@@ -13,7 +13,7 @@ use Rattle.scen_defs.specs.Values.{At}
 use Rattle.scen_defs.specs.declared.report.Kind.{Kind}
 use Rattle.scen_defs.specs.declared.report.Kind.TheVariants.{Recession}
 use Rattle.scen_defs.proofs.SumLaws.{each-map}
-use Rattle.scen_tree.specs.Trees.{Tree}
+use Rattle.scen_tree.specs.Trees.{Tree, tree_walk}
 use Rattle.edit_defs.proofs.Lists.{passes-within}
 use Rattle.frac128.specs.declared.form.FormFault.{FormFault}
 use Rattle.frac128.specs.declared.form.FormFault.TheVariants as form_fault
@@ -38,9 +38,10 @@ use Rattle.pass_core.specs.declared.state.State.{State}
 use Rattle.pass_core.specs.Made.{cuts_there}
 use Rattle.pass_core.specs.Grounds.{OpeningDual, FaultsDual, put_in_pool, put_cut, put_cuts, CanPutInPool, CanPutCuts}
 use Rattle.pass_core.specs.Grounds.{OneIsNotPut, PutsCut, PutsCuts}
-use Rattle.pass_core.specs.Left.{next_kind}
+use Rattle.pass_core.specs.Left.{StopsAsStuck, next_kind, OpensRun}
 use Rattle.pass_core.specs.Turns.{datum_in, first_walk, IsFirstCut, AreFirstFrom, AreFirstCuts, FaultsFirst, PutsFirstCuts}
-use Rattle.pass_core.specs.Turns.{IsStuckBefore, not_made, not_put, by_dual, by_first, FaultsBefore}
+use Rattle.pass_core.specs.Turns.{IsStuckBefore, not_made, not_put, by_dual, by_first, FaultsBefore, GetsFirstCuts, OpensAnyhow, is_open}
+use Rattle.pass_core.proofs.Leaving.{open_or_stuck}
 use Rattle.pass_core.proofs.Making.{children_after}
 
 -- ---- the cuts, from the greatest number on
@@ -228,6 +229,23 @@ puts_first p tree kind old new cuts k d h = record {
   can = subst (λ (x : Kind). CanPutCuts x cuts old.banks) k h.can;
   banks = h.banks ∙ ap (λ (x : Kind). put_cuts x cuts old.banks) k;
 }
+
+-- whatever stops the method then
+pub opened_anyhow : {X E : Type 0} (r : Result X E) (p : Program) (tree : Tree) (kind : Kind) (old new : State) (cuts : List (Option Stored))
+    → tree_walk p ≡ Ok tree → kind ≡ next_kind old.kind
+    → (dual : List At) × (OpeningDual old.kind old.ends.root dual × AreFirstCuts kind p tree old.versions dual cuts)
+    → OnOk r (OpensRun old new) → OnOk r (new.banks ≡ put_cuts kind cuts old.banks) → OnOk r (StopsAsStuck old new)
+    → OnOk r (OpensAnyhow p old new)
+opened_anyhow (Ok x) p tree kind old new cuts walk k d opens banks stuck =
+    is_open opens (λ other there.
+    let same : tree ≡ other = (let both : Ok tree ≡ Ok other = sym walk ∙ there in cc) in
+    subst (λ (t : Tree). GetsFirstCuts p t old new) same (record {
+      dual = d.0;
+      cuts = cuts;
+      are = subst (λ (x : Kind). AreFirstCuts x p tree old.versions d.0 cuts) k d.1.1;
+      banks = banks ∙ ap (λ (x : Kind). put_cuts x cuts old.banks) k;
+    })) (open_or_stuck old new stuck)
+opened_anyhow (Err e) p tree kind old new cuts walk k d opens banks stuck = tt
 
 -- a first cut isn't put
 pub refused_before : (p : Program) (tree : Tree) (kind : Kind) (s : State) (cuts : List (Option Stored)) → kind ≡ next_kind s.kind

@@ -1,6 +1,6 @@
 -- What the parts of a commit leave, put together; and the same of a state that differs in nothing that it is told of.
 use Rattle.std.proofs.Common.{◌≡◌, ◌↔◌, ℕ, zero, suc, ◌<◌, Bool, true, false, IsTrue, List, Option, Some, None, Result, Ok, Err, OnOk}
-use Rattle.std.proofs.Common.{refl, sym, ap, subst, ◌∙◌, arith}
+use Rattle.std.proofs.Common.{inl, inr, refl, sym, ap, subst, ◌∙◌, arith}
 use Rattle.std.specs.Option.{option_map}
 use Rattle.rationals.specs.Rational.{ℚ}
 use Rattle.rationals.specs.Sparse.{Entry}
@@ -28,12 +28,14 @@ use Rattle.run_ends.specs.declared.last.Last.{Last}
 use Rattle.run_ends.specs.declared.last.Lasts.{Lasts}
 use Rattle.run_ends.specs.Ends.{after_root}
 use Rattle.run_ends.specs.Lasts.{kept}
+use Rattle.pass_core.specs.declared.budget.Budget.{Budget}
 use Rattle.pass_core.specs.declared.state.Counts.{Counts}
 use Rattle.pass_core.specs.declared.state.State.{State}
 use Rattle.pass_core.specs.Counting.{first_stop, first_or, after_answer}
 use Rattle.pass_core.specs.Tabled.{KeepsPools}
 use Rattle.pass_core.specs.Left.{StaysInRun, IsTaken, IsOffered, OffersCut, ends_behind, ends_without, TakesComplete, TakesPoint}
-use Rattle.pass_core.specs.Left.{LeavesPoint, LeavesBy, OpensRun}
+use Rattle.pass_core.specs.Left.{LeavesPoint, LeavesBy, IsOpenOrStuck, StopsAsStuck, HaltsBy, LeavesAnyhow, OpensRun}
+use Rattle.pass_core.specs.Turns.{AreReady}
 
 -- ---- the run
 pub stays_then : (a b c : State) → StaysInRun a b → StaysInRun b c → StaysInRun a c
@@ -262,7 +264,60 @@ point_completed (Ok done) p tree n trial x value cut all a b c e h stays l s t k
     (point_left p tree n trial x value cut a b c (h both.0) stays l s t.kept.table both.1)
 point_completed (Err o) p tree n trial x value cut all a b c e h stays l s t k = tt
 
+-- ---- nor is what it leaves whatever stops the method
+halts_before : (all : Solved) (s : State) (counts : Counts) (table : Table) (is_begun : Bool) (new : State)
+    → HaltsBy all (record s { counts = counts; table = table; is_begun = is_begun }) new → HaltsBy all s new
+halts_before (solved.Point x value cut) s counts table is_begun new h = h
+halts_before (solved.NoPoint cut) s counts table is_begun new h = h
+halts_before solved.Loose s counts table is_begun new h =
+    record { lasts = h.lasts; banks = h.banks; ends = h.ends; lasting = h.lasting }
+halts_before solved.PivotsEnded s counts table is_begun new h =
+    record { lasts = h.lasts; banks = h.banks; ends = h.ends; lasting = h.lasting }
+halts_before (solved.Passed in_cut o) s counts table is_begun new h =
+    record { lasts = h.lasts; banks = h.banks; ends = h.ends; lasting = h.lasting }
+halts_before solved.NotGood s counts table is_begun new h =
+    record { lasts = h.lasts; banks = h.banks; ends = h.ends; lasting = h.lasting }
+
+pub anyhow_before : (n : ℕ) (trial : List Entry) (all : Solved) (s : State) (counts : Counts) (table : Table) (is_begun : Bool) (new : State)
+    → LeavesAnyhow n trial all (record s { counts = counts; table = table; is_begun = is_begun }) new → LeavesAnyhow n trial all s new
+anyhow_before n trial all s counts table is_begun new h =
+    record { banks = h.banks; lasting = h.lasting; halts = halts_before all s counts table is_begun new h.halts }
+
+pub anyhow_ready : (n : ℕ) (trial : List Entry) (all : Solved) (old s new : State)
+    → s ≡ record old { lasts = s.lasts; is_begun = s.is_begun } → LeavesAnyhow n trial all s new
+    → LeavesAnyhow n trial all (record old { lasts = s.lasts }) new
+anyhow_ready n trial all old s new e h =
+    anyhow_before n trial all (record old { lasts = s.lasts }) old.counts old.table s.is_begun new
+    (subst (λ (x : State). LeavesAnyhow n trial all x new) e h)
+
 -- ---- the opening of a run
+-- what stopped the method does so still, or it is stuck
+pub stuck_then : (a b c : State) → b.budget ≡ a.budget → StopsAsStuck a b → StopsAsStuck b c → StopsAsStuck a c
+stuck_then a b c same (inl e) (inl f) = inl (f ∙ e)
+stuck_then a b c same (inl e) (inr f) =
+    inr (f ∙ ap (λ (o : Option Open). first_stop o (reason.Solves b.budget.solves)) e
+    ∙ ap (λ (x : Budget). first_stop a.stop (reason.Solves x.solves)) same)
+stuck_then a b c same (inr e) (inl f) = inr (f ∙ e)
+stuck_then a b c same (inr e) (inr f) =
+    inr (f ∙ ap (λ (o : Option Open). first_stop o (reason.Solves b.budget.solves)) e
+    ∙ ap (λ (x : Budget). first_stop (first_stop a.stop (reason.Solves a.budget.solves)) (reason.Solves x.solves)) same
+    ∙ twice a.stop (reason.Solves a.budget.solves))
+  where
+    twice : (o : Option Open) (w : Open) → first_stop (first_stop o w) w ≡ first_stop o w
+    twice None w = refl
+    twice (Some first) w = refl
+
+pub open_or_stuck : (old new : State) → StopsAsStuck old new → old.stop ≡ None → IsOpenOrStuck old new
+open_or_stuck old new (inl e) none = inl (e ∙ none)
+open_or_stuck old new (inr e) none = inr (e ∙ ap (λ (o : Option Open). first_stop o (reason.Solves old.budget.solves)) none)
+
+-- where something was done before, places for last solves are there already
+pub ready_same : (old s : State) → s ≡ record old { lasts = s.lasts; is_begun = s.is_begun } → AreReady old s.lasts → s.is_begun ≡ true
+    → old.is_begun ≡ true → s ≡ old
+ready_same old s e ready begun was =
+    e ∙ ap (λ (l : Lasts). let x : State = record old { lasts = l; is_begun = s.is_begun } in x) (ready.same was)
+    ∙ ap (λ (b : Bool). let x : State = record old { is_begun = b } in x) (begun ∙ sym was)
+
 -- a cut is put into a pool, or the method is stuck
 pub put_others : (s new : State) (banks : Banks) (why : Option Open) → new ≡ record s { banks = banks; stop = why }
     → new ≡ record s { banks = new.banks; stop = new.stop }

@@ -283,20 +283,27 @@ pub made_one : {B : Type 0} (table : Option Table) (parents parents' : List ℕ)
     → AreParents parents' → B
 made_one table parents parents' h e t a = absurd (none_made table (AreParents parents) h t (subst AreParents (sym e) a))
 
+-- the frame is the program's
+frame_behind : (p : Program) (old mid : State) (grown : Bool) → (grown ≡ false → frame_of p ≡ old.frame)
+    → mid.frame ≡ pick grown (frame_of p) old.frame → mid.frame ≡ frame_of p
+frame_behind p old mid true same f = f
+frame_behind p old mid false same f = f ∙ sym (same refl)
+
+pub parents_behind : (p : Program) (old mid : State) (grown : Bool) → IsProgram p → (grown ≡ false → frame_of p ≡ old.frame)
+    → length p.nodes < nothing → mid.frame ≡ pick grown (frame_of p) old.frame → AreParents mid.frame.parents
+parents_behind p old mid grown i same few f =
+    subst (λ (x : Frame). AreParents x.parents) (sym (frame_behind p old mid grown same f)) (are_parents p i few)
+
 pub edited_tabled : (p q : Program) (old mid new : State) (grown : Bool) (dues : List Due) → IsProgram p → IsTabled q old
     → (grown ≡ false → frame_of p ≡ old.frame) → length p.nodes < nothing → mid.frame ≡ pick grown (frame_of p) old.frame → mid.table ≡ old.table
     → mid.is_begun ≡ old.is_begun → new.frame ≡ mid.frame → new.banks ≡ edited_banks grown p.nodes dues old.banks
     → (AreParents mid.frame.parents → (mid.is_begun ≡ false → grown ≡ false → IsUnused mid) → IsUnused new) → IsTabled p new
 edited_tabled p q old mid new grown dues i t same few f b z n banks unused =
     unused_tabled p new i (n ∙ mid_is) pools
-    (unused (subst (λ (x : Frame). AreParents x.parents) (sym mid_is) (are_parents p i few)) kept)
+    (unused (parents_behind p old mid grown i same few f) kept)
   where
-    picked : (g : Bool) → (g ≡ false → frame_of p ≡ old.frame) → pick g (frame_of p) old.frame ≡ frame_of p
-    picked true h = refl
-    picked false h = sym (h refl)
-
     mid_is : mid.frame ≡ frame_of p
-    mid_is = f ∙ picked grown same
+    mid_is = frame_behind p old mid grown same f
 
     pools : HasPools (length new.frame.parents) new.banks
     pools = subst (HasPools (length new.frame.parents)) (sym banks) (edited_pools grown p.nodes dues old.banks (length new.frame.parents)

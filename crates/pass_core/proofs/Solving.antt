@@ -19,15 +19,15 @@ use Rattle.pass_core.specs.Reasons.{PassesAtCost, solve_halts, IsOfSolve, GainsR
 use Rattle.pass_core.specs.Tabled.{EndsSolve, IsBegunBy}
 use Rattle.pass_core.specs.Turns.{PointsStand, KeepsPoints, IsTaskOf, EndsBy, node_halts, SolvesNode, AreReady, MakesStep}
 use Rattle.pass_core.specs.Turns.MakesStep.{solves}
-use Rattle.pass_core.specs.Left.{StaysInRun, LeavesBy}
+use Rattle.pass_core.specs.Left.{StaysInRun, LeavesBy, LeavesAnyhow}
 use Rattle.pass_core.proofs.Reasoning.{IsWithin, stuck_wider}
-use Rattle.pass_core.proofs.Leaving.{leaves_before, leaves_ready, left_by}
+use Rattle.pass_core.proofs.Leaving.{leaves_before, leaves_ready, left_by, anyhow_before, anyhow_ready}
 use Rattle.pass_core.proofs.Tabling.{read_machine, begun_flight, solve_ends, told_ends}
 
-on_five : {X E : Type 0} (r : Result X E) (A B C D F G : Type 0) → (A → B → C → D → F → G) → OnOk r A → OnOk r B → OnOk r C
-    → OnOk r D → OnOk r F → OnOk r G
-on_five (Ok x) A B C D F G f a b c d e = f a b c d e
-on_five (Err o) A B C D F G f a b c d e = tt
+on_six : {X E : Type 0} (r : Result X E) (A B C D F G H : Type 0) → (A → B → C → D → F → G → H) → OnOk r A → OnOk r B → OnOk r C
+    → OnOk r D → OnOk r F → OnOk r G → OnOk r H
+on_six (Ok x) A B C D F G H f a b c d e g = f a b c d e g
+on_six (Err o) A B C D F G H f a b c d e g = tt
 
 -- the program has one tree
 by_tree : (p : Program) (tree : Tree) (s : State) (n : ℕ) (trial : List Entry) (all : Solved) → tree_walk p ≡ Ok tree
@@ -51,17 +51,18 @@ pub solved_by : (p : Program) (tree : Tree) (s : State) (counts : Counts) (m : M
     → OnOk r (GainsReasons (IsOfSolve counts.all s.budget.solves all (solve_halts s.kind s.banks n t.trial all
     (PassesAtCost p tree s.lasts.nodes.items n t.trial all))) (record s { counts = counts }) new)
     → OnOk r (StaysInRun (record s { counts = counts }) new)
-    → OnOk r (new.stop ≡ None → LeavesBy p tree n t.trial all (record s { counts = counts }) new) → OnOk r (SolvesNode p s m n new)
-solved_by p tree s counts m n i walk frame b t all new r raised task problem stand exact answer ends points reasons stays leaves =
+    → OnOk r (new.stop ≡ None → LeavesBy p tree n t.trial all (record s { counts = counts }) new)
+    → OnOk r (LeavesAnyhow n t.trial all (record s { counts = counts }) new) → OnOk r (SolvesNode p s m n new)
+solved_by p tree s counts m n i walk frame b t all new r raised task problem stand exact answer ends points reasons stays leaves anyhow =
     let counted : State = record s { counts = counts } in
     let rm = read_machine p counted m n i frame b in
     let bf = begun_flight p counted m n i frame b in
     let halts = solve_halts s.kind s.banks n t.trial all (PassesAtCost p tree s.lasts.nodes.items n t.trial all) in
-    on_five r (EndsSolve (EndsBy t.trial all) counted new rm bf) (KeepsPoints p counted new)
+    on_six r (EndsSolve (EndsBy t.trial all) counted new rm bf) (KeepsPoints p counted new)
     (GainsReasons (IsOfSolve counts.all s.budget.solves all halts) counted new) (StaysInRun counted new)
-    (new.stop ≡ None → LeavesBy p tree n t.trial all counted new)
+    (new.stop ≡ None → LeavesBy p tree n t.trial all counted new) (LeavesAnyhow n t.trial all counted new)
     (SolvesNode p s m n new)
-    (λ e k g y l. record {
+    (λ e k g y l a. record {
       task = t;
       is_task = task;
       fits = problem;
@@ -78,7 +79,9 @@ solved_by p tree s counts m n i walk frame b t all new r raised task problem sta
           subst (λ (x : Tree). LeavesBy p x n t.trial (node_solved t) s new) same
           (leaves_before p tree n t.trial (node_solved t) s counts s.table s.is_begun new
           (left_by p tree n t.trial (node_solved t) all counted new (sym exact) (l stop)));
-    }) ends points reasons stays leaves
+      anyhow = anyhow_before n t.trial (node_solved t) s counts s.table s.is_begun new
+          (subst (λ (x : Solved). LeavesAnyhow n t.trial x counted new) exact a);
+    }) ends points reasons stays leaves anyhow
 
 -- the task is the same where the table changes
 task_before : (p : Program) (s : State) (table : Table) (n : ℕ) (t : Task) → IsTaskOf p (record s { table = table }) n t → IsTaskOf p s n t
@@ -96,6 +99,7 @@ solves_before p s table m n new h = record {
   answer = h.answer;
   leaves = λ tree walk stop.
       leaves_before p tree n h.task.trial (node_solved h.task) s s.counts table s.is_begun new (h.leaves tree walk stop);
+  anyhow = anyhow_before n h.task.trial (node_solved h.task) s s.counts table s.is_begun new h.anyhow;
 }
 
 -- a turn as a step
@@ -122,4 +126,5 @@ step_solved p old s m n new e ready h = solves s.lasts n ready (record {
       record { kind = k.kind; frame = k.frame; budget = k.budget; versions = k.versions };
   answer = h.answer;
   leaves = λ tree walk stop. leaves_ready p tree n h.task.trial (node_solved h.task) old s new e (h.leaves tree walk stop);
+  anyhow = anyhow_ready n h.task.trial (node_solved h.task) old s new e h.anyhow;
 })

@@ -24,7 +24,9 @@ use Rattle.run_ends.specs.declared.ends.Ends.{Ends}
 use Rattle.run_ends.specs.Lasts.{with_last, kept, joined_points}
 use Rattle.run_ends.specs.Costs.{joined_cost}
 use Rattle.run_ends.specs.Ends.{after_root, after_policy}
+use Rattle.proved_report.specs.declared.open.Open.{Open}
 use Rattle.proved_report.specs.declared.open.Open.TheVariants.{Solves}
+use Rattle.pass_core.specs.Counting.{first_stop}
 use Rattle.pass_core.specs.Explained.{cut_given}
 use Rattle.pass_core.specs.declared.state.State.{State}
 
@@ -112,12 +114,16 @@ LeavesBy p tree n trial (solved.Passed in_cut o) old new = ⊥
 LeavesBy p tree n trial solved.NotGood old new = ⊥
 
 -- ---- what stops the method or not
--- the pools of a run of this kind behind the cut of node n, whatever its pool answers; the root has no pool
+-- the pools of a run of this kind behind an offer of this cut, whatever its pool answers
+abbrev pub with_offered : Kind → Stored → List Entry → Banks → Banks
+with_offered kind cut trial b = with_pools kind
+    (with_pool (may_take cut) (λ p. after_offer p cut (offer_of p cut trial)) (source_of cut).node (pools_of kind b)) b
+
+-- those behind the cut of node n; the root has no pool
 abbrev pub offered_banks : Kind → ℕ → Option Stored → List Entry → Banks → Banks
 offered_banks kind zero cut trial b = b
 offered_banks kind (suc n) None trial b = b
-offered_banks kind (suc n) (Some cut) trial b = with_pools kind
-    (with_pool (may_take cut) (λ p. after_offer p cut (offer_of p cut trial)) (source_of cut).node (pools_of kind b)) b
+offered_banks kind (suc n) (Some cut) trial b = with_offered kind cut trial b
 
 -- the last solves, the pools and the ends stay, and so does the reason that lasts
 pub record KeepsKnown (old new : State) : Type 0 where
@@ -129,6 +135,18 @@ pub record KeepsKnown (old new : State) : Type 0 where
 -- nothing stops the method, or it is told as stuck by the number of solves
 abbrev pub IsOpenOrStuck : State → State → Type 0
 IsOpenOrStuck old new = (new.stop ≡ None) ⊎ (new.stop ≡ Some (Solves old.budget.solves))
+
+-- what stops the method is as it was; or it is told as stuck so, where nothing stopped it
+abbrev pub StopsAsStuck : State → State → Type 0
+StopsAsStuck old new = (new.stop ≡ old.stop) ⊎ (new.stop ≡ first_stop old.stop (Solves old.budget.solves))
+
+-- a reason that stops the method stays, and so does one that lasts, which is gained only where one stops the method; and where none stopped
+-- it, and none lasts, nothing stops it, or it is told as stuck
+pub record KeepsStops (old new : State) : Type 0 where
+  pub stop : (why : Open) → old.stop ≡ Some why → new.stop ≡ Some why
+  pub lasting : new.lasting ≡ None → old.lasting ≡ None
+  pub gains : new.stop ≡ None → new.lasting ≡ old.lasting
+  pub halts : old.stop ≡ None → new.lasting ≡ None → IsOpenOrStuck old new
 
 -- where no reason stopped the method, and none lasts behind a point or where there is none; what came to nothing leaves all that is known
 abbrev pub HaltsBy : Solved → State → State → Type 0

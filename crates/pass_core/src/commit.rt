@@ -1,5 +1,5 @@
 //! What a solve leaves.
-ghost use Rattle.std.specs.Prelude.{◌≡◌, ◌<◌, ℕ, true, false, None, Some, Ok, Err, IfOk, IfSome, OnOk, OnErr};
+ghost use Rattle.std.specs.Prelude.{◌≡◌, ◌⊎◌, ◌<◌, ℕ, true, false, None, Some, Ok, Err, IfOk, IfSome, OnOk, OnErr};
 ghost use Rattle.rationals.specs.Passes.{Operation};
 ghost use Rattle.scen_defs.specs.Lists.{pick};
 ghost use Rattle.scen_defs.specs.Program.{content, node_at, Program as ProgramOf};
@@ -21,7 +21,7 @@ ghost use Rattle.pass_core.specs.Explained.{IsTask, GivesCut, cut_given, point_f
 ghost use Rattle.pass_core.specs.Tabled.{pool_number, IsSolving, EndsSolve, Drops, RaisesPool, KeepsPools, committed_with, IsAbout};
 ghost use Rattle.pass_core.specs.Turns.{AreUpTo, KeepsPoints, EndsBy};
 ghost use Rattle.pass_core.specs.Left.{StaysInRun, IsOffered, OffersCut, ends_behind, ends_without, TakesComplete};
-ghost use Rattle.pass_core.specs.Left.{TakesPoint, LeavesNone, LeavesBy};
+ghost use Rattle.pass_core.specs.Left.{TakesPoint, LeavesNone, LeavesBy, with_offered, offered_banks, KeepsStops, LeavesAnyhow};
 
 use crate::state::{Begun, State};
 use cut_pool::Offer;
@@ -74,6 +74,7 @@ impl State {
         ensures left { (m : Machine) (f : Flight) → IsSolving self.old m f begun.now.readings.items
             → ((k : ℕ) → m.number k ≡ pool_number self.old k) → f.node ≡ node → IsAbout node solved → OnOk result (self.new.stop ≡ None
             → LeavesBy (content program.now) tree.now node begun.now.task.trial solved self.old self.new) }
+        ensures anyhow { OnOk result (LeavesAnyhow node begun.now.task.trial solved self.old self.new) }
     {
         match solved {
             Solved::Point { point, value, cut } => {
@@ -144,6 +145,9 @@ impl State {
             (AreBehind self.old.lasts.nodes.items node begun.now.task.trial point self.new.lasts.nodes.items) }
         ensures stays { OnOk result (StaysInRun self.old self.new) }
         ensures left { OnOk result (self.new.stop ≡ None → TakesPoint node begun.now.task.trial point value cut self.old self.new) }
+        ensures banks { OnOk result ((self.new.banks ≡ self.old.banks)
+            ⊎ (self.new.banks ≡ offered_banks self.old.kind node cut begun.now.task.trial self.old.banks)) }
+        ensures stops { OnOk result (KeepsStops self.old self.new) }
     {
         if !self.keep(node, &begun.task.trial, point)? {
             return Ok(());
@@ -175,6 +179,8 @@ impl State {
         ensures offers { OnOk result (self.new.stop ≡ None
             → OffersCut self.old.kind node cut trial.now self.old.banks self.new.banks) }
         ensures ends { OnOk result (self.new.ends ≡ ends_behind self.old.kind node value cut self.old.ends) }
+        ensures banks { OnOk result (self.new.banks ≡ offered_banks self.old.kind node cut trial.now self.old.banks) }
+        ensures stops { OnOk result (KeepsStops self.old self.new) }
     {
         match cut {
             Some(cut) if node > 0 => self.offer(cut, trial),
@@ -201,6 +207,9 @@ impl State {
             OnOk result (GainsReasons (IsOfSolve self.old.counts.all self.old.budget.solves all halts) self.old self.new) }
         ensures stays { OnOk result (StaysInRun self.old self.new) }
         ensures left { OnOk result (self.new.stop ≡ None → LeavesNone node begun.now.task.trial cut self.old self.new) }
+        ensures banks { OnOk result
+            (self.new.banks ≡ offered_banks self.old.kind node (Some cut) begun.now.task.trial self.old.banks) }
+        ensures stops { OnOk result (KeepsStops self.old self.new) }
     {
         self.lasts.forget(node);
         let is_raised = self.take_ray(node, &begun.task.trial, cut)?;
@@ -223,6 +232,8 @@ impl State {
         ensures offers { OnOk result (self.new.stop ≡ None
             → OffersCut self.old.kind node (Some cut) trial.now self.old.banks self.new.banks) }
         ensures ends { OnOk result (self.new.ends ≡ ends_without node cut self.old.ends) }
+        ensures banks { OnOk result (self.new.banks ≡ offered_banks self.old.kind node (Some cut) trial.now self.old.banks) }
+        ensures stops { OnOk result (KeepsStops self.old self.new) }
     {
         if node > 0 {
             return self.offer(cut, trial);
@@ -297,6 +308,8 @@ impl State {
         ensures stays { OnOk result (StaysInRun self.old self.new) }
         ensures offered { OnOk result (self.new.stop ≡ None → IsOffered self.old.kind cut trial.now self.old.banks self.new.banks) }
         ensures ends { OnOk result (self.new.ends ≡ self.old.ends) }
+        ensures banks { OnOk result (self.new.banks ≡ with_offered self.old.kind cut trial.now self.old.banks) }
+        ensures stops { OnOk result (KeepsStops self.old self.new) }
     {
         match self.banks.offer(self.kind, cut, trial)? {
             Some(offer) => Ok(self.judged(offer)),
@@ -354,6 +367,7 @@ impl State {
         ensures left { (m : Machine) → Fits self.old.table m → OnOk result (self.new.stop ≡ None → (self.old.stop ≡ None)
             × TakesComplete self.old.table.complete (content program.now) tree.now self.old.kind self.old.lasts.nodes.items
             self.old.ends self.new.ends) }
+        ensures stops { OnOk result (KeepsStops self.old self.new) }
     {
         if !self.table.is_complete() {
             return Ok(());

@@ -1,5 +1,5 @@
 //! What an edit of the program leaves.
-ghost use Rattle.std.specs.Prelude.{◌≡◌, ◌<◌, ◌∷◌, [], false, length, IfOk, OnOk};
+ghost use Rattle.std.specs.Prelude.{◌≡◌, ◌<◌, ◌∷◌, [], false, None, length, IfOk, OnOk};
 ghost use Rattle.scen_defs.specs.Lists.{Each, pick};
 ghost use Rattle.scen_defs.specs.Program.{content, Program as ProgramOf};
 ghost use Rattle.scen_defs.specs.Valid.{IsProgram};
@@ -170,6 +170,8 @@ impl State {
         ensures counts { OnOk result (self.new.counts ≡ after_edit self.old.counts) }
         ensures unused { AreParents self.old.frame.parents → (self.old.is_begun ≡ false → is_grown ≡ false → IsUnused self.old)
             → OnOk result (IsUnused self.new) }
+        ensures begun { OnOk result (self.new.is_begun ≡ false) }
+        ensures stop { AreParents self.old.frame.parents → OnOk result (self.new.stop ≡ None) }
     {
         self.ends = Ends::none();
         self.lasts = Lasts::none(alloc, 0)?;
@@ -193,6 +195,7 @@ impl State {
         ensures counts { self.new.counts ≡ self.old.counts }
         ensures unused { AreParents self.old.frame.parents → (self.old.is_begun ≡ false → is_grown ≡ false → IsUnused self.old)
             → OnOk result (IsUnused self.new) }
+        ensures stop { AreParents self.old.frame.parents → OnOk result (self.new.stop ≡ self.old.stop) }
     {
         if self.is_begun {
             return self.forget(alloc);
@@ -213,6 +216,7 @@ impl State {
         ensures points { self.new.lasts ≡ self.old.lasts }
         ensures counts { self.new.counts ≡ self.old.counts }
         ensures unused { AreParents self.old.frame.parents → OnOk result (IsUnused self.new) }
+        ensures stop { AreParents self.old.frame.parents → OnOk result (self.new.stop ≡ self.old.stop) }
     {
         let Some(table) = Turns::start(alloc, self.frame.parents())? else {
             self.stuck();

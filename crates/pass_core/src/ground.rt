@@ -18,9 +18,9 @@ ghost use Rattle.pass_core.specs.Made.{BankBooks, run_book, AreBooksOf, CutsAreM
 ghost use Rattle.pass_core.specs.Tabled.{IsTabledBy, KeepsTable, KeepsPools, Opens};
 ghost use Rattle.pass_core.specs.Reasons.{IsOfOpening, GainsReasons};
 ghost use Rattle.pass_core.specs.Turns.{KeepsPoints, Progresses, first_walk, AreFirstCuts, PutsFirstCuts};
-ghost use Rattle.pass_core.specs.Turns.{FaultsFirst, IsStuckBefore, PassesBefore, FaultsBefore};
-ghost use Rattle.pass_core.specs.Left.{next_kind, OpensRun};
-ghost use Rattle.pass_core.specs.Grounds.{OpeningDual, FaultsDual, put_cut, IsNotPut, OneIsNotPut, PutsCut, PutsCuts};
+ghost use Rattle.pass_core.specs.Turns.{FaultsFirst, IsStuckBefore, PassesBefore, FaultsBefore, OpensAnyhow};
+ghost use Rattle.pass_core.specs.Left.{StopsAsStuck, next_kind, OpensRun};
+ghost use Rattle.pass_core.specs.Grounds.{OpeningDual, FaultsDual, put_cut, put_cuts, IsNotPut, OneIsNotPut, PutsCut, PutsCuts};
 
 use crate::state::State;
 use cut_proof::{CutFault, SharedCut};
@@ -114,6 +114,8 @@ impl State {
         ensures opened { OnOk result (self.new.stop ≡ None → OpensRun self.old self.new) }
         ensures first { let p = content program.now in IsProgram p → tree_walk p ≡ Ok tree.now → self.old.frame ≡ frame_of p
             → OnOk result (self.new.stop ≡ None → PutsFirstCuts p tree.now self.old self.new) }
+        ensures anyhow { let p = content program.now in IsProgram p → tree_walk p ≡ Ok tree.now → self.old.frame ≡ frame_of p
+            → OnOk result (OpensAnyhow p self.old self.new) }
         // behind a run that isn't a Cost run it opens the next one, or stops the method
         ensures progress { (self.old.kind ≡ Kind.Cost → ⊥) → OnOk result (Progresses self.old self.new) }
     {
@@ -263,6 +265,8 @@ impl State {
             OnOk result (GainsReasons (IsOfOpening self.old.budget.solves stuck (λ o. ⊥)) self.old self.new) }
         ensures opened { kind ≡ next_kind self.old.kind → OnOk result (OpensRun self.old self.new) }
         ensures puts { OnOk result (self.new.stop ≡ None → PutsCuts kind cuts.items self.old.banks self.new.banks) }
+        ensures banks { OnOk result (self.new.banks ≡ put_cuts kind cuts.items self.old.banks) }
+        ensures stuck { OnOk result (StopsAsStuck self.old self.new) }
     {
         self.put_all(kind, &cuts)?;
         self.kind = kind;
@@ -283,6 +287,8 @@ impl State {
             OnOk result (GainsReasons (IsOfOpening self.old.budget.solves stuck (λ o. ⊥)) self.old self.new) }
         ensures others { OnOk result (self.new ≡ record self.old { banks = self.new.banks; stop = self.new.stop }) }
         ensures puts { OnOk result (self.new.stop ≡ None → PutsCuts kind cuts.now self.old.banks self.new.banks) }
+        ensures banks { OnOk result (self.new.banks ≡ put_cuts kind cuts.now self.old.banks) }
+        ensures stuck { OnOk result (StopsAsStuck self.old self.new) }
     {
         for place in cuts {
             self.put(kind, place)?;
@@ -300,6 +306,7 @@ impl State {
         ensures banks { OnOk result (self.new.banks ≡ put_cut kind place.now self.old.banks) }
         ensures others { OnOk result (self.new ≡ record self.old { banks = self.new.banks; stop = self.new.stop }) }
         ensures puts { OnOk result (self.new.stop ≡ None → (self.old.stop ≡ None) × PutsCut kind place.now self.old.banks self.new.banks) }
+        ensures stuck { OnOk result (StopsAsStuck self.old self.new) }
     {
         let Some(cut) = place else {
             return Ok(());

@@ -26,3 +26,4 @@ pub mod Openings
 pub mod NeverStuck
 pub mod RootForms
 pub mod Ways
+pub mod WhereMet

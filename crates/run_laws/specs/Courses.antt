@@ -10,7 +10,7 @@ use Rattle.run_ends.specs.Ends.{no_ends}
 use Rattle.pass_core.specs.Counting.{after_report}
 use Rattle.pass_core.specs.declared.state.State.{State}
 use Rattle.tree_method.specs.Stands.{HasFewNodes, SolvesNodes}
-use Rattle.keep_laws.specs.Laws.{KeepsCuts}
+use Rattle.keep_laws.specs.Laws.{CutsAreNow}
 
 -- A Feasible run begins, in which nothing was done. Nothing is known but cuts, which are made of the data of the program and up to date;
 -- and the pools changed at most so often and once for each solve.
@@ -22,7 +22,7 @@ pub record IsOpening (p : Program) (most : ℕ) (s : State) : Type 0 where
   pub stop : s.stop ≡ None
   pub lasting : s.lasting ≡ None
   pub is_begun : s.is_begun ≡ false
-  pub cuts : KeepsCuts p s.versions (most + s.counts.all) s.banks
+  pub cuts : CutsAreNow p s.versions (most + s.counts.all) s.banks
 
 -- behind a report solves are counted from 0 again, and what stopped the method stays only where a later step of the run would do it again
 abbrev pub behind_report : State → State

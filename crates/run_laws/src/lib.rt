@@ -5,6 +5,7 @@ ghost use Rattle.run_laws.specs.Laws.{ClosedRunsMeet, RunsGoOn, EndsAreSettled, 
 ghost use Rattle.run_laws.specs.Finished.{EndsAreFinished};
 ghost use Rattle.run_laws.specs.Settled.{SettledClaimsHold};
 ghost use Rattle.run_laws.specs.Stuck.{SolvesAreUsed, OpeningsAreMade, NeverStuck};
+ghost use Rattle.run_laws.specs.WhereMet.{ReasonsWereMet};
 ghost use Rattle.run_laws.specs.Ways.{WaysBegin, SolvesKeepWay, WaysHaveNumbers, ReportsKeepWay, EditsKeepWay};
 
 /// A closed Cost run that nothing stops has both ends, and they are equal: the least cost is found.
@@ -75,4 +76,9 @@ pub fn reports_keep_way()
 /// An edit does so too: the cuts that are left behind it are made of the data of the program after it.
 pub fn edits_keep_way()
     ensures { EditsKeepWay }
+{}
+
+/// An operation that a state keeps of a cut or of a cost passed behind the solve with its number, on the way to the state.
+pub fn reasons_were_met()
+    ensures { ReasonsWereMet }
 {}

@@ -115,13 +115,13 @@ module _ (test : Part → Bool) (field : Version → ℕ)
           let next = rest (omega (arith, same, few)) in
           omega (arith, same, next)
 
-rows_here : (part : Part) (n : ℕ) (vs : List Version) → n < length vs → (version_of vs n).rows + 1 < 2 ^ 32
+pub rows_here : (part : Part) (n : ℕ) (vs : List Version) → n < length vs → (version_of vs n).rows + 1 < 2 ^ 32
     → (version_of (with_next part n vs) n).rows ≡ one_if (is_rows part) + (version_of vs n).rows
 rows_here Rows n vs l few = let e : (version_of (with_next Rows n vs) n).rows ≡ raised (version_of vs n).rows = ap (λ (v : Version). v.rows) (get_or-set_same vs n _ untouched l) in omega (arith, e, few)
 rows_here Costs n vs l few = let e : (version_of (with_next Costs n vs) n).rows ≡ (version_of vs n).rows = ap (λ (v : Version). v.rows) (get_or-set_same vs n _ untouched l) in omega (arith, e)
 rows_here Gone n vs l few = omega arith
 
-costs_here : (part : Part) (n : ℕ) (vs : List Version) → n < length vs → (version_of vs n).costs + 1 < 2 ^ 32
+pub costs_here : (part : Part) (n : ℕ) (vs : List Version) → n < length vs → (version_of vs n).costs + 1 < 2 ^ 32
     → (version_of (with_next part n vs) n).costs ≡ one_if (is_costs part) + (version_of vs n).costs
 costs_here Rows n vs l few = let e : (version_of (with_next Rows n vs) n).costs ≡ (version_of vs n).costs = ap (λ (v : Version). v.costs) (get_or-set_same vs n _ untouched l) in omega (arith, e)
 costs_here Costs n vs l few = let e : (version_of (with_next Costs n vs) n).costs ≡ raised (version_of vs n).costs = ap (λ (v : Version). v.costs) (get_or-set_same vs n _ untouched l) in omega (arith, e, few)
@@ -133,7 +133,7 @@ more_untouched [] k n = never_touched k n
 more_untouched (v ∷ vs) k zero = refl
 more_untouched (v ∷ vs) k (suc n) = more_untouched vs k n
 
-fitted : (grows : Bool) (nodes : List (Option Node)) (vs : List Version) (n : ℕ) → version_of (fit_versions grows nodes vs) n ≡ version_of vs n
+pub fitted : (grows : Bool) (nodes : List (Option Node)) (vs : List Version) (n : ℕ) → version_of (fit_versions grows nodes vs) n ≡ version_of vs n
 fitted true nodes vs n = more_untouched vs (length nodes - length vs) n
 fitted false nodes vs n = refl
 

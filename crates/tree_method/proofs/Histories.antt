@@ -170,7 +170,7 @@ module _ (b : BankBooks) (shift : Option Shift) (has : (bank : Bank) (t : Touch)
       (from_touches v all ts)
 
 -- the shift that an edit is, with the version of the rows that it touches
-shift_version : (p : Program) (e : Edit) (versions : List Version) (s : Shift) → shift_of p e (rows_version (touches_of p e versions)) ≡ Some s
+pub shift_version : (p : Program) (e : Edit) (versions : List Version) (s : Shift) → shift_of p e (rows_version (touches_of p e versions)) ≡ Some s
     → ((n : ℕ) → (version_of versions n).rows + 1 < 2 ^ 32) → rows_version (touches_of p e versions) ≡ suc (version_of versions s.node).rows
 shift_version p (Set name (CostEntry j) v) versions s e few = absurd (cc)
 shift_version p (Set name (Matrix i j) v) versions s e few = absurd (cc)
@@ -195,7 +195,7 @@ in_book : (bank : Bank) (first : Program) (es : List Edit) → book (kind_of ban
 in_book Plain first es = refl
 in_book Cone first es = refl
 
-carried_of : (book : Book) (bank : Bank) (t : Touch) (s : Shift) → IsShift book (in_bank bank s) → IsShiftOf book (carried bank t (Some s))
+pub carried_of : (book : Book) (bank : Bank) (t : Touch) (s : Shift) → IsShift book (in_bank bank s) → IsShiftOf book (carried bank t (Some s))
 carried_of book bank t s h = go (is_rows t.part && (eqb t.node s.node && eqb t.version s.version))
   where
     go : (fits : Bool) → IsShiftOf book (pick fits (Some (in_bank bank s)) None)

@@ -245,13 +245,13 @@ pass_arises p old new k o x r e = go (arises p old new (Passed (Solve k) o) x (i
     go (inr h) = h
 
 -- one of a cut, or of a cost, passes so, unless it was kept before these solves
-pub cut_arises : (p : Program) (old new : State) (k : ℕ) (o : Operation) → SolvesNodes p old new → new.stop ≡ Some (Passed (Cut k) o)
+pub cut_arises : (p : Program) (old new : State) (k : ℕ) (o : Operation) → SolvesNodes p old new → HasReason new (Passed (Cut k) o)
     → HasReason old (Passed (Cut k) o) ⊎ CutPasses p k o old new
-cut_arises p old new k o x e = arises p old new (Passed (Cut k) o) x (inl e)
+cut_arises p old new k o x h = arises p old new (Passed (Cut k) o) x h
 
-pub cost_arises : (p : Program) (old new : State) (k : ℕ) (o : Operation) → SolvesNodes p old new → new.stop ≡ Some (Passed (Cost k) o)
+pub cost_arises : (p : Program) (old new : State) (k : ℕ) (o : Operation) → SolvesNodes p old new → HasReason new (Passed (Cost k) o)
     → HasReason old (Passed (Cost k) o) ⊎ CostPasses p k o old new
-cost_arises p old new k o x e = arises p old new (Passed (Cost k) o) x (inl e)
+cost_arises p old new k o x h = arises p old new (Passed (Cost k) o) x h
 
 -- one before a run passes so
 pub opening_arises : (p : Program) (old new : State) (o : Operation) → SolvesNodes p old new → IsCleared old

@@ -50,7 +50,7 @@ use Rattle.tree_method.specs.declared.found.Found.{Found}
 use Rattle.tree_method.specs.declared.method.Working.{Working}
 use Rattle.tree_method.specs.declared.method.Method.{Method}
 use Rattle.tree_method.specs.declared.method.Method.TheVariants.{Working as AtWork}
-use Rattle.tree_method.specs.Edited.{is_grown, KeepsTabled, IsEdited, HasNoTree}
+use Rattle.tree_method.specs.Edited.{is_grown, KeepsTabled, ClearsStop, IsEdited, HasNoTree}
 use Rattle.tree_method.specs.Laws.{TouchesCarry}
 use Rattle.tree_method.specs.Stands.{LeavesOpen, TellsWhy, IsInBudget, WorksOn, StandsOn, settled_in}
 use Rattle.tree_method.specs.Stands.{IsAtEnd, SolvesNodes, SolvesOnce, none, more, anew, SolvesAnew}
@@ -96,7 +96,7 @@ same_frame : (a b : List ℕ) (c d : List Position) (e f : List ℕ) (g h : List
 same_frame a b c d e f g h i j k l = cc
 
 -- where no node comes or goes, the frame stays
-frame_stays : (p : Program) (e : Edit) → is_grown e ≡ false → frame_of (after p e) ≡ frame_of p
+pub frame_stays : (p : Program) (e : Edit) → is_grown e ≡ false → frame_of (after p e) ≡ frame_of p
 frame_stays p (Set name entry v) g =
     let nodes : List (Option Node) = change_node (home_of p name entry) (with_value p entry v) p.nodes in
     same_frame (map parent_of nodes) (map parent_of p.nodes) (map position_of nodes) (map position_of p.nodes)
@@ -355,19 +355,31 @@ versions_tabled q old new e h = let t = h.1 in (
   }),
 )
 
--- what is kept of the table behind an edit, where the versions of what it touches rose before
+-- what holds behind an edit, where the versions of what it touches rose before
+risen_behind : (Holds : Type 0) (p q : Program) (g h : Bool) (old mid : State) → q ≡ p → h ≡ g → mid ≡ record old { versions = mid.versions }
+    → ((r : Program) → IsTabled r mid → (h ≡ false → frame_of q ≡ mid.frame) → length q.nodes < nothing → Holds)
+    → (r : Program) → IsTabled r old → (g ≡ false → frame_of p ≡ old.frame) → length p.nodes < nothing → Holds
+risen_behind Holds p q g h old mid a b e k = λ r t f few.
+    k r (versions_tabled r old mid e t) (λ n. ap frame_of a ∙ f (sym b ∙ n) ∙ sym (ap (λ (s : State). s.frame) e))
+    (subst (λ (x : Program). length x.nodes < nothing) (sym a) few)
+
+-- what is kept of the table
 pub tabled_behind : (p q : Program) (g h : Bool) (old mid new : State) → q ≡ p → h ≡ g → mid ≡ record old { versions = mid.versions }
     → KeepsTabled q h mid new → KeepsTabled p g old new
 tabled_behind p q g h old mid new a b e k = λ r t f few.
-    subst (λ (x : Program). IsTabled x new) a
-    (k r (versions_tabled r old mid e t) (λ n. ap frame_of a ∙ f (sym b ∙ n) ∙ sym (ap (λ (s : State). s.frame) e))
-    (subst (λ (x : Program). length x.nodes < nothing) (sym a) few))
+    subst (λ (x : Program). IsTabled x new) a (risen_behind (IsTabled q new) p q g h old mid a b e k r t f few)
 
-pub tabled_if_ok : {X E : Type 0} (r : Result X E) (p : Program) (g : Bool) (old new : State)
-    → ((q : Program) → IsTabled q old → (g ≡ false → frame_of p ≡ old.frame) → length p.nodes < nothing → OnOk r (IsTabled p new))
-    → OnOk r (KeepsTabled p g old new)
-tabled_if_ok (Ok x) p g old new h = h
-tabled_if_ok (Err e) p g old new h = tt
+-- and that nothing stops the method
+pub cleared_behind : (p q : Program) (g h : Bool) (old mid new : State) → q ≡ p → h ≡ g → mid ≡ record old { versions = mid.versions }
+    → ClearsStop q h mid new → ClearsStop p g old new
+cleared_behind p q g h old mid new a b e k = risen_behind (new.stop ≡ None) p q g h old mid a b e k
+
+-- where a call gives Ok
+pub behind_if_ok : {X E : Type 0} (r : Result X E) (Holds : Type 0) (p : Program) (g : Bool) (old : State)
+    → ((q : Program) → IsTabled q old → (g ≡ false → frame_of p ≡ old.frame) → length p.nodes < nothing → OnOk r Holds)
+    → OnOk r ((q : Program) → IsTabled q old → (g ≡ false → frame_of p ≡ old.frame) → length p.nodes < nothing → Holds)
+behind_if_ok (Ok x) Holds p g old h = h
+behind_if_ok (Err e) Holds p g old h = tt
 
 works_behind : (p : Program) (e : Edit) (budget : Budget) (old new : Working) → IsProgram p → WorksOn p budget old → IsEdited p e old new
     → KeepsTabled (after p e) (is_grown e) old.state new.state → WorksOn (after p e) budget new

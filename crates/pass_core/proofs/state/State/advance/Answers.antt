@@ -6,13 +6,14 @@ use Rattle.scen_defs.specs.declared.report.Kind.{Kind}
 use Rattle.scen_defs.specs.declared.report.Kind.TheVariants.{Cost}
 use Rattle.pass_core.specs.declared.state.State.{State}
 use Rattle.scen_tree.specs.Trees.{Tree}
-use Rattle.pass_core.specs.Turns.{EndsAnyhow, PutsFirstCuts}
+use Rattle.pass_core.specs.Turns.{EndsAnyhow, PutsFirstCuts, OpensAnyhow}
 use Rattle.pass_core.specs.Turns.MakesStep.{begins_none, opens_run}
 use Rattle.pass_core.proofs.Progressing.{ready_progresses, ready_rests}
 use Rattle.pass_core.proofs.Reasoning.{ready_gains}
 use Rattle.pass_core.proofs.Grounding.{opening_stuck}
 use Rattle.pass_core.proofs.Solving.{solves_before, step_solved}
-use Rattle.pass_core.proofs.Leaving.{ready_stays, ready_opens}
+use Rattle.pass_core.proofs.Beginning.{closed_begun}
+use Rattle.pass_core.proofs.Leaving.{ready_stays, ready_same, ready_opens}
 use Rattle.pass_core.proofs.FirstCuts.{ready_puts}
 use Rattle.pass_core.specs.Tabled.{IsTabledBy, HasRoom, IsBegunBy}
 use Rattle.pass_core.proofs.Tabling.{ready_tabled, refit, room_of, room_in, begun_by, rested, opening, turned}
@@ -94,6 +95,10 @@ returns-then-ne-clause-solves c = λ m i walk frame t stand.
     subst (λ (t : Tree). PutsFirstCuts p t c.args.self.now c.open_next.new.self) same
     (ready_puts p c.args.tree.now c.args.self.now s c.open_next.new.self c.in_ok-get_ready.ensures.others
     (c.in_ok-open_next.ensures.first i walk (ap (λ (x : State). x.frame) c.in_ok-get_ready.ensures.others ∙ frame) stop)))
+    (let begun = closed_begun p c.args.self.now i m frame t ((c.if-is_closed.ensures.meaning m u.fits).0 refl) in
+    subst (λ (x : State). OpensAnyhow p x c.open_next.new.self)
+    (ready_same c.args.self.now s c.in_ok-get_ready.ensures.others c.in_ok-get_ready.ensures.ready c.in_ok-get_ready.ensures.begun begun)
+    (c.in_ok-open_next.ensures.anyhow i walk (ap (λ (x : State). x.frame) c.in_ok-get_ready.ensures.others ∙ frame)))
 
 pub returns-in_ok-solve-in-Some-clause-solves : goal.returns-in_ok-solve-in-Some-clause-solves
 returns-in_ok-solve-in-Some-clause-solves c = λ m i walk frame t stand.

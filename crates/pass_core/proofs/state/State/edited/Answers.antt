@@ -4,7 +4,7 @@ use Rattle.cut_banks.specs.Banks.{swept_banks}
 use Rattle.one_worker.specs.Parents.{AreParents}
 use Rattle.pass_core.specs.Tabled.{IsTabled, IsUnused}
 use Rattle.pass_core.proofs.Explaining.{on_ok}
-use Rattle.pass_core.proofs.Parentage.{edited_tabled, each_ok}
+use Rattle.pass_core.proofs.Parentage.{edited_tabled, parents_behind, each_ok}
 use Rattle.pass_core.specs.Explained.{IsUnstopped}
 use Rattle.pass_core.specs.Made.{CutsAreMade}
 use Rattle.pass_core.proofs.MadeAfterEdits.{all_made_behind}
@@ -26,6 +26,11 @@ returns-clause-tabled c = λ q t same few.
     (λ parents kept. unused kept parents))
     (each_ok c.begin_anew.result (AreParents mid.frame.parents) (mid.is_begun ≡ false → c.args.is_grown ≡ false → IsUnused mid) (IsUnused new)
     c.begin_anew.ensures.unused)
+
+pub returns-clause-stop : goal.returns-clause-stop
+returns-clause-stop c = λ q t same few.
+    c.begin_anew.ensures.stop (parents_behind (content c.args.program.now) c.args.self.now c.sweep.new.self c.args.is_grown c.requires same few
+    (c.sweep.ensures.frame ∙ c.in_ok-grow.ensures.frame))
 
 pub returns-clause-made : goal.returns-clause-made
 returns-clause-made c = λ b h all.

@@ -6,9 +6,9 @@ use Rattle.scen_defs.specs.Program.{content}
 use Rattle.pass_core.specs.Left.{OpensRun}
 use Rattle.pass_core.proofs.Tabling.{still_tabled}
 use Rattle.pass_core.specs.Reasons.{IsOfOpening, GainsReasons}
-use Rattle.pass_core.specs.Turns.{IsStuckBefore, PassesBefore}
+use Rattle.pass_core.specs.Turns.{IsStuckBefore, PassesBefore, OpensAnyhow, stays_closed}
 use Rattle.pass_core.specs.Grounds.{OneIsNotPut}
-use Rattle.pass_core.proofs.FirstCuts.{refused_before}
+use Rattle.pass_core.proofs.FirstCuts.{opened_anyhow, refused_before}
 use Rattle.pass_core.proofs.Reasoning.{wider_reasons, wider_opening}
 use Rattle.pass_core.proofs.Progressing.{opened_progresses, stopped_progresses}
 use Rattle.pass_core.specs.Made.{KeepsMade, CutsAreMade}
@@ -82,3 +82,16 @@ returns-in-Ok-clause-progress c = λ unlike.
 pub returns-in-Err-clause-progress : goal.returns-in-Err-clause-progress
 returns-in-Err-clause-progress c = λ unlike.
     stopped_progresses c.not_opened.result c.args.self.now c.not_opened.new.self c.not_opened.ensures.stops c.not_opened.ensures.others
+
+pub returns-in-Ok-clause-anyhow : goal.returns-in-Ok-clause-anyhow
+returns-in-Ok-clause-anyhow c = λ i walk frame.
+    opened_anyhow c.open.result (content c.args.program.now) c.args.tree.now c.next-kind.result c.args.self.now c.open.new.self c.in-Ok.cuts.items
+    walk c.next-kind.ensures.kind (c.in-Ok.ensures.first i walk frame) (c.open.ensures.opened c.next-kind.ensures.kind)
+    c.open.ensures.banks c.open.ensures.stuck
+
+pub returns-in-Err-clause-anyhow : goal.returns-in-Err-clause-anyhow
+returns-in-Err-clause-anyhow c = λ i walk frame.
+    let old = c.args.self.now in
+    let new = c.not_opened.new.self in
+    on_ok c.not_opened.result (new ≡ record old { stop = new.stop }) (OpensAnyhow (content c.args.program.now) old new)
+    (λ e. stays_closed e) c.not_opened.ensures.others

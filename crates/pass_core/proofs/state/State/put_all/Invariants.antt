@@ -8,7 +8,8 @@ use Rattle.scen_tree.specs.Trees.{Tree}
 use Rattle.pass_core.specs.Explained.{KeepsExplained}
 use Rattle.pass_core.specs.Reasons.{IsOfOpening, GainsReasons}
 use Rattle.pass_core.specs.Tabled.{KeepsTable}
-use Rattle.pass_core.specs.Grounds.{OneIsNotPut, PutsCuts}
+use Rattle.pass_core.specs.Grounds.{put_cuts, OneIsNotPut, PutsCuts}
+use Rattle.pass_core.specs.Left.{StopsAsStuck}
 use Rattle.pass_core.proofs.state.State.put_all.Given as goal
 
 abbrev pub invariant-loop-place : goal.invariant-loop-place
@@ -22,4 +23,6 @@ invariant-loop-place l = record {
   refused : OneIsNotPut l.kind (drop l.place-index l.cuts) l.self.banks → OneIsNotPut l.kind l.cuts l.initial.self.banks;
   puts : l.self.stop ≡ None → (new : Banks) → PutsCuts l.kind (drop l.place-index l.cuts) l.self.banks new
       → PutsCuts l.kind l.cuts l.initial.self.banks new;
+  banks : put_cuts l.kind (drop l.place-index l.cuts) l.self.banks ≡ put_cuts l.kind l.cuts l.initial.self.banks;
+  stuck : StopsAsStuck l.initial.self l.self;
 }

@@ -111,6 +111,7 @@ returns-clause-solves c = λ m i walk frame begun stand.
     c.commit.ensures.reasons c.commit.ensures.stays
     (c.commit.ensures.left (read_machine p s m n i frame b) (begun_flight p s m n i frame b)
     (begun_solving p s m n i frame b c.in-Some.begun.readings.items rs) (reads_number p s m n i frame b) (at_node p s m n i frame b) about)
+    c.commit.ensures.anyhow
 
 pub returns-in_default-clause-made : goal.returns-in_default-clause-made
 returns-in_default-clause-made c = λ b i walk frame right h.
