@@ -257,7 +257,7 @@ comes_of budget start came program (AtWork old) (AtWork mid) new report i few st
         → HasReason old.state (PassedAt (Cut k) o) ⊎ CutPasses (content program) k o old.state mid.state
     cut k o f =
         elim (told_at (Cut k) o f) [
-          | inl w ↦ cut_arises (content program) old.state mid.state k o shows.solves (closing_passed mid.state (Cut k) o (λ q. cc) w)
+          | inl w ↦ cut_arises (content program) old.state mid.state k o shows.solves (inl (closing_passed mid.state (Cut k) o (λ q. cc) w))
           | inr t ↦ elim (test_places program (Cost mid.state.counts.all) (closing mid.state).claim (Cut k) o t) [
             | inl q ↦ absurd (cc)
             | inr q ↦ absurd (cc)
@@ -270,7 +270,7 @@ comes_of budget start came program (AtWork old) (AtWork mid) new report i few st
     cost k o f =
         elim (told_at (Cost k) o f) [
           | inl w ↦ elim (cost_arises (content program) old.state mid.state k o shows.solves
-              (closing_passed mid.state (Cost k) o (λ q. cc) w)) [ inl h ↦ inl h | inr c ↦ inr (inl c) ]
+              (inl (closing_passed mid.state (Cost k) o (λ q. cc) w))) [ inl h ↦ inl h | inr c ↦ inr (inl c) ]
           | inr t ↦ inr (inr t)
         ]
 
