@@ -1,5 +1,5 @@
 -- How the method keeps its way through a script.
-use Rattle.std.proofs.Common.{◌≡◌, ◌≤◌, ℕ, ◌+◌, ◌^◌, [], ◌∷◌, length, Result, Ok, Err, OnOk, refl, sym, ap, subst, ◌∙◌, arith}
+use Rattle.std.proofs.Common.{◌≡◌, ◌≤◌, ℕ, ◌+◌, ◌^◌, [], ◌∷◌, length, Result, Ok, Err, OnOk, sym, ap, subst, ◌∙◌, arith}
 use Rattle.scen_defs.specs.Program.{Program, content}
 use Rattle.scen_defs.specs.Valid.{IsProgram}
 use Rattle.scen_defs.specs.declared.program.Program.{Program as ProgramOf}
@@ -57,6 +57,9 @@ way_told budget start came program (AtWork old) (AtWork mid) new report i stands
     (solves_keep_way budget came p old.state mid.state shows.solves (way few widths before)) (counted_within budget p mid i few stands))
 
 -- ---- and behind an edit
+few_before : (p : Program) (e : Edit) → HasFewNodes (after p e) → HasFewNodes p
+few_before p e few = let g : length p.nodes ≤ length (after p e).nodes = grows p e in omega (arith, g, few)
+
 widths_behind : (p : Program) (e : Edit) → IsProgram p → IsAllowed p e → HasWidths p → HasWidths (after p e)
 widths_behind p e i allowed h = widths_stay p (e ∷ []) 1 i (edits_without_cause_apply p e allowed.places allowed.asks allowed.no_cause, tt) h
 
@@ -67,20 +70,17 @@ way_edited : (budget : Budget) (start : Program) (came : ℕ) (p : Program) (e :
 way_edited budget start came p e (AtWork old) (AtWork worked) (AtWork new) i allowed j here works works' solves steps goes way =
     λ few widths items.
     let before = fewer_items budget came items in
-    let few_before : HasFewNodes p = let g : length p.nodes ≤ length (after p e).nodes = grows p e in omega (arith, g, few) in
     edits_keep_way budget came p e worked new before allowed few works works' goes
-    (solves_keep_way budget came p old.state worked.state (solves few_before).solves (way few_before widths before))
+    (solves_keep_way budget came p old.state worked.state (solves (few_before p e few)).solves (way (few_before p e few) widths before))
 way_edited budget start came p e (AtWork old) (AtWork worked) (Idle why own) i allowed j here works works' solves steps goes way =
     λ few widths items.
-    let few_before : HasFewNodes p = let g : length p.nodes ≤ length (after p e).nodes = grows p e in omega (arith, g, few) in
-    widths_behind p e i allowed (way few_before widths (fewer_items budget came items)).widths
+    widths_behind p e i allowed (way (few_before p e few) widths (fewer_items budget came items)).widths
 way_edited budget start came p e (AtWork old) (Idle why own) new i allowed j here works works' solves steps goes way = absurd steps
 way_edited budget start came p e (Idle why own) worked new i allowed j here works works' solves steps goes way =
     λ few widths items.
-    let few_before : HasFewNodes p = let g : length p.nodes ≤ length (after p e).nodes = grows p e in omega (arith, g, few) in
     let goes_on : GoesOn p e (Idle why own) new = subst (λ (m : Method). GoesOn p e m new) steps goes in
     ways_begin budget (came + 1) (after p e) new j few
-    (widths_behind p e i allowed (way few_before widths (fewer_items budget came items)))
+    (widths_behind p e i allowed (way (few_before p e few) widths (fewer_items budget came items)))
     (subst (λ (b : Budget). Begins (after p e) b new) here.0 (goes_on.1 few))
 
 pub changed_way : {A E : Type 0} (result : Result A E) (budget : Budget) (start : Program) (came : ℕ) (p q : Program) (e : Edit)

@@ -1,4 +1,4 @@
-use Rattle.std.proofs.Common.{◌≡◌, ◌<◌, ◌^◌, true, false, inl, inr, refl, arith}
+use Rattle.std.proofs.Common.{◌≡◌, ◌<◌, ◌^◌, true, false, inl, inr, arith}
 use Rattle.scen_defs.specs.Program.{content}
 use Rattle.scen_defs.proofs.Valid.{programs_are_trees}
 use Rattle.tree_method.specs.Stands.{is_spent}

@@ -1,4 +1,4 @@
-use Rattle.std.proofs.Common.{◌≡◌, ◌<◌, ℕ, length}
+use Rattle.std.proofs.Common.{◌≡◌, ℕ}
 use Rattle.scen_defs.specs.Fits.{ListsHaveNames}
 use Rattle.scen_defs.specs.Program.{Program as Started, IsTree, content, view_of}
 use Rattle.scen_defs.specs.Valid.{IsSmall, IsProgram}

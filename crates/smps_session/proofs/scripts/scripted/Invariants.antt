@@ -1,4 +1,4 @@
-use Rattle.std.proofs.Common.{◌≡◌, ◌<◌, length}
+use Rattle.std.proofs.Common.{◌≡◌, length}
 use Rattle.scen_defs.specs.Program.{content}
 use Rattle.scen_defs.specs.Valid.{IsProgram}
 use Rattle.edit_defs.specs.Limits.{counts}
