@@ -4,6 +4,7 @@ use Rattle.std.specs.Fmt.{decimal}
 use Rattle.scen_defs.specs.Program.{content}
 use Rattle.scen_defs.specs.declared.program.Program.{Program}
 use Rattle.scen_defs.specs.declared.report.Report.{Report}
+use Rattle.edit_defs.specs.Shifts.{HasWidths}
 use Rattle.report_defs.specs.Seen.{seen}
 use Rattle.report_defs.specs.Truth.{IsTrue, HasCounts}
 use Rattle.report_text.specs.Text.{outcome_text}
@@ -53,10 +54,12 @@ summary_text plan program report = plan_line plan ++ size_line program report ++
 abbrev pub make_limit : ℕ
 make_limit = 100000
 
--- The output is the summary of the workload and of a report that is true of its program, and comes of solves of its nodes.
+-- The output is the summary of the workload and of a report that is true of its program, whose rows with two finite ends have the widths of
+-- their ranges, and comes of solves of its nodes.
 pub record PrintsSummary (plan : Plan) (status : Status) (output : List ℕ) : Type 0 where
   pub program : Program
   pub means : MeansProgram (texts_of (workload plan)) (content program)
+  pub widths : HasWidths (content program)
   pub report : Report
   pub truth : IsTrue (seen program) (told_reasons program (record { solves = make_limit; pivots = make_limit })) report
   pub counts : HasCounts (seen program) report

@@ -1,8 +1,9 @@
 -- How a report comes of the method.
 use Rattle.std.proofs.Common.{◌≡◌, ◌<◌, ◌≤◌, ℕ, ◌+◌, ◌^◌, ◌⊎◌, inl, inr, ◌&&◌, not, Bool, true, false, Result, Ok, Err, IfOk, refl, sym, ap, subst, ◌∙◌, arith}
 use Rattle.std.proofs.lemmas.Bool.{leb-true, leb-false}
-use Rattle.scen_defs.specs.Program.{content, view_of}
+use Rattle.scen_defs.specs.Program.{Program as Started, content, view_of}
 use Rattle.scen_defs.specs.Valid.{IsProgram}
+use Rattle.scen_tree.specs.Trees.{Tree}
 use Rattle.report_defs.specs.Truth.{Explains, IsTrue}
 use Rattle.scen_defs.specs.declared.program.Program.{Program}
 use Rattle.scen_defs.specs.declared.report.Finding.{Finding}
@@ -24,7 +25,7 @@ use Rattle.rationals.specs.Passes.{Operation}
 use Rattle.pass_core.specs.declared.budget.Budget.{Budget}
 use Rattle.pass_core.specs.declared.state.Counts.{Counts}
 use Rattle.pass_core.specs.declared.state.State.{State}
-use Rattle.pass_core.specs.Beginning.{IsBeginning}
+use Rattle.pass_core.specs.Explained.{AreExplained}
 use Rattle.pass_core.specs.Reasons.{HasReason}
 use Rattle.run_ends.specs.Claims.{EndsAssembly}
 use Rattle.pass_core.specs.Counting.{one_solve_more}
@@ -37,9 +38,12 @@ use Rattle.tree_method.specs.Stands.{CutPasses, CostPasses, OpeningPasses, Finds
 use Rattle.tree_method.proofs.StandLemmas.{more_counted, solves_behind}
 use Rattle.tree_method.proofs.Numbers.{pivots_arise, pass_arises, cut_arises, cost_arises, opening_arises, closing_pivots, closing_passed}
 use Rattle.tree_method.proofs.Numbers.{closing_dual, told_cleared}
+use Rattle.run_laws.specs.Ways.{AreFew, IsOnWay}
 use Rattle.run_laws.proofs.Finished.{ends_are_finished}
+use Rattle.run_laws.proofs.Ways.{solves_keep_way, ways_have_numbers}
 use Rattle.smps_session.specs.Reasons.{told_reasons}
-use Rattle.smps_session.specs.Comes.{tells_solves, is_unfinished, ShowsClosing, ShowsFound, PassesInTestOf, ComesOf, ComesOfAll}
+use Rattle.smps_session.specs.Comes.{tells_solves, is_unfinished, ShowsClosing, ShowsFound, PassesInTestOf, ComesOf, ComesOfAll, IsUnderWay}
+use Rattle.smps_session.proofs.WayLemmas.{counted_within}
 
 -- ---- what is found and tested
 claimed_so : (program : Program) (number solves : ℕ) (place place' : Place) (why why' : Open) (claim claim' : Claim) (report : Report)
@@ -47,30 +51,31 @@ claimed_so : (program : Program) (number solves : ℕ) (place place' : Place) (w
     → IsClaimed program report.number place' why' solves claim' report
 claimed_so program number solves place place' why why' claim claim' report n p w k c = record { is = cc (n, p, w, k, c.is) }
 
-shows_one : (budget : Budget) (program : Program) (old new : Method) (found : Found) (number : ℕ) (report : Report)
+shows_one : (budget : Budget) (start : Started) (came : ℕ) (program : Program) (old new : Method) (found : Found) (number : ℕ) (report : Report)
     → FindsBySolves (content program) old new found → EndsAt (content program) new → WorksBySteps (content program) old new
     → report.number ≡ number
     → IsClaimed program number found.place found.why budget.solves found.claim report
-    → IsTrue (view_of (content program)) (given found.why budget.solves) report → ShowsFound budget program old new report
-shows_one budget program (AtWork old) (AtWork new) found number report f ends steps n c t = record {
+    → IsTrue (view_of (content program)) (given found.why budget.solves) report → ShowsFound budget start came program old new report
+shows_one budget start came program (AtWork old) (AtWork new) found number report f ends steps n c t = record {
   solves = f.solves.solves;
-  once = λ small begins. f.solves.never;
+  once = λ widths few. f.solves.never;
   ends = ends;
   claimed = claimed_so program number budget.solves found.place _ found.why _ found.claim _ report n f.place f.why f.claim c;
   truth = subst (λ (why : Open). IsTrue (view_of (content program)) (given why budget.solves) report) f.why t;
 }
-shows_one budget program (AtWork old) (Idle why own) found number report f ends steps n c t = f
-shows_one budget program (Idle why own) new found number report f ends steps n c t = steps
+shows_one budget start came program (AtWork old) (Idle why own) found number report f ends steps n c t = f
+shows_one budget start came program (Idle why own) new found number report f ends steps n c t = steps
 
-pub shows_found : {E : Type 0} (budget : Budget) (program : Program) (old new : Method) (found : Found) (number : ℕ) (result : Result Report E)
+pub shows_found : {E : Type 0} (budget : Budget) (start : Started) (came : ℕ) (program : Program) (old new : Method) (found : Found) (number : ℕ)
+    (result : Result Report E)
     → FindsBySolves (content program) old new found → EndsAt (content program) new → WorksBySteps (content program) old new
     → IfOk result (λ report. report.number ≡ number)
     → IfOk result (IsClaimed program number found.place found.why budget.solves found.claim)
     → IfOk result (IsTrue (view_of (content program)) (given found.why budget.solves))
-    → IfOk result (ShowsFound budget program old new)
-shows_found budget program old new found number (Ok report) f ends steps n c t =
-    shows_one budget program old new found number report f ends steps n c t
-shows_found budget program old new found number (Err e) f ends steps n c t = tt
+    → IfOk result (ShowsFound budget start came program old new)
+shows_found budget start came program old new found number (Ok report) f ends steps n c t =
+    shows_one budget start came program old new found number report f ends steps n c t
+shows_found budget start came program old new found number (Err e) f ends steps n c t = tt
 
 -- ---- a program that is begun anew until its solves have ended
 -- so many solves at least are counted
@@ -100,29 +105,24 @@ pub counts_fewer : (k j : ℕ) (method : Method) → j ≤ k → HasCounted k me
 counts_fewer k j (AtWork w) less h = omega (arith, less, h)
 counts_fewer k j (Idle why own) less h = tt
 
--- the first report of a program that was begun isn't left over
-never_left : (budget : Budget) (program : Program) (old : State) (mid : Working) (report : Report) → IsProgram (content program)
-    → HasFewNodes (content program) → WorksOn (content program) budget mid → ShowsClosing budget program old mid.state report
-    → budget.solves < 2 ^ 63 → IsBeginning (content program) budget old → (n : ℕ) → report.finding ≡ OpenSolves n
-    → mid.state.budget.solves ≤ mid.state.counts.since_report
-never_left budget program old mid report i few stands shows small begins n told =
+-- a report to which the method comes on its way isn't left over
+never_left : (budget : Budget) (start : Started) (came : ℕ) (program : Program) (old : State) (mid : Working) (report : Report)
+    → IsProgram (content program) → HasFewNodes (content program) → WorksOn (content program) budget mid
+    → ShowsClosing budget start came program old mid.state report → AreFew budget came → IsOnWay budget came (content program) old
+    → (n : ℕ) → report.finding ≡ OpenSolves n → mid.state.budget.solves ≤ mid.state.counts.since_report
+never_left budget start came program old mid report i few stands shows items way n told =
+    let p = content program in
+    let here : IsOnWay budget came p mid.state = solves_keep_way budget came p old mid.state shows.solves way in
+    let same : mid.tree ≡ here.run.tree = cc (stands.tree, here.run.walk) in
     ends_are_finished program mid.state report.number (Cost mid.state.counts.all) budget.solves report n
     (record {
-      run = record {
-        program = i;
-        few = few;
-        tree = mid.tree;
-        walk = stands.tree;
-        budget = budget;
-        first = old;
-        begins = begins;
-        solves = shows.solves;
-      };
+      run = here.run;
+      numbers = ways_have_numbers budget came p mid.state items here (counted_within budget p mid i few stands);
       ends = shows.ends;
-      explained = stands.explained;
+      explained = subst (λ (tree : Tree). AreExplained p tree mid.state) same stands.explained;
       tabled = stands.tabled i few;
     })
-    (subst (λ (b : Budget). b.solves < 2 ^ 63) (sym stands.budget_is) small) shows.claimed told
+    shows.claimed told
 
 solves_told : (finding : Finding) → tells_solves finding ≡ true → (n : ℕ) × (finding ≡ OpenSolves n)
 solves_told Optimal e = absurd (let no : false ≡ true = e in cc)
@@ -133,16 +133,20 @@ solves_told (OpenPivots k) e = absurd (let no : false ≡ true = e in cc)
 solves_told (OpenPassed place o) e = absurd (let no : false ≡ true = e in cc)
 
 -- behind one more solve, and what is found then
-pub round_counts : (budget : Budget) (program : Program) (k : ℕ) (old mid next new : Method) (report report' : Report) → budget.solves < 2 ^ 64
-    → tells_solves report.finding ≡ true → is_spent mid ≡ false → StandsOn (content program) budget mid → IsProgram (content program) → HasFewNodes (content program)
-    → ShowsFound budget program old mid report → HasCounted k mid → WorksAnew (content program) mid next → ShowsFound budget program next new report'
-    → ShowsFound budget program old new report' × HasCounted (k + 1) new
-round_counts budget program k (Idle why own) mid next new report report' bits tells left stands i few shows counted works shows' =
+pub round_counts : (budget : Budget) (start : Started) (came : ℕ) (program : Program) (k : ℕ) (old mid next new : Method) (report report' : Report)
+    → budget.solves < 2 ^ 64 → tells_solves report.finding ≡ true → is_spent mid ≡ false → StandsOn (content program) budget mid
+    → IsProgram (content program) → HasFewNodes (content program) → IsUnderWay budget start came (content program) old
+    → ShowsFound budget start came program old mid report → HasCounted k mid → WorksAnew (content program) mid next
+    → ShowsFound budget start came program next new report' → ShowsFound budget start came program old new report' × HasCounted (k + 1) new
+round_counts budget start came program k (Idle why own) mid next new report report' bits tells left stands i few way shows counted works shows' =
     absurd (let no : true ≡ false = sym (ap is_spent shows) ∙ left in cc)
-round_counts budget program k (AtWork old) (Idle why own) next new report report' bits tells left stands i few shows counted works shows' = absurd shows
-round_counts budget program k (AtWork old) (AtWork mid) (Idle why own) new report report' bits tells left stands i few shows counted works shows' = absurd works
-round_counts budget program k (AtWork old) (AtWork mid) (AtWork next) (Idle why own) report report' bits tells left stands i few shows counted works shows' = absurd shows'
-round_counts budget program k (AtWork old) (AtWork mid) (AtWork next) (AtWork new) report report' bits tells left stands i few shows counted works shows' =
+round_counts budget start came program k (AtWork old) (Idle why own) next new report report' bits tells left stands i few way shows counted works shows' =
+    absurd shows
+round_counts budget start came program k (AtWork old) (AtWork mid) (Idle why own) new report report' bits tells left stands i few way shows counted works shows' =
+    absurd works
+round_counts budget start came program k (AtWork old) (AtWork mid) (AtWork next) (Idle why own) report report' bits tells left stands i few way shows counted works shows' =
+    absurd shows'
+round_counts budget start came program k (AtWork old) (AtWork mid) (AtWork next) (AtWork new) report report' bits tells left stands i few way shows counted works shows' =
     let p = content program in
     let less : mid.state.counts.since_report < mid.state.budget.solves = leb-false mid.state.budget.solves mid.state.counts.since_report left in
     let allowed : mid.state.budget.solves ≡ budget.solves = ap (λ (b : Budget). b.solves) stands.budget_is in
@@ -153,9 +157,10 @@ round_counts budget program k (AtWork old) (AtWork mid) (AtWork next) (AtWork ne
     let later = more_counted p next.state new.state bound shows'.solves in (
       record {
         solves = solves_behind p old.state mid.state new.state shows.solves (solves_behind p mid.state next.state new.state anew.solves shows'.solves);
-        once = λ small begins.
+        once = λ widths items.
             let n = solves_told report.finding tells in
-            let spent = never_left budget program old.state mid report i few stands shows small begins n.0 n.1 in absurd (omega (arith, less, spent));
+            let spent = never_left budget start came program old.state mid report i few stands shows items (way few widths items) n.0 n.1 in
+            absurd (omega (arith, less, spent));
         ends = shows'.ends;
         claimed = shows'.claimed;
         truth = shows'.truth;
@@ -191,13 +196,14 @@ all_counted budget w finding n b e (inl ended) =
     let spent = leb-true w.state.budget.solves w.state.counts.since_report (ended (ap tells_solves e)) in
     omega (arith, spent, ap (λ (x : Budget). x.solves) b)
 
-pub comes_of : (budget : Budget) (program : Program) (old mid new : Method) (report : Report) → IsProgram (content program)
+pub comes_of : (budget : Budget) (start : Started) (came : ℕ) (program : Program) (old mid new : Method) (report : Report) → IsProgram (content program)
     → HasFewNodes (content program) → StandsOn (content program) budget mid → StandsCleared old → IsTrue (view_of (content program)) (told_reasons program budget) report
-    → ShowsFound budget program old mid report → HasEnded budget report.finding mid → new ≡ after_telling mid → ComesOf budget program old report new
-comes_of budget program (Idle why own) mid new report i few stands rests truth shows ended e =
+    → ShowsFound budget start came program old mid report → HasEnded budget report.finding mid → new ≡ after_telling mid
+    → ComesOf budget start came program old report new
+comes_of budget start came program (Idle why own) mid new report i few stands rests truth shows ended e =
     e ∙ ap after_telling shows
-comes_of budget program (AtWork old) (Idle why own) new report i few stands rests truth shows ended e = absurd shows
-comes_of budget program (AtWork old) (AtWork mid) new report i few stands rests truth shows ended e = (
+comes_of budget start came program (AtWork old) (Idle why own) new report i few stands rests truth shows ended e = absurd shows
+comes_of budget start came program (AtWork old) (AtWork mid) new report i few stands rests truth shows ended e = (
   mid,
   (
     record {
@@ -251,7 +257,7 @@ comes_of budget program (AtWork old) (AtWork mid) new report i few stands rests 
         → HasReason old.state (PassedAt (Cut k) o) ⊎ CutPasses (content program) k o old.state mid.state
     cut k o f =
         elim (told_at (Cut k) o f) [
-          | inl w ↦ cut_arises (content program) old.state mid.state k o shows.solves (closing_passed mid.state (Cut k) o (λ q. cc) w)
+          | inl w ↦ cut_arises (content program) old.state mid.state k o shows.solves (inl (closing_passed mid.state (Cut k) o (λ q. cc) w))
           | inr t ↦ elim (test_places program (Cost mid.state.counts.all) (closing mid.state).claim (Cut k) o t) [
             | inl q ↦ absurd (cc)
             | inr q ↦ absurd (cc)
@@ -264,7 +270,7 @@ comes_of budget program (AtWork old) (AtWork mid) new report i few stands rests 
     cost k o f =
         elim (told_at (Cost k) o f) [
           | inl w ↦ elim (cost_arises (content program) old.state mid.state k o shows.solves
-              (closing_passed mid.state (Cost k) o (λ q. cc) w)) [ inl h ↦ inl h | inr c ↦ inr (inl c) ]
+              (inl (closing_passed mid.state (Cost k) o (λ q. cc) w))) [ inl h ↦ inl h | inr c ↦ inr (inl c) ]
           | inr t ↦ inr (inr t)
         ]
 
@@ -287,14 +293,14 @@ comes_of budget program (AtWork old) (AtWork mid) new report i few stands rests 
         ]
 
 -- and its reasons are cleared behind it
-pub tells_cleared : (budget : Budget) (program : Program) (old mid new : Method) (report : Report) → StandsCleared old → ShowsFound budget program old mid report
-    → new ≡ after_telling mid → StandsCleared new
-tells_cleared budget program (Idle why own) mid new report rests shows e = subst StandsCleared (sym (e ∙ ap after_telling shows)) tt
-tells_cleared budget program (AtWork old) (Idle why own) new report rests shows e = absurd shows
-tells_cleared budget program (AtWork old) (AtWork mid) new report rests shows e =
+pub tells_cleared : (budget : Budget) (start : Started) (came : ℕ) (program : Program) (old mid new : Method) (report : Report) → StandsCleared old
+    → ShowsFound budget start came program old mid report → new ≡ after_telling mid → StandsCleared new
+tells_cleared budget start came program (Idle why own) mid new report rests shows e = subst StandsCleared (sym (e ∙ ap after_telling shows)) tt
+tells_cleared budget start came program (AtWork old) (Idle why own) new report rests shows e = absurd shows
+tells_cleared budget start came program (AtWork old) (AtWork mid) new report rests shows e =
     subst StandsCleared (sym e) (told_cleared (content program) old.state mid.state shows.solves rests)
 
 pub comes_of_all : {E : Type 0} (budget : Budget) (program : Program) (method next : Method) (result : Result Report E) → Begins (content program) budget method
-    → IfOk result (λ report. ComesOf budget program method report next) → IfOk result (ComesOfAll budget program)
+    → IfOk result (λ report. ComesOf budget (content program) 0 program method report next) → IfOk result (ComesOfAll budget program)
 comes_of_all budget program method next (Ok report) b c = record { method = method; next = next; begins = b; comes = c }
 comes_of_all budget program method next (Err e) b c = tt

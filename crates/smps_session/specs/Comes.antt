@@ -1,5 +1,5 @@
 -- How a report comes of the method: of its solves, of what it claims behind them, and of the test of that.
-use Rattle.std.specs.Prelude.{◌≡◌, ◌⊎◌, ◌&&◌, ◌<◌, ◌^◌, ℕ, Bool, true, false, not}
+use Rattle.std.specs.Prelude.{◌≡◌, ◌⊎◌, ◌&&◌, ℕ, Bool, true, false, not}
 use Rattle.scen_defs.specs.Program.{Program, content, view_of}
 use Rattle.scen_defs.specs.declared.program.Program.{Program as ProgramOf}
 use Rattle.scen_defs.specs.declared.report.Finding.{Finding}
@@ -16,9 +16,9 @@ use Rattle.proved_report.specs.Reports.{IsClaimed}
 use Rattle.claim_laws.specs.Held.{PassesInClaim}
 use Rattle.run_ends.specs.Claims.{EndsAssembly}
 use Rattle.edit_defs.specs.declared.edit.Edit.{Edit}
+use Rattle.edit_defs.specs.Shifts.{HasWidths}
 use Rattle.pass_core.specs.declared.budget.Budget.{Budget}
 use Rattle.pass_core.specs.declared.state.State.{State}
-use Rattle.pass_core.specs.Beginning.{IsBeginning}
 use Rattle.pass_core.specs.Reasons.{HasReason}
 use Rattle.tree_method.specs.declared.method.Method.{Method}
 use Rattle.tree_method.specs.declared.method.Method.TheVariants.{Working as AtWork, Idle}
@@ -26,6 +26,7 @@ use Rattle.tree_method.specs.declared.method.Working.{Working}
 use Rattle.tree_method.specs.Stands.{HasFewNodes, IsAtEnd, SolvesNodes, NeverAnew, HasSolve, WorksBySolves, WorksAsAsked, GoesOn}
 use Rattle.tree_method.specs.Stands.{CutPasses, CostPasses, OpeningPasses, Begins, closing}
 use Rattle.tree_method.specs.Stands.{is_spent, after_telling}
+use Rattle.run_laws.specs.Ways.{AreFew, KeepsWay}
 
 -- left open by the number of solves
 abbrev pub tells_solves : Finding → Bool
@@ -40,20 +41,22 @@ tells_solves (OpenPassed place o) = false
 abbrev pub is_unfinished : Finding → Method → Bool
 is_unfinished finding method = tells_solves finding && not (is_spent method)
 
--- what is claimed behind solves of the program's nodes, where the method can't go on, is tested, and the report tells what was shown, and
--- is true for the reason that is claimed with it; from the beginning of the program to its first report it is never begun anew
-pub record ShowsClosing (budget : Budget) (program : ProgramOf) (old new : State) (report : Report) : Type 0 where
+-- What is claimed behind solves of the program's nodes, where the method can't go on, is tested, and the report tells what was shown, and
+-- is true for the reason that is claimed with it. The program is the one behind so many items of a script that starts with another one.
+pub record ShowsClosing (budget : Budget) (start : Program) (came : ℕ) (program : ProgramOf) (old new : State) (report : Report)
+    : Type 0 where
   pub solves : SolvesNodes (content program) old new
-  pub once : budget.solves < 2 ^ 63 → IsBeginning (content program) budget old → NeverAnew solves
+  -- where the rows of the script's first program have the widths of their ranges, and few items came, the program is never begun anew
+  pub once : HasWidths start → AreFew budget came → NeverAnew solves
   pub ends : IsAtEnd (content program) new
   pub claimed : IsClaimed program report.number (Cost new.counts.all) (closing new).why budget.solves (closing new).claim report
   pub truth : IsTrue (view_of (content program)) (given (closing new).why budget.solves) report
 
 -- so a method at work finds what is reported
-abbrev pub ShowsFound : Budget → ProgramOf → Method → Method → Report → Type 0
-ShowsFound budget program (AtWork old) (AtWork new) report = ShowsClosing budget program old.state new.state report
-ShowsFound budget program (AtWork old) (Idle why own) report = ⊥
-ShowsFound budget program (Idle why own) new report = new ≡ Idle why own
+abbrev pub ShowsFound : Budget → Program → ℕ → ProgramOf → Method → Method → Report → Type 0
+ShowsFound budget start came program (AtWork old) (AtWork new) report = ShowsClosing budget start came program old.state new.state report
+ShowsFound budget start came program (AtWork old) (Idle why own) report = ⊥
+ShowsFound budget start came program (Idle why own) new report = new ≡ Idle why own
 
 -- the operation passes in the test of what is claimed in this state, and is told at this place
 abbrev pub PassesInTestOf : ProgramOf → State → Place → Operation → Type 0
@@ -64,8 +67,9 @@ PassesInTestOf program s told o = PassesInClaim program (Cost s.counts.all) (clo
 -- operation at CUT or at COST passes in the cut or in the cost behind the solve with that number, if the method hadn't met it before; or,
 -- at COST, in the test of the claimed points. One at GROUND passes before a run that was to open; one at DUAL where multipliers of the ends
 -- are assembled, or in the test of those that are claimed.
-pub record ComesOfSolves (budget : Budget) (program : ProgramOf) (old new : State) (report : Report) : Type 0 where
-  pub shows : ShowsClosing budget program old new report
+pub record ComesOfSolves (budget : Budget) (start : Program) (came : ℕ) (program : ProgramOf) (old new : State) (report : Report)
+    : Type 0 where
+  pub shows : ShowsClosing budget start came program old new report
   pub spent : (n : ℕ) → report.finding ≡ OpenSolves n → new.counts.since_report ≡ n
   pub pivots : (k : ℕ) → report.finding ≡ OpenPivots k → HasSolve (content program) k PivotsEnded old new
   pub passed : (k : ℕ) (o : Operation) → report.finding ≡ OpenPassed (Solve k) o → HasSolve (content program) k (Passed false o) old new
@@ -77,17 +81,17 @@ pub record ComesOfSolves (budget : Budget) (program : ProgramOf) (old new : Stat
   pub dual : (o : Operation) → report.finding ≡ OpenPassed Dual o → EndsAssembly new.ends o ⊎ PassesInTestOf program new Dual o
 
 -- a method at work comes to the report by its solves, and counts the next ones from 0; one that can't work stays as it is
-abbrev pub ComesOf : Budget → ProgramOf → Method → Report → Method → Type 0
-ComesOf budget program (AtWork old) report next =
-    (w : Working) × (ComesOfSolves budget program old.state w.state report × (next ≡ after_telling (AtWork w)))
-ComesOf budget program (Idle why own) report next = next ≡ Idle why own
+abbrev pub ComesOf : Budget → Program → ℕ → ProgramOf → Method → Report → Method → Type 0
+ComesOf budget start came program (AtWork old) report next =
+    (w : Working) × (ComesOfSolves budget start came program old.state w.state report × (next ≡ after_telling (AtWork w)))
+ComesOf budget start came program (Idle why own) report next = next ≡ Idle why own
 
--- the report comes of a method that begins with the program
+-- the report comes of a method that begins with the program, and no item came before
 pub record ComesOfAll (budget : Budget) (program : ProgramOf) (report : Report) : Type 0 where
   pub method : Method
   pub next : Method
   pub begins : Begins (content program) budget method
-  pub comes : ComesOf budget program method report next
+  pub comes : ComesOf budget (content program) 0 program method report next
 
 -- a method solves nodes of the program before an edit, so many as are asked for where it can go on, and goes on behind the edit
 pub record TakesEdit (p : Program) (work : ℕ) (e : Edit) (old new : Method) : Type 0 where
@@ -95,3 +99,8 @@ pub record TakesEdit (p : Program) (work : ℕ) (e : Edit) (old new : Method) : 
   pub works : HasFewNodes p → WorksBySolves p old worked
   pub amount : HasFewNodes p → WorksAsAsked p work old worked
   pub goes : GoesOn p e worked new
+
+-- behind so many items of a script the method is on its way, where the rows of the first program have the widths of their ranges, and few
+-- items came
+abbrev pub IsUnderWay : Budget → Program → ℕ → Program → Method → Type 0
+IsUnderWay budget start came p method = HasFewNodes p → HasWidths start → AreFew budget came → KeepsWay budget came p method

@@ -11,28 +11,29 @@ use Rattle.tree_method.specs.declared.method.Method.{Method}
 use Rattle.smps_session.specs.Comes.{TakesEdit}
 use Rattle.smps_session.specs.Told.{IsTold}
 
--- the program as it is, the method, the number of the next report, and what was told
+-- the program as it is, the method, how many items came, the number of the next report, and what was told
 pub record Course : Type 0 where
   pub program : Program
   pub method : Method
+  pub came : ℕ
   pub number : ℕ
   pub tolds : List Told
 
-abbrev pub course_at : Program → Method → ℕ → List Told → Course
-course_at p method number tolds = record { program = p; method = method; number = number; tolds = tolds }
+abbrev pub course_at : Program → Method → ℕ → ℕ → List Told → Course
+course_at p method came number tolds = record { program = p; method = method; came = came; number = number; tolds = tolds }
 
--- a report of the program is told behind the others
-pub record TellsOne (budget : Budget) (s t : Course) : Type 0 where
+-- a report of the program is told behind the others, in a script that starts with this program
+pub record TellsOne (budget : Budget) (start : Program) (s t : Course) : Type 0 where
   pub told : Told
-  pub is_told : IsTold budget s.number s.program s.method told t.method
-  pub course : t ≡ record s { method = t.method; number = s.number + 1; tolds = s.tolds ++ told ∷ [] }
+  pub is_told : IsTold budget start s.came s.number s.program s.method told t.method
+  pub course : t ≡ record s { method = t.method; came = s.came + 1; number = s.number + 1; tolds = s.tolds ++ told ∷ [] }
 
 -- an edit, before which so many solves are asked for, changes the program
 pub record Changes (work : ℕ) (e : Edit) (s t : Course) : Type 0 where
   pub takes : TakesEdit s.program work e s.method t.method
-  pub course : t ≡ record s { program = after s.program e; method = t.method }
+  pub course : t ≡ record s { program = after s.program e; method = t.method; came = s.came + 1 }
 
 -- behind an item: an edit changes the program, and of a SOLVE a report is told
-abbrev pub IsBehind : Budget → ℕ → Act → Course → Course → Type 0
-IsBehind budget work (Change e) s t = Changes work e s t
-IsBehind budget work Solve s t = TellsOne budget s t
+abbrev pub IsBehind : Budget → Program → ℕ → Act → Course → Course → Type 0
+IsBehind budget start work (Change e) s t = Changes work e s t
+IsBehind budget start work Solve s t = TellsOne budget start s t

@@ -17,8 +17,9 @@ use Rattle.smps_session.specs.Reasons.{told_reasons}
 use Rattle.smps_session.specs.declared.told.Told.{Told}
 
 -- What is told is the text and the finding of a report of this number that is true of the program, found within the budget. It comes of a
--- method, which goes on from there.
-pub record IsTold (budget : Budget) (number : ℕ) (p : Program) (method : Method) (told : Told) (next : Method) : Type 0 where
+-- method, which goes on from there, behind so many items of a script that starts with another program.
+pub record IsTold (budget : Budget) (start : Program) (came number : ℕ) (p : Program) (method : Method) (told : Told) (next : Method)
+    : Type 0 where
   pub program : ProgramOf
   pub content_is : content program ≡ p
   -- the report that is printed, all of it
@@ -32,7 +33,7 @@ pub record IsTold (budget : Budget) (number : ℕ) (p : Program) (method : Metho
   -- it isn't left open where its ends are equal
   pub equal : EqualIsOptimal report
   -- it comes of solves of the nodes of the program, of which there are no more than have numbers
-  pub comes : HasFewNodes p → ComesOf budget program method report next
+  pub comes : HasFewNodes p → ComesOf budget start came program method report next
 
 -- a first one of a method, and those behind it of the method as it is then
 abbrev pub IsThen : (Told → Method → Type 0) → (Method → List Told → Type 0) → List Told → Type 0
@@ -40,16 +41,19 @@ IsThen first behind [] = ⊥
 IsThen first behind (told ∷ tolds) = (next : Method) × (first told next × behind next tolds)
 
 -- One is told for each SOLVE of a script, of the program after the edits before it, and comes of the one method that goes through the
--- script, and makes as many solves before an edit as are asked for. They are numbered from this number on.
-abbrev pub AreTold : Budget → ℕ → Program → Method → List Item → List Told → Type 0
-AreTold budget number p method [] tolds = tolds ≡ []
-AreTold budget number p method (item ∷ items) tolds = elim item.act [
-  | Change e ↦ (next : Method) × (TakesEdit p item.work e method next × AreTold budget number (after p e) next items tolds)
-  | Solve ↦ IsThen (λ told next. IsTold budget number p method told next) (λ next. AreTold budget (number + 1) p next items) tolds
+-- script, and makes as many solves before an edit as are asked for. So many items of the script came before these, and they are numbered
+-- from this number on.
+abbrev pub AreTold : Budget → Program → ℕ → ℕ → Program → Method → List Item → List Told → Type 0
+AreTold budget start came number p method [] tolds = tolds ≡ []
+AreTold budget start came number p method (item ∷ items) tolds = elim item.act [
+  | Change e ↦ (next : Method)
+      × (TakesEdit p item.work e method next × AreTold budget start (came + 1) number (after p e) next items tolds)
+  | Solve ↦ IsThen (λ told next. IsTold budget start came number p method told next)
+      (λ next. AreTold budget start (came + 1) (number + 1) p next items) tolds
 ]
 
 -- the reports of a script come of a method that begins with the program, where that has no more nodes than have numbers
 pub record IsScripted (budget : Budget) (p : Program) (items : List Item) (tolds : List Told) : Type 0 where
   pub method : Method
   pub begins : HasFewNodes p → Begins p budget method
-  pub told : AreTold budget 1 p method items tolds
+  pub told : AreTold budget p 0 1 p method items tolds

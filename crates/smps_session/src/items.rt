@@ -1,13 +1,13 @@
 //! The items of a script, one behind the other.
-ghost use Rattle.std.specs.Prelude.{◌≡◌, ◌∷◌, [], OnOk};
-ghost use Rattle.scen_defs.specs.Program.{content};
+ghost use Rattle.std.specs.Prelude.{◌≡◌, ◌+◌, ◌∷◌, [], ℕ, OnOk};
+ghost use Rattle.scen_defs.specs.Program.{content, Program as ProgramOf};
 ghost use Rattle.scen_defs.specs.Valid.{IsProgram};
 ghost use Rattle.edit_defs.specs.After.{after};
 ghost use Rattle.edit_defs.specs.Limits.{counts};
 ghost use Rattle.edit_script.specs.Allowed.{AreAllowed, IsAllowed};
 ghost use Rattle.pass_core.specs.declared.budget.Budget.{Budget as BudgetOf};
 ghost use Rattle.tree_method.specs.Stands.{HasFewNodes, StandsOn, StandsCleared};
-ghost use Rattle.smps_session.specs.Comes.{TakesEdit};
+ghost use Rattle.smps_session.specs.Comes.{TakesEdit, IsUnderWay};
 ghost use Rattle.smps_session.specs.Courses.{course_at, TellsOne, IsBehind};
 
 use crate::told::{Told, told_one};
@@ -50,6 +50,9 @@ impl Progress {
         ensures takes { (budget : BudgetOf) → StandsOn (content program.old) budget self.old.method
             → OnOk result (TakesEdit (content program.old) work edit.now self.old.method self.new.method) }
         ensures cleared { HasFewNodes (content program.new) → OnOk result (StandsCleared self.new.method) }
+        ensures way { (budget : BudgetOf) (start : ProgramOf) (came : ℕ) → StandsOn (content program.old) budget self.old.method
+            → IsUnderWay budget start came (content program.old) self.old.method
+            → OnOk result (IsUnderWay budget start (came + 1) (content program.new) self.new.method) }
     {
         self.method.work(alloc, program, work)?;
         self.method.edit(alloc, program, &mut self.counted, edit)
@@ -69,8 +72,12 @@ impl Progress {
         ensures counted { self.new.counted ≡ self.old.counted }
         ensures stands { OnOk result (StandsOn (content program.now) budget self.new.method) }
         ensures cleared { HasFewNodes (content program.now) → OnOk result (StandsCleared self.new.method) }
-        ensures told { OnOk result (TellsOne budget (course_at (content program.now) self.old.method self.old.number tolds.old.items)
-            (course_at (content program.now) self.new.method self.new.number tolds.new.items)) }
+        ensures way { (start : ProgramOf) (came : ℕ) → IsUnderWay budget start came (content program.now) self.old.method
+            → OnOk result (IsUnderWay budget start (came + 1) (content program.now) self.new.method) }
+        ensures told { (start : ProgramOf) (came : ℕ) → IsUnderWay budget start came (content program.now) self.old.method
+            → OnOk result (TellsOne budget start
+            (course_at (content program.now) self.old.method came self.old.number tolds.old.items)
+            (course_at (content program.now) self.new.method (came + 1) self.new.number tolds.new.items)) }
     {
         let told = told_one(alloc, program, &mut self.method, self.number, budget)?;
         let next = self.number.checked_add(1).ok_or(Memory)?;
@@ -97,9 +104,12 @@ impl Progress {
         ensures counted { OnOk result (self.new.counted ≡ counts (content program.new).nodes) }
         ensures stands { OnOk result (StandsOn (content program.new) budget self.new.method) }
         ensures cleared { HasFewNodes (content program.new) → OnOk result (StandsCleared self.new.method) }
-        ensures course { OnOk result (IsBehind budget item.now.work item.now.act
-            (course_at (content program.old) self.old.method self.old.number tolds.old.items)
-            (course_at (content program.new) self.new.method self.new.number tolds.new.items)) }
+        ensures way { (start : ProgramOf) (came : ℕ) → IsUnderWay budget start came (content program.old) self.old.method
+            → OnOk result (IsUnderWay budget start (came + 1) (content program.new) self.new.method) }
+        ensures course { (start : ProgramOf) (came : ℕ) → IsUnderWay budget start came (content program.old) self.old.method
+            → OnOk result (IsBehind budget start item.now.work item.now.act
+            (course_at (content program.old) self.old.method came self.old.number tolds.old.items)
+            (course_at (content program.new) self.new.method (came + 1) self.new.number tolds.new.items)) }
     {
         match &item.act {
             Act::Change(edit) => self.change(alloc, program, edit, item.work),

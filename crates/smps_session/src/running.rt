@@ -1,13 +1,13 @@
 //! The report of a program on a tree.
-ghost use Rattle.std.specs.Prelude.{◌≡◌, IfOk, OnOk};
+ghost use Rattle.std.specs.Prelude.{◌≡◌, ◌+◌, ℕ, IfOk, OnOk};
 ghost use Rattle.scen_defs.specs.Fits.{ListsHaveNames};
-ghost use Rattle.scen_defs.specs.Program.{IsTree, content, view_of};
+ghost use Rattle.scen_defs.specs.Program.{IsTree, content, view_of, Program as ProgramOf};
 ghost use Rattle.scen_defs.specs.Valid.{IsSmall, IsProgram};
 ghost use Rattle.report_defs.specs.Truth.{IsTrue, HasCounts};
 ghost use Rattle.proved_report.specs.Reports.{EqualIsOptimal};
 ghost use Rattle.tree_method.specs.Stands.{HasFewNodes, StandsOn, StandsCleared};
 ghost use Rattle.smps_session.specs.Reasons.{told_reasons};
-ghost use Rattle.smps_session.specs.Comes.{is_unfinished, ShowsFound, ComesOf, ComesOfAll};
+ghost use Rattle.smps_session.specs.Comes.{is_unfinished, ShowsFound, ComesOf, ComesOfAll, IsUnderWay};
 
 use frac128::Memory;
 use pass_core::Budget;
@@ -52,10 +52,14 @@ pub(crate) fn reported(
         → IfOk result (IsTrue (view_of p) (told_reasons program.now budget)) }
     ensures equal { IfOk result EqualIsOptimal }
     ensures stands { let p = content program.now in IsSmall p → StandsOn p budget method.old → OnOk result (StandsOn p budget method.new) }
-    ensures comes { let p = content program.now in IsProgram p → HasFewNodes p → StandsOn p budget method.old → StandsCleared method.old
-        → IfOk result (λ report. ComesOf budget program.now method.old report method.new) }
+    ensures comes { (start : ProgramOf) (came : ℕ) → let p = content program.now in IsProgram p → HasFewNodes p
+        → StandsOn p budget method.old → StandsCleared method.old → IsUnderWay budget start came p method.old
+        → IfOk result (λ report. ComesOf budget start came program.now method.old report method.new) }
     ensures cleared { let p = content program.now in IsProgram p → HasFewNodes p → StandsOn p budget method.old → StandsCleared method.old
         → OnOk result (StandsCleared method.new) }
+    ensures way { (start : ProgramOf) (came : ℕ) → let p = content program.now in IsProgram p → HasFewNodes p
+        → StandsOn p budget method.old → IsUnderWay budget start came p method.old
+        → OnOk result (IsUnderWay budget start (came + 1) p method.new) }
 {
     let mut report = found(alloc, program, method, number, budget)?;
     for _ in 0..budget.solves {
@@ -94,8 +98,8 @@ fn found(
         → IfOk result (IsTrue (view_of p) (told_reasons program.now budget)) }
     ensures equal { IfOk result EqualIsOptimal }
     ensures stands { let p = content program.now in StandsOn p budget method.old → OnOk result (StandsOn p budget method.new) }
-    ensures shows { let p = content program.now in IsProgram p → HasFewNodes p → StandsOn p budget method.old
-        → IfOk result (ShowsFound budget program.now method.old method.new) }
+    ensures shows { (start : ProgramOf) (came : ℕ) → let p = content program.now in IsProgram p → HasFewNodes p
+        → StandsOn p budget method.old → IfOk result (ShowsFound budget start came program.now method.old method.new) }
 {
     let found = method.find(alloc, program)?;
     report(

@@ -1,8 +1,9 @@
 //! A report as it is told.
-ghost use Rattle.std.specs.Prelude.{IfOk, OnOk};
-ghost use Rattle.scen_defs.specs.Program.{content};
+ghost use Rattle.std.specs.Prelude.{◌+◌, ℕ, IfOk, OnOk};
+ghost use Rattle.scen_defs.specs.Program.{content, Program as ProgramOf};
 ghost use Rattle.scen_defs.specs.Valid.{IsProgram};
 ghost use Rattle.tree_method.specs.Stands.{HasFewNodes, StandsOn, StandsCleared};
+ghost use Rattle.smps_session.specs.Comes.{IsUnderWay};
 ghost use Rattle.smps_session.specs.Told.{IsTold};
 
 use crate::running::reported;
@@ -32,9 +33,12 @@ pub(crate) fn told_one(
     requires program { IsProgram (content program.now) }
     requires stands { StandsOn (content program.now) budget method.old }
     requires cleared { HasFewNodes (content program.now) → StandsCleared method.old }
-    ensures told { IfOk result (λ told. IsTold budget number (content program.now) method.old told method.new) }
+    ensures told { (start : ProgramOf) (came : ℕ) → let p = content program.now in IsUnderWay budget start came p method.old
+        → IfOk result (λ told. IsTold budget start came number p method.old told method.new) }
     ensures stands { OnOk result (StandsOn (content program.now) budget method.new) }
     ensures cleared { HasFewNodes (content program.now) → OnOk result (StandsCleared method.new) }
+    ensures way { (start : ProgramOf) (came : ℕ) → let p = content program.now in IsUnderWay budget start came p method.old
+        → OnOk result (IsUnderWay budget start (came + 1) p method.new) }
 {
     let report = reported(alloc, program, method, number, budget)?;
     let mut text = Vec::new(alloc);

@@ -3,6 +3,7 @@ use Rattle.scen_defs.specs.Program.{content}
 use Rattle.input_files.specs.Fetched.{Texts}
 use Rattle.program_files.specs.Meant.{MeansProgram}
 use Rattle.input_files.specs.Unfetched.{texts_view}
+use Rattle.width_laws.proofs.Widths.{meant_have_widths}
 use Rattle.smps_cli.proofs.Few.{few_nodes}
 use Rattle.smps_cli.proofs.make.solved.Goals as goal
 
@@ -10,6 +11,7 @@ pub returns : goal.returns
 returns c = record {
   program = c.args.program.now;
   means = subst (λ (texts : Texts). MeansProgram texts (content c.args.program.now)) c.requires.texts c.requires.means;
+  widths = meant_have_widths (texts_view c.args.texts.now) (content c.args.program.now) c.requires.means;
   report = c.in_ok-report.report;
   truth = c.in_ok-report.ensures.truth c.requires.keeps.small c.requires.tree;
   counts = c.in_ok-report.ensures.counts c.requires.keeps.small;

@@ -1,6 +1,7 @@
 use Rattle.scen_defs.specs.Program.{content}
 use Rattle.tree_method.proofs.Numbers.{first_cleared}
 use Rattle.smps_session.proofs.ComeLemmas.{comes_of_all}
+use Rattle.smps_session.proofs.WayLemmas.{begins_way}
 use Rattle.smps_session.proofs.running.session.Goals as goal
 
 pub returns-clause-number : goal.returns-clause-number
@@ -20,5 +21,9 @@ returns-clause-equal c = c.reported.ensures.equal
 
 pub returns-clause-comes : goal.returns-clause-comes
 returns-clause-comes c = λ i few.
-    comes_of_all _ c.args.program.now c.in_ok-method.method c.reported.new.method c.reported.result (c.in_ok-method.ensures.begins i few)
-    (c.reported.ensures.comes i few (c.in_ok-method.ensures.stands i.small) (first_cleared (content c.args.program.now) (record { solves = c.args.solves; pivots = c.args.pivots }) c.in_ok-method.method (c.in_ok-method.ensures.begins i few)))
+    let p = content c.args.program.now in
+    let begins = c.in_ok-method.ensures.begins i few in
+    comes_of_all _ c.args.program.now c.in_ok-method.method c.reported.new.method c.reported.result begins
+    (c.reported.ensures.comes p 0 i few (c.in_ok-method.ensures.stands i.small)
+    (first_cleared p (record { solves = c.args.solves; pivots = c.args.pivots }) c.in_ok-method.method begins)
+    (begins_way (record { solves = c.args.solves; pivots = c.args.pivots }) 0 p c.in_ok-method.method i (λ small. begins)))

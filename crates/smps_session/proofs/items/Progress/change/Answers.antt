@@ -1,5 +1,6 @@
 use Rattle.scen_defs.specs.Program.{content}
 use Rattle.smps_session.proofs.ToldLemmas.{takes_edit, changed_cleared}
+use Rattle.smps_session.proofs.WayLemmas.{changed_way}
 use Rattle.smps_session.proofs.items.Progress.change.Goals as goal
 
 pub returns-clause-stands : goal.returns-clause-stands
@@ -15,3 +16,11 @@ pub returns-clause-cleared : goal.returns-clause-cleared
 returns-clause-cleared c = λ few.
     changed_cleared c.edit.result (content c.args.program.now) (content c.edit.new.program) c.args.edit.now c.work.new.self c.edit.new.self
     c.edit.ensures.after c.edit.ensures.method few
+
+pub returns-clause-way : goal.returns-clause-way
+returns-clause-way c = λ budget start came stands way.
+    let works = c.in_ok-work.ensures.stays budget stands in
+    changed_way c.edit.result budget start came (content c.args.program.now) (content c.edit.new.program) c.args.edit.now c.args.self.now.method
+    c.work.new.self c.edit.new.self c.requires.program c.requires.allowed c.edit.ensures.keeps stands works (c.edit.ensures.stands budget works)
+    (λ few. c.in_ok-work.ensures.solves budget c.requires.program few stands) c.in_ok-work.ensures.steps c.edit.ensures.after
+    c.edit.ensures.method way
