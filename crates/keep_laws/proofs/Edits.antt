@@ -297,10 +297,11 @@ module _ (p : Program) (e : Edit) (versions : List Version) (i : IsProgram p) (w
         → EachUsed (IsUpToDate (after p e) (raised_versions p e versions)) uses
     used_up_to_date bank n s at u No_stored m h none = tt
     used_up_to_date bank n s at u (Use_stored weight cut uses) m h none =
-        let first = of_first (IsBetween p versions (raised_versions p e versions)) cut h.0 in
-        (all_up_to_date bank n cut m.1 h.0 (stands_below bank n s.node (source_of cut).node weight at.live first.live m.0 u)
-        (λ t among under. (neither (reaches cut t) (any_reaches uses t) (none t among under)).0),
-        used_up_to_date bank n s at u uses m.2 h.1 (λ t among under. (neither (reaches cut t) (any_reaches uses t) (none t among under)).1))
+        let first = of_first (IsBetween p versions (raised_versions p e versions)) cut h.0 in (
+          all_up_to_date bank n cut m.1 h.0 (stands_below bank n s.node (source_of cut).node weight at.live first.live m.0 u)
+              (λ t among under. (neither (reaches cut t) (any_reaches uses t) (none t among under)).0),
+          used_up_to_date bank n s at u uses m.2 h.1 (λ t among under. (neither (reaches cut t) (any_reaches uses t) (none t among under)).1),
+        )
 
   -- ---- the sweeps
   -- a due of the edit

@@ -77,9 +77,11 @@ mutual
       → AreMadeFor b s.node uses
   all_rebooked a b s at No_stored h m = tt
   all_rebooked a b s at (Use_stored w cut uses) h m =
-      let top : SaysSame a b (source_of cut) = of_first (SaysSame a b) cut h.0 in
-      (record { weight = m.0.weight; parent = sym top.parent ∙ m.0.parent; stage = sym top.stage ∙ m.0.stage ∙ ap (λ (k : ℕ). suc k) at.stage },
-      rebooked a b cut h.0 m.1, all_rebooked a b s at uses h.1 m.2)
+      let top : SaysSame a b (source_of cut) = of_first (SaysSame a b) cut h.0 in (
+        record { weight = m.0.weight; parent = sym top.parent ∙ m.0.parent; stage = sym top.stage ∙ m.0.stage ∙ ap (λ (k : ℕ). suc k) at.stage },
+        rebooked a b cut h.0 m.1,
+        all_rebooked a b s at uses h.1 m.2,
+      )
 
 -- ---- a book whose versions begin with given ones
 abbrev pub from_versions : List Version → Book → Book

@@ -235,7 +235,6 @@ module _ (p : Program) (tree : Tree) (i : IsProgram p) (few : length p.nodes < n
       by (solved.Passed in_cut o) halts way = nothing halts way
       by solved.NotGood halts way = nothing halts way
 
-
   -- ---- all steps
   -- while nothing stops the method no reason lasts
   step_lasting : (old new : State) (m : Machine) (told : Bool) → MakesStep p old m new told → (old.stop ≡ None → old.lasting ≡ None)
