@@ -26,7 +26,6 @@ use Rattle.pass_core.specs.declared.budget.Budget.{Budget}
 use Rattle.pass_core.specs.declared.state.Counts.{Counts}
 use Rattle.pass_core.specs.declared.state.State.{State}
 use Rattle.pass_core.specs.Explained.{AreExplained}
-use Rattle.pass_core.specs.Reasons.{HasReason}
 use Rattle.run_ends.specs.Claims.{EndsAssembly}
 use Rattle.pass_core.specs.Counting.{one_solve_more}
 use Rattle.tree_method.specs.declared.found.Found.{Found}
@@ -41,8 +40,9 @@ use Rattle.tree_method.proofs.Numbers.{closing_dual, told_cleared}
 use Rattle.run_laws.specs.Ways.{AreFew, IsOnWay}
 use Rattle.run_laws.proofs.Finished.{ends_are_finished}
 use Rattle.run_laws.proofs.Ways.{solves_keep_way, ways_have_numbers}
+use Rattle.run_laws.proofs.WhereMet.{reasons_were_met}
 use Rattle.smps_session.specs.Reasons.{told_reasons}
-use Rattle.smps_session.specs.Comes.{tells_solves, is_unfinished, ShowsClosing, ShowsFound, PassesInTestOf, ComesOf, ComesOfAll, IsUnderWay}
+use Rattle.smps_session.specs.Comes.{tells_solves, is_unfinished, ShowsClosing, ShowsFound, PassesInTestOf, WasReason, ComesOf, ComesOfAll, IsUnderWay}
 use Rattle.smps_session.proofs.WayLemmas.{counted_within}
 
 -- ---- what is found and tested
@@ -198,12 +198,12 @@ all_counted budget w finding n b e (inl ended) =
 
 pub comes_of : (budget : Budget) (start : Started) (came : ℕ) (program : Program) (old mid new : Method) (report : Report) → IsProgram (content program)
     → HasFewNodes (content program) → StandsOn (content program) budget mid → StandsCleared old → IsTrue (view_of (content program)) (told_reasons program budget) report
-    → ShowsFound budget start came program old mid report → HasEnded budget report.finding mid → new ≡ after_telling mid
-    → ComesOf budget start came program old report new
-comes_of budget start came program (Idle why own) mid new report i few stands rests truth shows ended e =
+    → IsUnderWay budget start came (content program) old → ShowsFound budget start came program old mid report → HasEnded budget report.finding mid
+    → new ≡ after_telling mid → ComesOf budget start came program old report new
+comes_of budget start came program (Idle why own) mid new report i few stands rests truth way shows ended e =
     e ∙ ap after_telling shows
-comes_of budget start came program (AtWork old) (Idle why own) new report i few stands rests truth shows ended e = absurd shows
-comes_of budget start came program (AtWork old) (AtWork mid) new report i few stands rests truth shows ended e = (
+comes_of budget start came program (AtWork old) (Idle why own) new report i few stands rests truth way shows ended e = absurd shows
+comes_of budget start came program (AtWork old) (AtWork mid) new report i few stands rests truth way shows ended e = (
   mid,
   (
     record {
@@ -254,10 +254,18 @@ comes_of budget start came program (AtWork old) (AtWork mid) new report i few st
         passes_are_met program report.number (Cost s.counts.all) (closing s).why budget.solves (closing s).claim report place o shows.claimed f
 
     cut : (k : ℕ) (o : Operation) → report.finding ≡ OpenPassed (Cut k) o
-        → HasReason old.state (PassedAt (Cut k) o) ⊎ CutPasses (content program) k o old.state mid.state
+        → WasReason budget start came (content program) (PassedAt (Cut k) o) (CutPasses (content program) k o) old.state
+        ⊎ CutPasses (content program) k o old.state mid.state
     cut k o f =
         elim (told_at (Cut k) o f) [
-          | inl w ↦ cut_arises (content program) old.state mid.state k o shows.solves (inl (closing_passed mid.state (Cut k) o (λ q. cc) w))
+          | inl w ↦ elim (cut_arises (content program) old.state mid.state k o shows.solves
+              (inl (closing_passed mid.state (Cut k) o (λ q. cc) w))) [
+                | inl h ↦ inl (record {
+                  reason = h;
+                  met = λ widths items. reasons_were_met.cut (content program) old.state k o (way few widths items).run h;
+                })
+                | inr c ↦ inr c
+              ]
           | inr t ↦ elim (test_places program (Cost mid.state.counts.all) (closing mid.state).claim (Cut k) o t) [
             | inl q ↦ absurd (cc)
             | inr q ↦ absurd (cc)
@@ -265,12 +273,18 @@ comes_of budget start came program (AtWork old) (AtWork mid) new report i few st
         ]
 
     cost : (k : ℕ) (o : Operation) → report.finding ≡ OpenPassed (Cost k) o
-        → HasReason old.state (PassedAt (Cost k) o) ⊎ CostPasses (content program) k o old.state mid.state
-        ⊎ PassesInTestOf program mid.state (Cost k) o
+        → WasReason budget start came (content program) (PassedAt (Cost k) o) (CostPasses (content program) k o) old.state
+        ⊎ CostPasses (content program) k o old.state mid.state ⊎ PassesInTestOf program mid.state (Cost k) o
     cost k o f =
         elim (told_at (Cost k) o f) [
           | inl w ↦ elim (cost_arises (content program) old.state mid.state k o shows.solves
-              (inl (closing_passed mid.state (Cost k) o (λ q. cc) w))) [ inl h ↦ inl h | inr c ↦ inr (inl c) ]
+              (inl (closing_passed mid.state (Cost k) o (λ q. cc) w))) [
+                | inl h ↦ inl (record {
+                  reason = h;
+                  met = λ widths items. reasons_were_met.cost (content program) old.state k o (way few widths items).run h;
+                })
+                | inr c ↦ inr (inl c)
+              ]
           | inr t ↦ inr (inr t)
         ]
 

@@ -10,6 +10,7 @@ use Rattle.scen_defs.specs.declared.report.Report.{Report}
 use Rattle.rationals.specs.Passes.{Operation}
 use Rattle.node_lp.specs.declared.solved.Solved.TheVariants.{PivotsEnded, Passed}
 use Rattle.report_defs.specs.Truth.{IsTrue}
+use Rattle.proved_report.specs.declared.open.Open.{Open}
 use Rattle.proved_report.specs.declared.open.Open.TheVariants.{Passed as PassedAt}
 use Rattle.proved_report.specs.Open.{given}
 use Rattle.proved_report.specs.Reports.{IsClaimed}
@@ -27,6 +28,7 @@ use Rattle.tree_method.specs.Stands.{HasFewNodes, IsAtEnd, SolvesNodes, NeverAne
 use Rattle.tree_method.specs.Stands.{CutPasses, CostPasses, OpeningPasses, Begins, closing}
 use Rattle.tree_method.specs.Stands.{is_spent, after_telling}
 use Rattle.run_laws.specs.Ways.{AreFew, KeepsWay}
+use Rattle.run_laws.specs.WhereMet.{WasMet}
 
 -- left open by the number of solves
 abbrev pub tells_solves : Finding → Bool
@@ -62,11 +64,18 @@ ShowsFound budget start came program (Idle why own) new report = new ≡ Idle wh
 abbrev pub PassesInTestOf : ProgramOf → State → Place → Operation → Type 0
 PassesInTestOf program s told o = PassesInClaim program (Cost s.counts.all) (closing s).claim told o
 
+-- The method has a reason of a report before: the operation passed so on its way from an opening of the program, where the rows of the
+-- script's first program have the widths of their ranges, and few items came.
+pub record WasReason (budget : Budget) (start : Program) (came : ℕ) (p : Program) (why : Open) (Passes : State → State → Type 0) (old : State)
+    : Type 0 where
+  pub reason : HasReason old why
+  pub met : HasWidths start → AreFew budget came → WasMet p Passes old
+
 -- The report shows what is claimed behind solves. Where it tells that so many solves were made, so many were counted since the report
 -- before; where it tells that the pivots of a solve ended, or of an operation of a solve, one of them has that number, and ended so. An
--- operation at CUT or at COST passes in the cut or in the cost behind the solve with that number, if the method hadn't met it before; or,
--- at COST, in the test of the claimed points. One at GROUND passes before a run that was to open; one at DUAL where multipliers of the ends
--- are assembled, or in the test of those that are claimed.
+-- operation at CUT or at COST passes in the cut or in the cost behind the solve with that number, one of these solves or of those before
+-- the report before; or, at COST, in the test of the claimed points. One at GROUND passes before a run that was to open; one at DUAL where
+-- multipliers of the ends are assembled, or in the test of those that are claimed.
 pub record ComesOfSolves (budget : Budget) (start : Program) (came : ℕ) (program : ProgramOf) (old new : State) (report : Report)
     : Type 0 where
   pub shows : ShowsClosing budget start came program old new report
@@ -74,9 +83,11 @@ pub record ComesOfSolves (budget : Budget) (start : Program) (came : ℕ) (progr
   pub pivots : (k : ℕ) → report.finding ≡ OpenPivots k → HasSolve (content program) k PivotsEnded old new
   pub passed : (k : ℕ) (o : Operation) → report.finding ≡ OpenPassed (Solve k) o → HasSolve (content program) k (Passed false o) old new
   pub cut : (k : ℕ) (o : Operation) → report.finding ≡ OpenPassed (Cut k) o
-      → HasReason old (PassedAt (Cut k) o) ⊎ CutPasses (content program) k o old new
+      → WasReason budget start came (content program) (PassedAt (Cut k) o) (CutPasses (content program) k o) old
+      ⊎ CutPasses (content program) k o old new
   pub cost : (k : ℕ) (o : Operation) → report.finding ≡ OpenPassed (Cost k) o
-      → HasReason old (PassedAt (Cost k) o) ⊎ CostPasses (content program) k o old new ⊎ PassesInTestOf program new (Cost k) o
+      → WasReason budget start came (content program) (PassedAt (Cost k) o) (CostPasses (content program) k o) old
+      ⊎ CostPasses (content program) k o old new ⊎ PassesInTestOf program new (Cost k) o
   pub ground : (o : Operation) → report.finding ≡ OpenPassed Ground o → OpeningPasses (content program) o old new
   pub dual : (o : Operation) → report.finding ≡ OpenPassed Dual o → EndsAssembly new.ends o ⊎ PassesInTestOf program new Dual o
 

@@ -50,11 +50,11 @@ returns-clause-comes c = λ start came i few stands rests way.
     let p = content c.args.program.now in
     let under = c.loop.invariant.under_way start came i few stands way in
     comes_of c.args.budget start came c.args.program.now c.args.method.now c.loop.method c.close.new.self c.loop.report i few
-    (c.loop.invariant.stands i.small stands) rests (c.loop.invariant.truth i.small stands (programs_are_trees p i).0) under.0
+    (c.loop.invariant.stands i.small stands) rests (c.loop.invariant.truth i.small stands (programs_are_trees p i).0) way under.0
     (elim c.loop-test.branch [
-      | goal.else-loop-test way ↦ inr (counts_fewer c.loop.counter c.args.budget.solves c.loop.method (omega (arith, way.loop-test.false)) under.1)
-      | goal.then-loop-test+then-not-is_unfinished way ↦
-          inl (ended_by c.loop.report.finding c.loop.method way.is_unfinished.result way.is_unfinished.ensures way.if-not-is_unfinished.true)
+      | goal.else-loop-test w ↦ inr (counts_fewer c.loop.counter c.args.budget.solves c.loop.method (omega (arith, w.loop-test.false)) under.1)
+      | goal.then-loop-test+then-not-is_unfinished w ↦
+          inl (ended_by c.loop.report.finding c.loop.method w.is_unfinished.result w.is_unfinished.ensures w.if-not-is_unfinished.true)
     ]) c.close.ensures.after
 
 pub returns-clause-cleared : goal.returns-clause-cleared
