@@ -15,7 +15,7 @@ use Rattle.pass_core.specs.declared.budget.Budget.{Budget}
 use Rattle.tree_method.specs.declared.method.Method.{Method}
 use Rattle.tree_method.specs.declared.method.Method.TheVariants.{Working as AtWork, Idle}
 use Rattle.tree_method.specs.declared.method.Working.{Working}
-use Rattle.tree_method.specs.Stands.{HasFewNodes, WorksOn, StandsOn, Begins, WorksBySolves, WorksBySteps, GoesOn, after_telling}
+use Rattle.tree_method.specs.Stands.{HasFewNodes, WorksOn, StandsOn, Begins, WorksBySolves, GoesOn, after_telling}
 use Rattle.run_laws.specs.Ways.{AreFew}
 use Rattle.run_laws.proofs.Ways.{ways_begin, solves_keep_way, reports_keep_way, edits_keep_way}
 use Rattle.smps_session.specs.Comes.{ShowsFound, IsUnderWay}
@@ -65,31 +65,32 @@ widths_behind p e i allowed h = widths_stay p (e ∷ []) 1 i (edits_without_caus
 
 way_edited : (budget : Budget) (start : Program) (came : ℕ) (p : Program) (e : Edit) (old worked new : Method) → IsProgram p → IsAllowed p e
     → IsProgram (after p e) → StandsOn p budget old → StandsOn p budget worked → StandsOn (after p e) budget new
-    → (HasFewNodes p → WorksBySolves p old worked) → WorksBySteps p old worked → GoesOn p e worked new
+    → (HasFewNodes p → WorksBySolves p old worked) → GoesOn p e worked new
     → IsUnderWay budget start came p old → IsUnderWay budget start (came + 1) (after p e) new
-way_edited budget start came p e (AtWork old) (AtWork worked) (AtWork new) i allowed j here works works' solves steps goes way =
+way_edited budget start came p e (AtWork old) (AtWork worked) (AtWork new) i allowed j here works works' solves goes way =
     λ few widths items.
     let before = fewer_items budget came items in
     edits_keep_way budget came p e worked new before allowed few works works' goes
     (solves_keep_way budget came p old.state worked.state (solves (few_before p e few)).solves (way (few_before p e few) widths before))
-way_edited budget start came p e (AtWork old) (AtWork worked) (Idle why own) i allowed j here works works' solves steps goes way =
+way_edited budget start came p e (AtWork old) (AtWork worked) (Idle why own) i allowed j here works works' solves goes way =
     λ few widths items.
     widths_behind p e i allowed (way (few_before p e few) widths (fewer_items budget came items)).widths
-way_edited budget start came p e (AtWork old) (Idle why own) new i allowed j here works works' solves steps goes way = absurd steps
-way_edited budget start came p e (Idle why own) worked new i allowed j here works works' solves steps goes way =
+way_edited budget start came p e (AtWork old) (Idle why own) new i allowed j here works works' solves goes way =
+    λ few widths items. absurd (solves (few_before p e few))
+way_edited budget start came p e (Idle why own) worked new i allowed j here works works' solves goes way =
     λ few widths items.
-    let goes_on : GoesOn p e (Idle why own) new = subst (λ (m : Method). GoesOn p e m new) steps goes in
+    let goes_on : GoesOn p e (Idle why own) new = subst (λ (m : Method). GoesOn p e m new) (solves (few_before p e few)) goes in
     ways_begin budget (came + 1) (after p e) new j few
     (widths_behind p e i allowed (way (few_before p e few) widths (fewer_items budget came items)))
     (subst (λ (b : Budget). Begins (after p e) b new) here.0 (goes_on.1 few))
 
 pub changed_way : {A E : Type 0} (result : Result A E) (budget : Budget) (start : Program) (came : ℕ) (p q : Program) (e : Edit)
     (old worked new : Method) → IsProgram p → IsAllowed p e → OnOk result (IsProgram q) → StandsOn p budget old → StandsOn p budget worked
-    → OnOk result (StandsOn q budget new) → (HasFewNodes p → WorksBySolves p old worked) → WorksBySteps p old worked
+    → OnOk result (StandsOn q budget new) → (HasFewNodes p → WorksBySolves p old worked)
     → OnOk result (q ≡ after p e) → OnOk result (GoesOn p e worked new) → IsUnderWay budget start came p old
     → OnOk result (IsUnderWay budget start (came + 1) q new)
-changed_way (Ok x) budget start came p q e old worked new i allowed j here works works' solves steps a goes way =
+changed_way (Ok x) budget start came p q e old worked new i allowed j here works works' solves a goes way =
     subst (λ (r : Program). IsUnderWay budget start (came + 1) r new) (sym a)
     (way_edited budget start came p e old worked new i allowed (subst IsProgram a j) here works
-    (subst (λ (r : Program). StandsOn r budget new) a works') solves steps goes way)
-changed_way (Err x) budget start came p q e old worked new i allowed j here works works' solves steps a goes way = tt
+    (subst (λ (r : Program). StandsOn r budget new) a works') solves goes way)
+changed_way (Err x) budget start came p q e old worked new i allowed j here works works' solves a goes way = tt

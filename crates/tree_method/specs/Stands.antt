@@ -156,11 +156,11 @@ pub record SolvesOnce (p : Program) (old new : State) : Type 0 where
   pub solves : SolvesNodes p old new
   pub never : NeverAnew solves
 
--- the method has done nothing but that on the program
+-- the method has done nothing but that on the program, or can't work on it and stays as it is
 abbrev pub WorksBySolves : Program → Method → Method → Type 0
 WorksBySolves p (AtWork old) (AtWork new) = SolvesOnce p old.state new.state
 WorksBySolves p (AtWork old) (Idle why own) = ⊥
-WorksBySolves p (Idle why own) new = Unit {0}
+WorksBySolves p (Idle why own) new = new ≡ Idle why own
 
 -- one of these solves is counted as number k of all, and comes to this
 pub record HasSolve (p : Program) (k : ℕ) (all : Solved) (old new : State) : Type 0 where

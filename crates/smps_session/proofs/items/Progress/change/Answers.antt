@@ -22,5 +22,5 @@ returns-clause-way c = λ budget start came stands way.
     let works = c.in_ok-work.ensures.stays budget stands in
     changed_way c.edit.result budget start came (content c.args.program.now) (content c.edit.new.program) c.args.edit.now c.args.self.now.method
     c.work.new.self c.edit.new.self c.requires.program c.requires.allowed c.edit.ensures.keeps stands works (c.edit.ensures.stands budget works)
-    (λ few. c.in_ok-work.ensures.solves budget c.requires.program few stands) c.in_ok-work.ensures.steps c.edit.ensures.after
+    (λ few. c.in_ok-work.ensures.solves budget c.requires.program few stands) c.edit.ensures.after
     c.edit.ensures.method way
