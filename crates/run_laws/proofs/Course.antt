@@ -1,9 +1,7 @@
 -- What holds at an opening, and stays through steps and reports, holds of each state to which the program comes.
-use Rattle.std.proofs.Common.{◌≡◌, ℕ, zero, suc, ◌+◌, Bool, List, [], ◌∷◌, Some, None, slice_get, length, refl, sym, subst, ◌∙◌, arith}
+use Rattle.std.proofs.Common.{◌≡◌, ℕ, zero, suc, ◌+◌, Bool, List, [], Some, None, slice_get, length, refl, sym, subst, arith}
 use Rattle.scen_defs.specs.Program.{Program}
 use Rattle.cut_pool.specs.Held.{Held}
-use Rattle.cut_banks.specs.declared.banks.Banks.{Banks}
-use Rattle.cut_banks.specs.Banks.{empty_banks}
 use Rattle.cut_banks.specs.Pools.{no_cuts, all_empty}
 use Rattle.pass_table.specs.Machine.{Machine}
 use Rattle.proved_report.specs.declared.open.Open.TheVariants.{Solves}

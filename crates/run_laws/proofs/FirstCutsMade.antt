@@ -7,7 +7,6 @@ use Rattle.rationals.specs.Sparse.{Ascending}
 use Rattle.scen_defs.specs.Lists.{Each}
 use Rattle.scen_defs.specs.Ends.{InOrder}
 use Rattle.scen_defs.specs.Program.{Program, View}
-use Rattle.scen_defs.specs.Flat.{children}
 use Rattle.scen_defs.specs.Valid.{IsProgram, Lives}
 use Rattle.scen_defs.specs.Values.{At, at}
 use Rattle.scen_defs.specs.declared.program.NodeRow.{NodeRow}

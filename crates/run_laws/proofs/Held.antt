@@ -1,34 +1,27 @@
 -- What pools keep, and how many solves were counted, whatever stops the method.
-use Rattle.std.proofs.Common.{◌≡◌, ℕ, ◌+◌, ◌^◌, ◌<◌, ◌≤◌, ◌⊎◌, inl, inr, Bool, List, [], Option, Some, None, Ok, IfSome, length, refl, sym, ap, subst, ◌∙◌, arith}
+use Rattle.std.proofs.Common.{◌≡◌, ℕ, ◌+◌, ◌^◌, ◌<◌, ◌≤◌, ◌⊎◌, inl, inr, Bool, List, [], Ok, IfSome, refl, sym, ap, subst, ◌∙◌, arith}
 use Rattle.scen_defs.specs.Program.{Program}
 use Rattle.scen_defs.specs.Valid.{IsProgram, Lives}
 use Rattle.scen_defs.specs.declared.report.Kind.{Kind}
 use Rattle.scen_defs.specs.declared.report.Kind.TheVariants as run_kind
 use Rattle.scen_tree.specs.Trees.{Tree, tree_walk}
 use Rattle.cut_defs.specs.Data.{IsRight}
-use Rattle.cut_defs.specs.Stored.{Stored}
-use Rattle.cut_banks.specs.declared.banks.Banks.{Banks}
 use Rattle.edit_defs.specs.Data.{view_in, book}
 use Rattle.edit_defs.proofs.Books.{node-right}
 use Rattle.edit_defs.proofs.Programs.{edits_keep_programs}
 use Rattle.node_lp.specs.Told.{node_solved}
 use Rattle.pass_table.specs.Machine.{Machine, opened}
-use Rattle.proved_report.specs.declared.open.Open.TheVariants.{Solves}
-use Rattle.run_data.specs.Frames.{Frame, frame_of}
+use Rattle.run_data.specs.Frames.{frame_of}
 use Rattle.run_data.specs.declared.versions.Version.{Version}
-use Rattle.run_ends.specs.declared.ends.Ends.{Ends}
 use Rattle.run_ends.specs.declared.last.Lasts.{Lasts}
 use Rattle.pass_core.specs.declared.state.Counts.{Counts}
 use Rattle.pass_core.specs.declared.state.State.{State}
-use Rattle.pass_core.specs.Beginning.{IsBeginning}
 use Rattle.pass_core.specs.Counting.{with_commit}
 use Rattle.pass_core.specs.Explained.{cut_given}
-use Rattle.pass_core.specs.Grounds.{put_cuts}
 use Rattle.pass_core.specs.Left.{OpensRun, next_kind, offered_banks}
 use Rattle.pass_core.specs.Made.{script_books, AreBooksOf, EndsAreMade, CutsAreMade, KeepsBooks}
 use Rattle.pass_core.specs.Tabled.{IsTabledBy, Opens, not_opened, is_opened}
 use Rattle.pass_core.specs.Turns.{SolvesNode, GetsFirstCuts, OpensAnyhow, stays_closed, is_open, MakesStep, begins_none, opens_run, solves}
-use Rattle.tree_method.specs.Stands.{settled_in}
 use Rattle.keep_laws.specs.Kept.{IsCutNow, BanksAreKept}
 use Rattle.keep_laws.proofs.Offers.{offers_keep_cuts}
 use Rattle.keep_laws.proofs.Solves.{solves_give_cuts}

@@ -24,7 +24,6 @@ use Rattle.scen_defs.proofs.Runs.{recession_makes_good}
 use Rattle.scen_tree.specs.Trees.{Tree, tree_walk}
 use Rattle.cut_defs.specs.Cuts.{priced}
 use Rattle.cut_defs.specs.Data.{RowsRise}
-use Rattle.cut_defs.specs.declared.kinds.Bank.TheVariants.{Plain, Cone}
 use Rattle.cut_defs.specs.declared.kinds.CutKind.{CutKind}
 use Rattle.cut_defs.specs.declared.kinds.CutKind.TheVariants.{Bound}
 use Rattle.cut_defs.specs.Stored.{Stored, source_of, constant_of}

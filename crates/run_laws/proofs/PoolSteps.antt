@@ -1,7 +1,7 @@
 -- The pools of both banks through the steps of runs: each is of its node, no edit touched it, and its number stays low.
-use Rattle.std.proofs.Common.{◌≡◌, ℕ, zero, suc, ◌+◌, ◌<◌, ◌≤◌, ◌⊎◌, inl, inr, Bool, true, false, ◌&&◌, List, [], ◌∷◌, ◌++◌, Option, Some, None, Result, Ok, Err, IfSome, is_none, get_or, length, slice_get, slice_index_or, refl, sym, ap, ap₂, subst, ◌∙◌, arith, eq-eqb}
+use Rattle.std.proofs.Common.{◌≡◌, ℕ, zero, suc, ◌+◌, ◌<◌, ◌⊎◌, inl, inr, Bool, true, false, ◌&&◌, List, [], ◌∷◌, ◌++◌, Option, Some, None, Result, Ok, Err, IfSome, is_none, get_or, length, slice_get, slice_index_or, refl, sym, ap, ap₂, subst, ◌∙◌, arith, eq-eqb}
 use Rattle.std.specs.List.{Contains}
-use Rattle.std.proofs.lemmas.Bool.{lt-ltb, cases_eq}
+use Rattle.std.proofs.lemmas.Bool.{lt-ltb}
 use Rattle.scen_defs.specs.Lists.{pick, passes_at}
 use Rattle.scen_defs.specs.Program.{Program}
 use Rattle.scen_defs.specs.declared.report.Kind.{Kind}
@@ -28,12 +28,10 @@ use Rattle.cut_defs.specs.declared.versions.Stamp.{Stamp}
 use Rattle.cut_pool.specs.declared.offer.Offer.TheVariants.{Added, NotNeeded}
 use Rattle.cut_banks.specs.declared.banks.Banks.{Banks}
 use Rattle.cut_banks.specs.Banks.{pools_of, with_pools, pools_in}
-use Rattle.cut_banks.specs.Pools.{no_cuts, all_empty, may_take, may_put, pool_if, with_pool}
-use Rattle.pass_core.specs.Left.{OffersCut}
+use Rattle.cut_banks.specs.Pools.{may_take, may_put, pool_if, with_pool}
 use Rattle.pass_core.specs.Reasons.{IsStale, IsRefused, by_none, by_pool}
 use Rattle.pass_core.specs.Grounds.{put_in_pool, put_cut, put_cuts, CanPutInPool, CanPutCut, CanPutCuts}
-use Rattle.solve_laws.specs.Offers.{offered_pools, StaysOrGrows, stays, grows}
-use Rattle.solve_laws.proofs.Offers.{offers_hold, placed, ChangesAt, changes_at, as_before, changed}
+use Rattle.solve_laws.proofs.Offers.{placed, ChangesAt, changes_at, as_before, changed}
 use Rattle.std.proofs.lemmas.List.{length-map}
 use Rattle.scen_defs.specs.Program.{is_live}
 use Rattle.scen_defs.specs.Valid.{Lives}

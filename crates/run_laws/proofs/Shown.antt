@@ -34,7 +34,7 @@ use Rattle.run_ends.specs.Ends.{no_ends, after_policy}
 use Rattle.run_ends.specs.Lasts.{last_at, with_last, joined_points}
 use Rattle.pass_core.specs.declared.state.State.{State}
 use Rattle.pass_core.specs.Explained.{cut_given}
-use Rattle.pass_core.specs.Left.{KeepsKnown, HaltsBy, ends_behind, ends_without, TakesComplete, LeavesPoint, LeavesNone, LeavesBy, OpensRun, places_in}
+use Rattle.pass_core.specs.Left.{KeepsKnown, HaltsBy, ends_behind, ends_without, TakesComplete, LeavesPoint, LeavesNone, LeavesBy, places_in}
 use Rattle.pass_core.specs.Tabled.{IsTabledBy, Opens, not_opened, is_opened}
 use Rattle.pass_core.specs.Turns.{AreReady, SolvesNode, OpensAnyhow, stays_closed, is_open, MakesStep, begins_none, opens_run, solves}
 use Rattle.policy_laws.specs.Points.{AllMeet}

@@ -1,5 +1,5 @@
 -- A solve behind which nothing stops the method leaves a run that stands.
-use Rattle.std.proofs.Common.{◌≡◌, ℕ, zero, suc, ◌+◌, ◌<◌, ◌⊎◌, inl, inr, Bool, true, false, List, [], Option, Some, None, Ok, Err, Result, IfSome, get_or, length, refl, sym, ap, subst, ◌∙◌, arith}
+use Rattle.std.proofs.Common.{◌≡◌, ℕ, zero, suc, ◌<◌, ◌⊎◌, inl, inr, Bool, true, false, List, [], Option, Some, None, Ok, Err, Result, IfSome, get_or, length, refl, sym, ap, subst, ◌∙◌, arith}
 use Rattle.std.proofs.lemmas.Bool.{cases_eq}
 use Rattle.rationals.specs.Rational.{ℚ, zero_ℚ, one_ℚ, ◌+ℚ◌, ◌≤ℚ◌, ◌<ℚ◌, add_zero_ℚ, mul_zero_ℚ}
 use Rattle.rationals.specs.Sums.{sum-zero}

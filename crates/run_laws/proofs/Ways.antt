@@ -1,6 +1,6 @@
 -- The method keeps its way through a script.
-use Rattle.std.proofs.Common.{◌≡◌, ℕ, ◌+◌, ◌*◌, ◌^◌, ◌<◌, ◌≤◌, ◌⊎◌, inl, inr, Bool, true, false, List, [], ◌∷◌, Some, Ok, length, refl, sym, ap, subst, ◌∙◌, arith}
-use Rattle.std.proofs.Math.Nat.{mul-le-mul_left, mul-le-mul_right}
+use Rattle.std.proofs.Common.{◌≡◌, ℕ, ◌+◌, ◌*◌, ◌^◌, ◌<◌, ◌≤◌, ◌⊎◌, inl, inr, Bool, true, false, List, [], ◌∷◌, length, refl, sym, ap, subst, ◌∙◌, arith}
+use Rattle.std.proofs.Math.Nat.{mul-le-mul_left}
 use Rattle.scen_defs.specs.Program.{Program}
 use Rattle.scen_defs.specs.Valid.{IsProgram}
 use Rattle.scen_defs.specs.declared.report.Kind.{Kind}
@@ -23,23 +23,19 @@ use Rattle.pass_core.specs.declared.budget.Budget.{Budget}
 use Rattle.pass_core.specs.declared.state.Counts.{Counts}
 use Rattle.pass_core.specs.declared.state.State.{State}
 use Rattle.pass_core.specs.Counting.{with_commit}
-use Rattle.pass_core.specs.Left.{OpensRun}
-use Rattle.pass_core.specs.Made.{script_books, PoolsAreMade}
 use Rattle.pass_core.specs.Turns.{OpensAnyhow, stays_closed, is_open, MakesStep, begins_none, opens_run, solves}
 use Rattle.pass_core.proofs.MadeAfterEdits.{never_touched}
-use Rattle.tree_method.specs.declared.method.Method.{Method}
 use Rattle.tree_method.specs.declared.method.Method.TheVariants.{Working as AtWork, Idle}
 use Rattle.tree_method.specs.declared.method.Working.{Working}
-use Rattle.tree_method.specs.Edited.{is_grown, dues_of, IsEdited}
+use Rattle.tree_method.specs.Edited.{dues_of, IsEdited}
 use Rattle.tree_method.specs.Stands.{HasFewNodes, WorksOn, SolvesNodes, none, more, anew}
 use Rattle.tree_method.proofs.StandLemmas.{frame_stays}
-use Rattle.keep_laws.specs.Kept.{IsKeptAt, AreKept, BanksAreKept}
 use Rattle.keep_laws.specs.Laws.{CutsAreNow}
 use Rattle.keep_laws.proofs.Pools.{still_kept}
 use Rattle.keep_laws.proofs.Touched.{rows_behind, costs_behind}
 use Rattle.keep_laws.proofs.Edits.{edits_keep_cuts}
 use Rattle.keep_laws.proofs.Dues.{dues_are_few}
-use Rattle.run_laws.specs.Courses.{IsOpening, here, by_solves, by_report, IsRunTo, NumbersSuffice, behind_report}
+use Rattle.run_laws.specs.Courses.{IsOpening, here, by_solves, by_report}
 use Rattle.run_laws.specs.Ways.{AreFew, IsOnWay, WaysBegin, SolvesKeepWay, WaysHaveNumbers, ReportsKeepWay, EditsKeepWay}
 use Rattle.run_laws.proofs.Standing.{runs_before}
 use Rattle.run_laws.proofs.Course.{beginning_opens}

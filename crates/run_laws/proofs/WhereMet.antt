@@ -1,6 +1,5 @@
 -- An operation that a state keeps as a reason passed on the way to it.
-use Rattle.std.proofs.Common.{◌≡◌, ◌⊎◌, inl, inr, ℕ, None, Some, sym, ◌∙◌}
-use Rattle.rationals.specs.Passes.{Operation}
+use Rattle.std.proofs.Common.{◌≡◌, ◌⊎◌, inl, inr, None, Some, sym, ◌∙◌}
 use Rattle.scen_defs.specs.Program.{Program}
 use Rattle.scen_defs.specs.declared.report.Place.TheVariants.{Cut, Cost}
 use Rattle.proved_report.specs.declared.open.Open.{Open}

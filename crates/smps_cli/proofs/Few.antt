@@ -1,5 +1,5 @@
 -- A program that files mean has few nodes.
-use Rattle.std.proofs.Common.{◌≡◌, ℕ, ◌+◌, ◌≤◌, ◌<◌, ◌||◌, Bool, false, List, [], ◌∷◌, ◌++◌, length, map, Option, Some, Result, Ok, Err, refl, ap, arith}
+use Rattle.std.proofs.Common.{◌≡◌, ℕ, ◌+◌, ◌≤◌, false, List, [], ◌∷◌, ◌++◌, length, map, Option, Some, Result, Ok, Err, refl, ap, arith}
 use Rattle.std.proofs.lemmas.Bool.{or_parts}
 use Rattle.std.proofs.lemmas.Bool.Decides.{nat_tests}
 use Rattle.std.proofs.lemmas.List.{length-append}
@@ -12,7 +12,7 @@ use Rattle.scen_defs.specs.Program.{Node, Program}
 use Rattle.scen_tree.specs.Chances.{chances_walk}
 use Rattle.build_defs.specs.Scenarios.{scenarios_of}
 use Rattle.build_defs.specs.Nodes.{Stand, nodes_of, rows_at}
-use Rattle.build_defs.specs.Built.{position_of, node_rows, node_at, nodes_from, program_of, paths_from, built, most_scenarios, most_nodes, exceeds_at, exceeds}
+use Rattle.build_defs.specs.Built.{position_of, node_rows, node_at, nodes_from, program_of, paths_from, built, most_scenarios, most_nodes, exceeds_at}
 use Rattle.input_files.specs.Fetched.{Texts}
 use Rattle.program_files.specs.Meant.{MeansProgram}
 use Rattle.tree_method.specs.Stands.{HasFewNodes}

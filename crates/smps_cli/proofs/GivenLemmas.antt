@@ -1,5 +1,5 @@
 -- Texts that the shelf gave aren't too long.
-use Rattle.std.proofs.Common.{◌≡◌, ◌≤◌, ℕ, List, length, Option, Some, None}
+use Rattle.std.proofs.Common.{◌≤◌, ℕ, List, length, Option, Some, None}
 use Rattle.std.specs.Prelude.{IfSome}
 use Rattle.smps_io.specs.Files.{Files}
 use Rattle.command_words.specs.Commands.{FileNames}

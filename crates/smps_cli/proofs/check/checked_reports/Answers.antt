@@ -1,4 +1,4 @@
-use Rattle.std.proofs.Common.{◌≡◌, ◌++◌, ℕ, Bool, List, not, ap, sym, ◌∙◌}
+use Rattle.std.proofs.Common.{◌≡◌, ◌++◌, ℕ, Bool, List, not, ap, ◌∙◌}
 use Rattle.std.specs.List.{flat_map}
 use Rattle.script_checks.specs.declared.single.Checked.{Checked}
 use Rattle.script_checks.specs.Checked.{line_of, all_hold}

@@ -1,4 +1,4 @@
-use Rattle.std.proofs.Common.{arith, rules}
+use Rattle.std.proofs.Common.{arith}
 use Rattle.smps_io.proofs.PutLemmas.{appends_more, rose_more}
 use Rattle.smps_cli.proofs.WriteLemmas.{appends_part}
 use Rattle.smps_cli.proofs.write.write_texts.Goals as goal

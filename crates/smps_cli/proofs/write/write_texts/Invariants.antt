@@ -1,4 +1,4 @@
-use Rattle.std.proofs.Common.{◌≡◌, length, ◌-◌, ◌≤◌, take}
+use Rattle.std.proofs.Common.{length, ◌-◌, ◌≤◌, take}
 use Rattle.smps_io.specs.Faults.{RoseBy}
 use Rattle.smps_io.specs.Puts.{Appends}
 use Rattle.smps_cli.proofs.write.write_texts.Given as goal
