@@ -1,6 +1,16 @@
 //! The lines and fields of a text. A line ends at a line feed or at the end of the text; blanks are the space, the tab
 //! and the carriage return; fields are the longest pieces without blanks.
 
+/// What a line of a file is.
+#[derive(Clone, Copy, Drop)]
+pub enum Line<'a> {
+    /// A comment, or without fields.
+    Skipped,
+    /// A header with its first word.
+    Header(&'a [u8]),
+    Data,
+}
+
 /// The line of a number, counted from 1, without its line feed, and whether the text ends with it. None where there is no
 /// such line; behind the last line feed stands an empty one.
 pub fn raw_line(text: &[u8], number: u32) -> Option<(&[u8], bool)> {
@@ -42,4 +52,18 @@ pub fn end_field(line: &[u8]) -> &[u8] {
         .filter(|field| !field.is_empty())
         .last()
         .unwrap_or(&[])
+}
+
+/// What a line is. A comment begins with `*`, a header with a byte that isn't a blank.
+pub fn kind_of(line: &[u8]) -> Line<'_> {
+    let (Some(first), Some(word)) = (line.first(), field(line, 0)) else {
+        return Line::Skipped;
+    };
+    if *first == b'*' {
+        Line::Skipped
+    } else if is_blank(*first) {
+        Line::Data
+    } else {
+        Line::Header(word)
+    }
 }

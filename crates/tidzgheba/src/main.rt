@@ -8,6 +8,7 @@ ghost use Rattle.tidzgheba.specs.Ending.{EndsOn, EndsWith, IsStatusOf};
 mod causes;
 mod checked;
 mod explain;
+mod fault_field;
 mod files;
 mod lines;
 mod noted;

@@ -1,5 +1,6 @@
 //! What standard error says of a file that is refused or can't be read.
 use crate::causes::sentence;
+use crate::fault_field::{Faulty, fields_at_fault};
 use crate::files::{name_of, read_again, why_unread};
 use crate::lines::numbered_line;
 use crate::report_fault::report_fault;
@@ -37,7 +38,10 @@ pub fn put_refusal<R: Runtime>(
         write!(text, ", line {line}")?;
     }
     match bytes_of(rt, alloc, sources, file) {
-        Some(bytes) => put_cause(text, file, &bytes, line, cause)?,
+        Some(bytes) => {
+            let core = bytes_of(rt, alloc, sources, FileKind::Core);
+            put_cause(text, file, &bytes, core.as_deref(), line, cause)?;
+        }
         None => put_reason(text, sentence(file, cause))?,
     }
     let number = cause.number();
@@ -59,24 +63,51 @@ fn put_reason(text: &mut String, sentence: &str) -> Result<(), AllocError> {
     writeln!(text, ": {sentence}")
 }
 
-/// Appends why a file of these bytes is refused, and the line where it has one.
+/// Appends why a file of these bytes is refused, the fields at fault where the line tells them, and the line where it has one. The core
+/// file is there where it can be read again.
 fn put_cause(
     text: &mut String,
     file: FileKind,
     bytes: &[u8],
+    core: Option<&[u8]>,
     number: u32,
     cause: Cause,
 ) -> Result<(), AllocError> {
-    match cause {
-        Cause::ReportBad => put_reason(text, report_fault(bytes, number))?,
-        _ => put_reason(text, sentence(file, cause))?,
+    let reason = match cause {
+        Cause::ReportBad => report_fault(bytes, number),
+        _ => sentence(file, cause),
+    };
+    write!(text, ": {reason}")?;
+    match fields_at_fault(file, cause, bytes, core, number) {
+        Some(fields) => put_fields(text, fields)?,
+        None => {}
     }
+    text.push_str("\n")?;
     if let Some(line) = numbered_line(bytes, number) {
         write!(text, "  {number} | ")?;
         push_line(text, line)?;
         text.push_str("\n")?;
     }
     Ok(())
+}
+
+/// Appends fields of a line in quotes.
+fn put_fields(text: &mut String, fields: Faulty<'_>) -> Result<(), AllocError> {
+    text.push_str(": ")?;
+    put_field(text, fields.first)?;
+    match fields.second {
+        Some(row) => {
+            text.push_str(" ")?;
+            put_field(text, row)
+        }
+        None => Ok(()),
+    }
+}
+
+fn put_field(text: &mut String, field: &[u8]) -> Result<(), AllocError> {
+    text.push_str("'")?;
+    push_line(text, field)?;
+    text.push_str("'")
 }
 
 /// Appends that a file is too long.

@@ -1,6 +1,6 @@
 //! Lines of RHS, RANGES and BOUNDS that a core file states and nothing uses. In each of these sections the set of the
 //! first line is used, and lines of another set are skipped; so a misspelt set name drops lines.
-use crate::lines::{field, field_count, is_blank};
+use crate::lines::{Line, field, field_count, kind_of};
 
 /// A section whose lines belong to sets.
 #[derive(Clone, Copy, Debug, PartialEq, Eq)]
@@ -45,15 +45,6 @@ pub struct Unused<'a> {
 struct Tally<'a> {
     used: Option<Set<'a>>,
     unused: Option<Unused<'a>>,
-}
-
-/// What a line of a file is.
-enum Line<'a> {
-    /// A comment, or without fields.
-    Skipped,
-    /// A header with its first word.
-    Header(&'a [u8]),
-    Data,
 }
 
 /// The lines of a section of a core file that aren't used; none where all are. The file has been read without a fault.
@@ -112,20 +103,6 @@ fn is_same(left: Set<'_>, right: Set<'_>) -> bool {
         (Some(left), Some(right)) => left == right,
         (None, None) => true,
         _ => false,
-    }
-}
-
-/// What a line is. A comment begins with `*`, a header with a byte that isn't a blank.
-fn kind_of(line: &[u8]) -> Line<'_> {
-    let (Some(first), Some(word)) = (line.first(), field(line, 0)) else {
-        return Line::Skipped;
-    };
-    if *first == b'*' {
-        Line::Skipped
-    } else if is_blank(*first) {
-        Line::Data
-    } else {
-        Line::Header(word)
     }
 }
 

@@ -1,0 +1,310 @@
+//! The fields of a refused line that are at fault, where the line and those before it tell which they are.
+use crate::lines::{Line, field, field_count, kind_of, numbered_line};
+use frac128::{NumFault, parse};
+use mps_core::Cause;
+use smps_cli::FileKind;
+
+/// Where the fields at fault stand in their line, counted from 0.
+#[derive(Clone, Copy, Debug, PartialEq, Eq)]
+enum Places {
+    One(usize),
+    /// A column and a row, which name an entry together.
+    Entry(usize, usize),
+}
+
+/// The fields of a line that are at fault.
+#[derive(Clone, Copy, Debug, PartialEq, Eq, Drop)]
+pub struct Faulty<'a> {
+    pub first: &'a [u8],
+    /// The row, behind its column.
+    pub second: Option<&'a [u8]>,
+}
+
+/// A line that is refused, and where it stands.
+#[derive(Clone, Copy, Drop)]
+struct Refused<'a> {
+    line: &'a [u8],
+    /// How many fields it has.
+    count: usize,
+    /// The first word of the last header before it; empty where there is none.
+    section: &'a [u8],
+}
+
+/// The fields at fault in the line with this number of a file; none where it isn't sure which they are. The core file is the one that a
+/// time file goes with; none where it can't be read again.
+pub fn fields_at_fault<'a>(
+    file: FileKind,
+    cause: Cause,
+    text: &'a [u8],
+    core: Option<&[u8]>,
+    number: u32,
+) -> Option<Faulty<'a>> {
+    let line = numbered_line(text, number)?;
+    let at = Refused {
+        line,
+        count: field_count(line),
+        section: section_before(text, number),
+    };
+    let places = match file {
+        FileKind::Core => Places::One(core_place(text, at, cause)?),
+        FileKind::Time => Places::One(time_place(core, at, cause)?),
+        FileKind::Stoch => stoch_places(at, cause)?,
+        FileKind::Edits => edit_places(at, cause)?,
+        FileKind::Report | FileKind::Trace => return None,
+    };
+    match places {
+        Places::One(place) => Some(Faulty {
+            first: field(line, place)?,
+            second: None,
+        }),
+        Places::Entry(column, row) => Some(Faulty {
+            first: field(line, column)?,
+            second: field(line, row),
+        }),
+    }
+}
+
+/// The first word of the last header before the line with this number; empty where there is none.
+fn section_before(text: &[u8], number: u32) -> &[u8] {
+    let mut section: &[u8] = &[];
+    for (before, line) in text.split(|byte| *byte == b'\n').enumerate() {
+        if (before as u64).saturating_add(1) >= number as u64 {
+            break;
+        }
+        if let Line::Header(word) = kind_of(line) {
+            section = word;
+        }
+    }
+    section
+}
+
+/// In a core file.
+fn core_place(text: &[u8], at: Refused<'_>, cause: Cause) -> Option<usize> {
+    match cause {
+        Cause::SectionUnknown
+        | Cause::SectionOrder
+        | Cause::RowKind
+        | Cause::ColumnSplit
+        | Cause::BoundKind => Some(0),
+        Cause::RowTwice => Some(1),
+        Cause::RowUnknown => unknown_row(text, at),
+        Cause::NumberBad => core_number(at, NumFault::Bad),
+        Cause::NumberWide => core_number(at, NumFault::Wide),
+        Cause::BoundsCross | Cause::UpperNegative | Cause::ColumnUnknown => bound_column(at),
+        Cause::EntryTwice => twice(at),
+        _ => None,
+    }
+}
+
+/// Where the first row of a line of pairs of row and value stands.
+fn first_row(at: Refused<'_>) -> usize {
+    match at.section {
+        b"RHS" | b"RANGES" => at.count % 2,
+        _ => 1,
+    }
+}
+
+/// The first row of a line of pairs that the core file doesn't state.
+fn unknown_row(text: &[u8], at: Refused<'_>) -> Option<usize> {
+    let first = first_row(at);
+    if is_stated(text, b"ROWS", 1, field(at.line, first)?) {
+        Some(first.saturating_add(2))
+    } else {
+        Some(first)
+    }
+}
+
+/// Whether a data line of a section has this name at this place.
+fn is_stated(text: &[u8], section: &[u8], place: usize, name: &[u8]) -> bool {
+    let mut is_here = false;
+    for line in text.split(|byte| *byte == b'\n') {
+        match kind_of(line) {
+            Line::Header(b"ENDATA") => break,
+            Line::Header(word) => is_here = word == section,
+            Line::Data if is_here && field(line, place) == Some(name) => return true,
+            Line::Data | Line::Skipped => {}
+        }
+    }
+    false
+}
+
+/// The first number of a line of a core file that has this fault.
+fn core_number(at: Refused<'_>, fault: NumFault) -> Option<usize> {
+    if at.section == b"BOUNDS".as_slice() {
+        return at.count.checked_sub(1);
+    }
+    let first = first_row(at);
+    first_number(
+        at.line,
+        first.saturating_add(1),
+        first.saturating_add(3),
+        fault,
+    )
+}
+
+/// Which of two fields is the first that has this fault of a number.
+fn first_number(line: &[u8], first: usize, second: usize, fault: NumFault) -> Option<usize> {
+    if has_fault(line, first, fault) {
+        Some(first)
+    } else if has_fault(line, second, fault) {
+        Some(second)
+    } else {
+        None
+    }
+}
+
+fn has_fault(line: &[u8], place: usize, fault: NumFault) -> bool {
+    match field(line, place) {
+        Some(word) => parse(word) == Err(fault),
+        None => false,
+    }
+}
+
+/// The column of a line of BOUNDS.
+fn bound_column(at: Refused<'_>) -> Option<usize> {
+    match (field(at.line, 0), at.count) {
+        (Some(b"LO" | b"UP" | b"FX"), count) => count.checked_sub(2),
+        (_, 2) => Some(1),
+        _ => Some(2),
+    }
+}
+
+/// The row that stands twice; none where an earlier line decides which of two it is.
+fn twice(at: Refused<'_>) -> Option<usize> {
+    let first = first_row(at);
+    let second = first.saturating_add(2);
+    match field(at.line, second) {
+        None => Some(first),
+        Some(row) if field(at.line, first) == Some(row) => Some(second),
+        Some(_) => None,
+    }
+}
+
+/// In a time file.
+fn time_place(core: Option<&[u8]>, at: Refused<'_>, cause: Cause) -> Option<usize> {
+    match cause {
+        Cause::SectionUnknown | Cause::SectionOrder | Cause::PlaceTwice => Some(0),
+        Cause::StartUnknown if at.section == b"PERIODS".as_slice() => unknown_start(core?, at),
+        Cause::StartUnknown => Some(0),
+        Cause::PeriodUnknown => Some(1),
+        Cause::PeriodOrder | Cause::PeriodTwice => at.count.checked_sub(1),
+        _ => None,
+    }
+}
+
+/// The column of a period's start, where the core file doesn't state it, or else the row.
+fn unknown_start(core: &[u8], at: Refused<'_>) -> Option<usize> {
+    if is_stated(core, b"COLUMNS", 0, field(at.line, 0)?) {
+        Some(1)
+    } else {
+        Some(0)
+    }
+}
+
+/// In a stoch file.
+fn stoch_places(at: Refused<'_>, cause: Cause) -> Option<Places> {
+    match cause {
+        Cause::SectionUnknown | Cause::SectionOrder | Cause::ScenariosMixed => Some(Places::One(0)),
+        Cause::KindUnknown => Some(Places::One(unknown_word(at))),
+        Cause::EntryUnknown | Cause::EntryTwice => entry(at),
+        Cause::EntryStage => stage(at),
+        Cause::NumberBad => Some(Places::One(stoch_number(at, NumFault::Bad)?)),
+        Cause::NumberWide => Some(Places::One(stoch_number(at, NumFault::Wide)?)),
+        Cause::ProbabilityRange => Some(Places::One(chance(at)?)),
+        Cause::ParentUnknown => Some(Places::One(2)),
+        Cause::BranchPeriod => Some(Places::One(4)),
+        Cause::ScenarioTwice => Some(Places::One(1)),
+        _ => None,
+    }
+}
+
+/// Whether a line begins a case of a block or a scenario.
+fn begins_case(at: Refused<'_>) -> bool {
+    match (at.section, field(at.line, 0), at.count) {
+        (b"BLOCKS", Some(b"BL"), 4) | (b"SCENARIOS", Some(b"SC"), 5) => true,
+        _ => false,
+    }
+}
+
+/// The first word of a header that says nothing that is known.
+fn unknown_word(at: Refused<'_>) -> usize {
+    match (field(at.line, 1), field(at.line, 2)) {
+        (Some(b"DISCRETE"), Some(b"REPLACE" | b"ADD" | b"MULTIPLY")) => 3,
+        (Some(b"DISCRETE"), _) => 2,
+        _ => 1,
+    }
+}
+
+/// The entry of a line that names one.
+fn entry(at: Refused<'_>) -> Option<Places> {
+    if at.section == b"INDEP".as_slice() || at.count <= 3 {
+        Some(Places::Entry(0, 1))
+    } else {
+        None
+    }
+}
+
+/// The period that doesn't fit, or the entry that doesn't go with one.
+fn stage(at: Refused<'_>) -> Option<Places> {
+    if begins_case(at) {
+        return Some(Places::One(2));
+    }
+    if at.section == b"INDEP".as_slice() && at.count == 5 {
+        let period = field(at.line, 3)?;
+        return match parse(period) {
+            Ok(_) => Some(Places::One(3)),
+            Err(_) => None,
+        };
+    }
+    entry(at)
+}
+
+/// The first number of a line of a stoch file that has this fault.
+fn stoch_number(at: Refused<'_>, fault: NumFault) -> Option<usize> {
+    if begins_case(at) {
+        return Some(3);
+    }
+    let last = if at.section == b"INDEP".as_slice() {
+        at.count.checked_sub(1)?
+    } else {
+        4
+    };
+    first_number(at.line, 2, last, fault)
+}
+
+/// The probability of a line that has one.
+fn chance(at: Refused<'_>) -> Option<usize> {
+    if begins_case(at) {
+        Some(3)
+    } else {
+        at.count.checked_sub(1)
+    }
+}
+
+/// In an edit list.
+fn edit_places(at: Refused<'_>, cause: Cause) -> Option<Places> {
+    match (cause, field(at.line, 0)?) {
+        (Cause::EditEntryUnknown | Cause::EntryStage, _) => Some(Places::Entry(2, 3)),
+        (Cause::CommandUnknown, _) => Some(Places::One(0)),
+        (Cause::ScenarioUnknown, b"ADD") => Some(Places::One(2)),
+        (Cause::ScenarioUnknown | Cause::NameTaken | Cause::LastScenario, _) => Some(Places::One(
+            1,
+        )),
+        (Cause::BranchPeriod, _) => Some(Places::One(4)),
+        (Cause::NumberBad | Cause::NumberWide | Cause::EditProbability, word) => {
+            Some(Places::One(edit_number(word)?))
+        }
+        _ => None,
+    }
+}
+
+/// Where the number of a command stands.
+fn edit_number(word: &[u8]) -> Option<usize> {
+    match word {
+        b"SET" => Some(4),
+        b"ADD" => Some(3),
+        b"PROB" => Some(2),
+        b"WORK" => Some(1),
+        _ => None,
+    }
+}
