@@ -30,7 +30,9 @@ pub fn sentence(file: FileKind, cause: Cause) -> &'static str {
             "there are more than 4,000 constraints, 4,000 columns or 100,000 entries",
         Cause::StartUnknown =>
             "a name on that line isn't that of a column or a constraint; the objective stands at most on the first line of PERIODS",
-        Cause::PeriodOrder => "that period doesn't start after the one before it",
+        Cause::PeriodOrder =>
+            "that period doesn't start after the one before it; the first one starts with the first column and the objective or the first \
+constraint",
         Cause::PeriodTwice => "that period's name was there before",
         Cause::NotTriangular { row: _, column: _ } =>
             "a row has an entry of a column of a later period",
@@ -112,7 +114,7 @@ fn passing(file: FileKind) -> &'static str {
 fn missing(file: FileKind) -> &'static str {
     match file {
         FileKind::Core => "COLUMNS or ENDATA is missing",
-        FileKind::Time => "PERIODS or ENDATA is missing",
+        FileKind::Time => "PERIODS or ENDATA is missing, or, with EXPLICIT, ROWS or COLUMNS",
         _ => "ENDATA is missing",
     }
 }

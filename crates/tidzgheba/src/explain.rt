@@ -17,7 +17,7 @@ usage: tidzgheba solve --core FILE [--time FILE [--stoch FILE]] [--edits FILE] [
        tidzgheba show --core FILE [--time FILE [--stoch FILE]] [--edits FILE]
        tidzgheba make --start N --stages N --branches N --size N [--text core|time|stoch]
 where --solves and --pivots are from 1 to 1000000000, --start from 0 to 65536, --stages from 2 to 6, --branches from 2 to 4,
-and --size from 1 to 20
+and --size from 1 to 20; solve also takes --workers 1
 ";
 
 const OPEN_PASSED: &str =
@@ -112,7 +112,10 @@ fn put_made(text: &mut String, status: &Status, noted: Noted) -> Result<(), Allo
     match status {
         Status::SomeOpen => {
             put_opens(text, noted)?;
-            text.push_str(MADE_OPEN)
+            if noted.open_solves || noted.open_pivots {
+                text.push_str(MADE_OPEN)?;
+            }
+            Ok(())
         }
         Status::Words => text.push_str(USAGE),
         Status::WriteFault => text.push_str(UNWRITTEN),

@@ -1,8 +1,11 @@
 //! The fields of a refused line that are at fault, where the line and those before it tell which they are.
 use crate::lines::{Line, field, field_count, kind_of, numbered_line};
+use crate::visible::push_line;
 use frac128::{NumFault, parse};
 use mps_core::Cause;
 use smps_cli::FileKind;
+use std::alloc::AllocError;
+use std::fmt::Write;
 
 /// Where the fields at fault stand in their line, counted from 0.
 #[derive(Clone, Copy, Debug, PartialEq, Eq)]
@@ -10,14 +13,6 @@ enum Places {
     One(usize),
     /// A column and a row, which name an entry together.
     Entry(usize, usize),
-}
-
-/// The fields of a line that are at fault.
-#[derive(Clone, Copy, Debug, PartialEq, Eq, Drop)]
-pub struct Faulty<'a> {
-    pub first: &'a [u8],
-    /// The row, behind its column.
-    pub second: Option<&'a [u8]>,
 }
 
 /// A line that is refused, and where it stands.
@@ -30,37 +25,77 @@ struct Refused<'a> {
     section: &'a [u8],
 }
 
-/// The fields at fault in the line with this number of a file; none where it isn't sure which they are. The core file is the one that a
-/// time file goes with; none where it can't be read again.
-pub fn fields_at_fault<'a>(
+/// Appends the fields at fault in the line with this number of a file of these bytes, where it is sure which they are; or how many fields
+/// it has, where that is at fault. The core file is the one that a time file goes with; empty where it can't be read again.
+pub fn put_fault(
+    text: &mut String,
     file: FileKind,
     cause: Cause,
-    text: &'a [u8],
-    core: Option<&[u8]>,
+    bytes: &[u8],
+    core: &[u8],
     number: u32,
-) -> Option<Faulty<'a>> {
-    let line = numbered_line(text, number)?;
+) -> Result<(), AllocError> {
+    let Some(line) = numbered_line(bytes, number) else {
+        return Ok(());
+    };
     let at = Refused {
         line,
         count: field_count(line),
-        section: section_before(text, number),
+        section: section_before(bytes, number),
     };
-    let places = match file {
-        FileKind::Core => Places::One(core_place(text, at, cause)?),
-        FileKind::Time => Places::One(time_place(core, at, cause)?),
-        FileKind::Stoch => stoch_places(at, cause)?,
-        FileKind::Edits => edit_places(at, cause)?,
-        FileKind::Report | FileKind::Trace => return None,
-    };
+    if cause == Cause::FieldCount {
+        let count = at.count;
+        return write!(text, ": it has {count}");
+    }
+    put_places(text, line, where_at_fault(file, cause, bytes, core, at))
+}
+
+/// Appends the fields at these places of a line in quotes.
+fn put_places(text: &mut String, line: &[u8], places: Option<Places>) -> Result<(), AllocError> {
     match places {
-        Places::One(place) => Some(Faulty {
-            first: field(line, place)?,
-            second: None,
-        }),
-        Places::Entry(column, row) => Some(Faulty {
-            first: field(line, column)?,
-            second: field(line, row),
-        }),
+        Some(Places::One(place)) => put_field(text, ": ", line, place),
+        Some(Places::Entry(column, row)) => {
+            put_field(text, ": ", line, column)?;
+            put_field(text, " ", line, row)
+        }
+        None => Ok(()),
+    }
+}
+
+/// Appends the field at this place of a line in quotes, behind what goes before it.
+fn put_field(text: &mut String, before: &str, line: &[u8], place: usize) -> Result<(), AllocError> {
+    match field(line, place) {
+        Some(word) => {
+            text.push_str(before)?;
+            text.push_str("'")?;
+            push_line(text, word)?;
+            text.push_str("'")
+        }
+        None => Ok(()),
+    }
+}
+
+/// Where the fields at fault stand in a line of a file; none where it isn't sure.
+fn where_at_fault(
+    file: FileKind,
+    cause: Cause,
+    text: &[u8],
+    core: &[u8],
+    at: Refused<'_>,
+) -> Option<Places> {
+    match file {
+        FileKind::Core => one(core_place(text, at, cause)),
+        FileKind::Time => one(time_place(core, at, cause)),
+        FileKind::Stoch => stoch_places(at, cause),
+        FileKind::Edits => edit_places(at, cause),
+        FileKind::Report | FileKind::Trace => None,
+    }
+}
+
+fn one(place: Option<usize>) -> Option<Places> {
+    match place {
+        Some(place) => Some(Places::One(place)),
+        None => None,
     }
 }
 
@@ -181,10 +216,10 @@ fn twice(at: Refused<'_>) -> Option<usize> {
 }
 
 /// In a time file.
-fn time_place(core: Option<&[u8]>, at: Refused<'_>, cause: Cause) -> Option<usize> {
+fn time_place(core: &[u8], at: Refused<'_>, cause: Cause) -> Option<usize> {
     match cause {
         Cause::SectionUnknown | Cause::SectionOrder | Cause::PlaceTwice => Some(0),
-        Cause::StartUnknown if at.section == b"PERIODS".as_slice() => unknown_start(core?, at),
+        Cause::StartUnknown if at.section == b"PERIODS".as_slice() => unknown_start(core, at),
         Cause::StartUnknown => Some(0),
         Cause::PeriodUnknown => Some(1),
         Cause::PeriodOrder | Cause::PeriodTwice => at.count.checked_sub(1),
@@ -194,6 +229,9 @@ fn time_place(core: Option<&[u8]>, at: Refused<'_>, cause: Cause) -> Option<usiz
 
 /// The column of a period's start, where the core file doesn't state it, or else the row.
 fn unknown_start(core: &[u8], at: Refused<'_>) -> Option<usize> {
+    if core.is_empty() {
+        return None;
+    }
     if is_stated(core, b"COLUMNS", 0, field(at.line, 0)?) {
         Some(1)
     } else {

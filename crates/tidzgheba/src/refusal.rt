@@ -1,6 +1,6 @@
 //! What standard error says of a file that is refused or can't be read.
 use crate::causes::sentence;
-use crate::fault_field::{Faulty, fields_at_fault};
+use crate::fault_field::put_fault;
 use crate::files::{name_of, read_again, why_unread};
 use crate::lines::numbered_line;
 use crate::report_fault::report_fault;
@@ -39,8 +39,8 @@ pub fn put_refusal<R: Runtime>(
     }
     match bytes_of(rt, alloc, sources, file) {
         Some(bytes) => {
-            let core = bytes_of(rt, alloc, sources, FileKind::Core);
-            put_cause(text, file, &bytes, core.as_deref(), line, cause)?;
+            let core = bytes_of(rt, alloc, sources, FileKind::Core).unwrap_or(Vec::new(alloc));
+            put_cause(text, file, &bytes, &core, line, &cause)?;
         }
         None => put_reason(text, sentence(file, cause))?,
     }
@@ -64,24 +64,18 @@ fn put_reason(text: &mut String, sentence: &str) -> Result<(), AllocError> {
 }
 
 /// Appends why a file of these bytes is refused, the fields at fault where the line tells them, and the line where it has one. The core
-/// file is there where it can be read again.
+/// file is empty where it can't be read again.
 fn put_cause(
     text: &mut String,
     file: FileKind,
     bytes: &[u8],
-    core: Option<&[u8]>,
+    core: &[u8],
     number: u32,
-    cause: Cause,
+    cause: &Cause,
 ) -> Result<(), AllocError> {
-    let reason = match cause {
-        Cause::ReportBad => report_fault(bytes, number),
-        _ => sentence(file, cause),
-    };
+    let reason = reason_of(file, bytes, number, *cause);
     write!(text, ": {reason}")?;
-    match fields_at_fault(file, cause, bytes, core, number) {
-        Some(fields) => put_fields(text, fields)?,
-        None => {}
-    }
+    put_fault(text, file, *cause, bytes, core, number)?;
     text.push_str("\n")?;
     if let Some(line) = numbered_line(bytes, number) {
         write!(text, "  {number} | ")?;
@@ -91,23 +85,12 @@ fn put_cause(
     Ok(())
 }
 
-/// Appends fields of a line in quotes.
-fn put_fields(text: &mut String, fields: Faulty<'_>) -> Result<(), AllocError> {
-    text.push_str(": ")?;
-    put_field(text, fields.first)?;
-    match fields.second {
-        Some(row) => {
-            text.push_str(" ")?;
-            put_field(text, row)
-        }
-        None => Ok(()),
+/// Why a file of these bytes is refused.
+fn reason_of(file: FileKind, bytes: &[u8], number: u32, cause: Cause) -> &'static str {
+    match cause {
+        Cause::ReportBad => report_fault(bytes, number),
+        _ => sentence(file, cause),
     }
-}
-
-fn put_field(text: &mut String, field: &[u8]) -> Result<(), AllocError> {
-    text.push_str("'")?;
-    push_line(text, field)?;
-    text.push_str("'")
 }
 
 /// Appends that a file is too long.

@@ -12,7 +12,17 @@ enum WordFault<'a> {
     Option(&'a str),
     /// This option has no value.
     NoValue(&'a str),
-    /// Each word may stand there, but not with the others, or its value isn't one.
+    /// This option has a value that begins with `-`, as none may.
+    Dashed(&'a str, &'a str),
+    /// This option stands twice.
+    Twice(&'a str),
+    /// The command needs this option.
+    Missing(&'a str),
+    /// The first of these options needs the second.
+    Alone(&'a str, &'a str),
+    /// This option can't have this value.
+    Value(&'a str, &'a str),
+    /// Each word may stand there, but not with the others.
     Together,
 }
 
@@ -27,19 +37,32 @@ fn options_of(command: &str) -> Option<&'static str> {
     }
 }
 
+/// The options that a command needs.
+fn needed_by(command: &str) -> &'static str {
+    match command {
+        "solve" | "show" => "--core",
+        "check" => "--core --report",
+        "make" => "--start --stages --branches --size",
+        _ => "",
+    }
+}
+
 /// What is wrong first with words that aren't those of a command.
 fn word_fault(words: &[String]) -> WordFault<'_> {
     let [command, rest @ ..] = words else {
         return WordFault::Nothing;
     };
     match options_of(command.as_str()) {
-        Some(options) => setting_fault(options, rest),
+        Some(options) => match setting_fault(options, rest) {
+            Some(fault) => fault,
+            None => together_fault(options, needed_by(command.as_str()), rest),
+        },
         None => WordFault::Command(command.as_str()),
     }
 }
 
 /// What is wrong first with words that aren't options and their values.
-fn setting_fault<'a>(options: &str, words: &'a [String]) -> WordFault<'a> {
+fn setting_fault<'a>(options: &str, words: &'a [String]) -> Option<WordFault<'a>> {
     let mut begun = None;
     for word in words {
         let (option, value) = match begun {
@@ -47,17 +70,109 @@ fn setting_fault<'a>(options: &str, words: &'a [String]) -> WordFault<'a> {
             None => parted(word.as_str()),
         };
         if !is_listed(options, option) {
-            return WordFault::Option(option);
+            return Some(WordFault::Option(option));
         }
-        if value.is_some_and(|value| value.is_empty() || value.starts_with('-')) {
-            return WordFault::NoValue(option);
+        match value {
+            Some("") => return Some(WordFault::NoValue(option)),
+            Some(value) if value.starts_with('-') => return Some(WordFault::Dashed(option, value)),
+            _ => {}
         }
         begun = if value.is_some() { None } else { Some(option) };
     }
     match begun {
-        Some(option) => WordFault::NoValue(option),
+        Some(option) => Some(WordFault::NoValue(option)),
+        None => None,
+    }
+}
+
+/// What is wrong with options and values that are none of a command together.
+fn together_fault<'a>(
+    options: &'static str,
+    needed: &'static str,
+    words: &'a [String],
+) -> WordFault<'a> {
+    for option in options.split_whitespace() {
+        if times(words, option) > 1 {
+            return WordFault::Twice(option);
+        }
+    }
+    for option in needed.split_whitespace() {
+        if times(words, option) == 0 {
+            return WordFault::Missing(option);
+        }
+    }
+    if times(words, "--stoch") > 0 && times(words, "--time") == 0 {
+        return WordFault::Alone("--stoch", "--time");
+    }
+    match value_fault(words) {
+        Some(fault) => fault,
         None => WordFault::Together,
     }
+}
+
+/// How often an option stands among options and their values.
+fn times(words: &[String], sought: &str) -> u64 {
+    let mut count: u64 = 0;
+    let mut is_begun = false;
+    for word in words {
+        if is_begun {
+            is_begun = false;
+            continue;
+        }
+        let (option, value) = parted(word.as_str());
+        if option == sought {
+            count = count.saturating_add(1);
+        }
+        is_begun = value.is_none();
+    }
+    count
+}
+
+/// The first value among options and their values that its option can't have.
+fn value_fault(words: &[String]) -> Option<WordFault<'_>> {
+    let mut begun = None;
+    for word in words {
+        let (option, value) = match begun {
+            Some(option) => (option, Some(word.as_str())),
+            None => parted(word.as_str()),
+        };
+        match value {
+            Some(value) if !may_be(option, value) => return Some(WordFault::Value(option, value)),
+            _ => {}
+        }
+        begun = if value.is_some() { None } else { Some(option) };
+    }
+    None
+}
+
+/// Whether an option may have a value.
+fn may_be(option: &str, value: &str) -> bool {
+    match option {
+        "--solves" | "--pivots" => is_within(value, 1, 1_000_000_000),
+        "--workers" => is_within(value, 1, 1),
+        "--start" => is_within(value, 0, 65_536),
+        "--stages" => is_within(value, 2, 6),
+        "--branches" => is_within(value, 2, 4),
+        "--size" => is_within(value, 1, 20),
+        "--text" => matches!(value, "core" | "time" | "stoch"),
+        _ => true,
+    }
+}
+
+/// Whether a value is a whole number of at most ten digits in a range.
+fn is_within(value: &str, least: u64, most: u64) -> bool {
+    if value.len() > 10 {
+        return false;
+    }
+    let mut number: u64 = 0;
+    for byte in value.as_bytes() {
+        if !byte.is_ascii_digit() {
+            return false;
+        }
+        let digit = byte.saturating_sub(b'0') as u64;
+        number = number.saturating_mul(10).saturating_add(digit);
+    }
+    number >= least && number <= most
 }
 
 /// An option, and the value that is joined to it.
@@ -79,9 +194,25 @@ pub fn put_word_fault(text: &mut String, words: &[String]) -> Result<(), AllocEr
         WordFault::Command(word) => put_word(text, word, " isn't a command"),
         WordFault::Option(word) => put_word(text, word, " isn't an option of that command"),
         WordFault::NoValue(word) => put_word(text, word, " has no value"),
-        WordFault::Together => text.push_str(
-            "an option is missing or stands twice, or a value isn't one that it may have",
-        ),
+        WordFault::Dashed(option, value) => {
+            put_word(text, option, " can't be ")?;
+            put_word(
+                text,
+                value,
+                ": no value begins with '-'; a file of such a name is written './-..'",
+            )
+        }
+        WordFault::Twice(word) => put_word(text, word, " stands twice"),
+        WordFault::Missing(word) => put_word(text, word, " is missing"),
+        WordFault::Alone(word, other) => {
+            put_word(text, word, " needs ")?;
+            put_word(text, other, "")
+        }
+        WordFault::Value(option, value) => {
+            put_word(text, option, " can't be ")?;
+            put_word(text, value, "")
+        }
+        WordFault::Together => text.push_str("its options don't go together"),
     }
 }
 
