@@ -25,8 +25,7 @@ struct Refused<'a> {
     section: &'a [u8],
 }
 
-/// Appends the fields at fault in the line with this number of a file of these bytes, where it is sure which they are; or how many fields
-/// it has, where that is at fault. The core file is the one that a time file goes with; empty where it can't be read again.
+/// Appends the fields at fault in the line with this number of a file of these bytes, where it is sure which they are. The core file is the one that a time file goes with; empty where it can't be read again.
 pub fn put_fault(
     text: &mut String,
     file: FileKind,
@@ -43,11 +42,23 @@ pub fn put_fault(
         count: field_count(line),
         section: section_before(bytes, number),
     };
-    if cause == Cause::FieldCount {
-        let count = at.count;
-        return write!(text, ": it has {count}");
-    }
     put_places(text, line, where_at_fault(file, cause, bytes, core, at))
+}
+
+/// Appends how many fields the line with this number has, where that is at fault.
+pub fn put_count(
+    text: &mut String,
+    cause: Cause,
+    bytes: &[u8],
+    number: u32,
+) -> Result<(), AllocError> {
+    match (cause, numbered_line(bytes, number)) {
+        (Cause::FieldCount, Some(line)) => {
+            let count = field_count(line);
+            write!(text, ": it has {count}")
+        }
+        _ => Ok(()),
+    }
 }
 
 /// Appends the fields at these places of a line in quotes.
@@ -121,7 +132,9 @@ fn core_place(text: &[u8], at: Refused<'_>, cause: Cause) -> Option<usize> {
         | Cause::RowKind
         | Cause::ColumnSplit
         | Cause::BoundKind => Some(0),
-        Cause::RowTwice => Some(1),
+        Cause::RowTwice | Cause::IntegerMarker => Some(1),
+        Cause::ObjectiveRhs => objective_value(text, at),
+        Cause::RangeOnFree => free_row(text, at),
         Cause::RowUnknown => unknown_row(text, at),
         Cause::NumberBad => core_number(at, NumFault::Bad),
         Cause::NumberWide => core_number(at, NumFault::Wide),
@@ -147,6 +160,40 @@ fn unknown_row(text: &[u8], at: Refused<'_>) -> Option<usize> {
     } else {
         Some(first)
     }
+}
+
+/// The value of the objective in a line of pairs that has one.
+fn objective_value(text: &[u8], at: Refused<'_>) -> Option<usize> {
+    let first = first_row(at);
+    if is_free(text, field(at.line, first)?) {
+        Some(first.saturating_add(1))
+    } else {
+        Some(first.saturating_add(3))
+    }
+}
+
+/// The first N row of a line of pairs that has one.
+fn free_row(text: &[u8], at: Refused<'_>) -> Option<usize> {
+    let first = first_row(at);
+    if is_free(text, field(at.line, first)?) {
+        Some(first)
+    } else {
+        Some(first.saturating_add(2))
+    }
+}
+
+/// Whether a core file states this name as that of an N row.
+fn is_free(text: &[u8], name: &[u8]) -> bool {
+    for line in text.split(|byte| *byte == b'\n') {
+        match kind_of(line) {
+            Line::Header(b"COLUMNS") => break,
+            Line::Data if field(line, 0) == Some(b"N") && field(line, 1) == Some(name) => {
+                return true;
+            }
+            Line::Header(_) | Line::Data | Line::Skipped => {}
+        }
+    }
+    false
 }
 
 /// Whether a data line of a section has this name at this place.

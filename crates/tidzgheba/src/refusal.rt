@@ -1,6 +1,6 @@
 //! What standard error says of a file that is refused or can't be read.
 use crate::causes::sentence;
-use crate::fault_field::put_fault;
+use crate::fault_field::{put_count, put_fault};
 use crate::files::{name_of, read_again, why_unread};
 use crate::lines::numbered_line;
 use crate::report_fault::report_fault;
@@ -63,7 +63,7 @@ fn put_reason(text: &mut String, sentence: &str) -> Result<(), AllocError> {
     writeln!(text, ": {sentence}")
 }
 
-/// Appends why a file of these bytes is refused, the fields at fault where the line tells them, and the line where it has one. The core
+/// Appends the fields at fault where the line tells them, why a file of these bytes is refused, and the line where it has one. The core
 /// file is empty where it can't be read again.
 fn put_cause(
     text: &mut String,
@@ -73,9 +73,10 @@ fn put_cause(
     number: u32,
     cause: &Cause,
 ) -> Result<(), AllocError> {
+    put_fault(text, file, *cause, bytes, core, number)?;
     let reason = reason_of(file, bytes, number, *cause);
     write!(text, ": {reason}")?;
-    put_fault(text, file, *cause, bytes, core, number)?;
+    put_count(text, *cause, bytes, number)?;
     text.push_str("\n")?;
     if let Some(line) = numbered_line(bytes, number) {
         write!(text, "  {number} | ")?;
