@@ -25,7 +25,8 @@ struct Refused<'a> {
     section: &'a [u8],
 }
 
-/// Appends the fields at fault in the line with this number of a file of these bytes, where it is sure which they are. The core file is the one that a time file goes with; empty where it can't be read again.
+/// Appends the fields at fault in the line with this number of a file of these bytes, where it is sure which they are. The core file is the
+/// one that a time file goes with; empty where it can't be read again.
 pub fn put_fault(
     text: &mut String,
     file: FileKind,
@@ -139,7 +140,7 @@ fn core_place(text: &[u8], at: Refused<'_>, cause: Cause) -> Option<usize> {
         Cause::NumberBad => core_number(at, NumFault::Bad),
         Cause::NumberWide => core_number(at, NumFault::Wide),
         Cause::BoundsCross | Cause::UpperNegative | Cause::ColumnUnknown => bound_column(at),
-        Cause::EntryTwice => twice(at),
+        Cause::EntryTwice => doubled_row(at),
         _ => None,
     }
 }
@@ -252,7 +253,7 @@ fn bound_column(at: Refused<'_>) -> Option<usize> {
 }
 
 /// The row that stands twice; none where an earlier line decides which of two it is.
-fn twice(at: Refused<'_>) -> Option<usize> {
+fn doubled_row(at: Refused<'_>) -> Option<usize> {
     let first = first_row(at);
     let second = first.saturating_add(2);
     match field(at.line, second) {
