@@ -134,9 +134,18 @@ fn core_place(text: &[u8], at: Refused<'_>, cause: Cause) -> Option<usize> {
         | Cause::ColumnSplit
         | Cause::BoundKind => Some(0),
         Cause::RowTwice | Cause::IntegerMarker => Some(1),
-        Cause::ObjectiveRhs => objective_value(text, at),
-        Cause::RangeOnFree => free_row(text, at),
-        Cause::RowUnknown => unknown_row(text, at),
+        Cause::ObjectiveRhs => {
+            let is_first = is_free(text, field(at.line, first_row(at))?);
+            Some(row_at_fault(at, is_first).saturating_add(1))
+        }
+        Cause::RangeOnFree => {
+            let is_first = is_free(text, field(at.line, first_row(at))?);
+            Some(row_at_fault(at, is_first))
+        }
+        Cause::RowUnknown => {
+            let is_stated = is_stated(text, b"ROWS", 1, field(at.line, first_row(at))?);
+            Some(row_at_fault(at, !is_stated))
+        }
         Cause::NumberBad => core_number(at, NumFault::Bad),
         Cause::NumberWide => core_number(at, NumFault::Wide),
         Cause::BoundsCross | Cause::UpperNegative | Cause::ColumnUnknown => bound_column(at),
@@ -153,33 +162,13 @@ fn first_row(at: Refused<'_>) -> usize {
     }
 }
 
-/// The first row of a line of pairs that the core file doesn't state.
-fn unknown_row(text: &[u8], at: Refused<'_>) -> Option<usize> {
+/// The row at fault of a line of pairs of row and value: the first one where that is so, or else the second.
+fn row_at_fault(at: Refused<'_>, is_first: bool) -> usize {
     let first = first_row(at);
-    if is_stated(text, b"ROWS", 1, field(at.line, first)?) {
-        Some(first.saturating_add(2))
+    if is_first {
+        first
     } else {
-        Some(first)
-    }
-}
-
-/// The value of the objective in a line of pairs that has one.
-fn objective_value(text: &[u8], at: Refused<'_>) -> Option<usize> {
-    let first = first_row(at);
-    if is_free(text, field(at.line, first)?) {
-        Some(first.saturating_add(1))
-    } else {
-        Some(first.saturating_add(3))
-    }
-}
-
-/// The first N row of a line of pairs that has one.
-fn free_row(text: &[u8], at: Refused<'_>) -> Option<usize> {
-    let first = first_row(at);
-    if is_free(text, field(at.line, first)?) {
-        Some(first)
-    } else {
-        Some(first.saturating_add(2))
+        first.saturating_add(2)
     }
 }
 
@@ -263,27 +252,18 @@ fn doubled_row(at: Refused<'_>) -> Option<usize> {
     }
 }
 
-/// In a time file.
+/// In a time file: of a period's start the column, where the core file doesn't state it, or else the row.
 fn time_place(core: &[u8], at: Refused<'_>, cause: Cause) -> Option<usize> {
     match cause {
         Cause::SectionUnknown | Cause::SectionOrder | Cause::PlaceTwice => Some(0),
-        Cause::StartUnknown if at.section == b"PERIODS".as_slice() => unknown_start(core, at),
+        Cause::StartUnknown if at.section == b"PERIODS".as_slice() && core.is_empty() => None,
+        Cause::StartUnknown if at.section == b"PERIODS".as_slice() => {
+            Some(is_stated(core, b"COLUMNS", 0, field(at.line, 0)?) as usize)
+        }
         Cause::StartUnknown => Some(0),
         Cause::PeriodUnknown => Some(1),
         Cause::PeriodOrder | Cause::PeriodTwice => at.count.checked_sub(1),
         _ => None,
-    }
-}
-
-/// The column of a period's start, where the core file doesn't state it, or else the row.
-fn unknown_start(core: &[u8], at: Refused<'_>) -> Option<usize> {
-    if core.is_empty() {
-        return None;
-    }
-    if is_stated(core, b"COLUMNS", 0, field(at.line, 0)?) {
-        Some(1)
-    } else {
-        Some(0)
     }
 }
 
@@ -377,20 +357,14 @@ fn edit_places(at: Refused<'_>, cause: Cause) -> Option<Places> {
             1,
         )),
         (Cause::BranchPeriod, _) => Some(Places::One(4)),
-        (Cause::NumberBad | Cause::NumberWide | Cause::EditProbability, word) => {
-            Some(Places::One(edit_number(word)?))
-        }
-        _ => None,
-    }
-}
-
-/// Where the number of a command stands.
-fn edit_number(word: &[u8]) -> Option<usize> {
-    match word {
-        b"SET" => Some(4),
-        b"ADD" => Some(3),
-        b"PROB" => Some(2),
-        b"WORK" => Some(1),
+        (Cause::NumberBad | Cause::NumberWide, b"SET") => Some(Places::One(4)),
+        (Cause::NumberBad | Cause::NumberWide, b"WORK") => Some(Places::One(1)),
+        (Cause::NumberBad | Cause::NumberWide | Cause::EditProbability, b"ADD") => Some(Places::One(
+            3,
+        )),
+        (Cause::NumberBad | Cause::NumberWide | Cause::EditProbability, b"PROB") => Some(
+            Places::One(2),
+        ),
         _ => None,
     }
 }

@@ -69,12 +69,13 @@ fn setting_fault<'a>(options: &str, words: &'a [String]) -> Option<WordFault<'a>
             Some(option) => (option, Some(word.as_str())),
             None => parted(word.as_str()),
         };
-        if !is_listed(options, option) {
+        if !options.split_whitespace().any(|listed| listed == option) {
             return Some(WordFault::Option(option));
         }
         match value {
             Some("") => return Some(WordFault::NoValue(option)),
             Some(value) if value.starts_with('-') => return Some(WordFault::Dashed(option, value)),
+            Some(value) if !may_be(option, value) => return Some(WordFault::Value(option, value)),
             _ => {}
         }
         begun = if value.is_some() { None } else { Some(option) };
@@ -104,10 +105,7 @@ fn together_fault<'a>(
     if times(words, "--stoch") > 0 && times(words, "--time") == 0 {
         return WordFault::Alone("--stoch", "--time");
     }
-    match value_fault(words) {
-        Some(fault) => fault,
-        None => WordFault::Together,
-    }
+    WordFault::Together
 }
 
 /// How often an option stands among options and their values.
@@ -126,23 +124,6 @@ fn times(words: &[String], sought: &str) -> u64 {
         is_begun = value.is_none();
     }
     count
-}
-
-/// The first value among options and their values that its option can't have.
-fn value_fault(words: &[String]) -> Option<WordFault<'_>> {
-    let mut begun = None;
-    for word in words {
-        let (option, value) = match begun {
-            Some(option) => (option, Some(word.as_str())),
-            None => parted(word.as_str()),
-        };
-        match value {
-            Some(value) if !may_be(option, value) => return Some(WordFault::Value(option, value)),
-            _ => {}
-        }
-        begun = if value.is_some() { None } else { Some(option) };
-    }
-    None
 }
 
 /// Whether an option may have a value.
@@ -181,10 +162,6 @@ fn parted(word: &str) -> (&str, Option<&str>) {
         Some((option, value)) => (option, Some(value)),
         None => (word, None),
     }
-}
-
-fn is_listed(options: &str, option: &str) -> bool {
-    options.split_whitespace().any(|listed| listed == option)
 }
 
 /// Appends which word is at fault.
