@@ -96,18 +96,11 @@ fn where_at_fault(
     at: Refused<'_>,
 ) -> Option<Places> {
     match file {
-        FileKind::Core => one(core_place(text, at, cause)),
-        FileKind::Time => one(time_place(core, at, cause)),
+        FileKind::Core => Some(Places::One(core_place(text, at, cause)?)),
+        FileKind::Time => Some(Places::One(time_place(core, at, cause)?)),
         FileKind::Stoch => stoch_places(at, cause),
         FileKind::Edits => edit_places(at, cause),
         FileKind::Report | FileKind::Trace => None,
-    }
-}
-
-fn one(place: Option<usize>) -> Option<Places> {
-    match place {
-        Some(place) => Some(Places::One(place)),
-        None => None,
     }
 }
 
@@ -135,7 +128,7 @@ fn core_place(text: &[u8], at: Refused<'_>, cause: Cause) -> Option<usize> {
         | Cause::BoundKind => Some(0),
         Cause::RowTwice | Cause::IntegerMarker => Some(1),
         Cause::ObjectiveRhs => {
-            let is_first = is_free(text, field(at.line, first_row(at))?);
+            let is_first = objective(text) == field(at.line, first_row(at));
             Some(row_at_fault(at, is_first).saturating_add(1))
         }
         Cause::RangeOnFree => {
@@ -170,6 +163,18 @@ fn row_at_fault(at: Refused<'_>, is_first: bool) -> usize {
     } else {
         first.saturating_add(2)
     }
+}
+
+/// The first N row that a core file states: the objective.
+fn objective(text: &[u8]) -> Option<&[u8]> {
+    for line in text.split(|byte| *byte == b'\n') {
+        match kind_of(line) {
+            Line::Header(b"COLUMNS") => break,
+            Line::Data if field(line, 0) == Some(b"N") => return field(line, 1),
+            Line::Header(_) | Line::Data | Line::Skipped => {}
+        }
+    }
+    None
 }
 
 /// Whether a core file states this name as that of an N row.
@@ -316,10 +321,11 @@ fn stage(at: Refused<'_>) -> Option<Places> {
         return Some(Places::One(2));
     }
     if at.section == b"INDEP".as_slice() && at.count == 5 {
-        let period = field(at.line, 3)?;
-        return match parse(period) {
-            Ok(_) => Some(Places::One(3)),
-            Err(_) => None,
+        // a probability before the period; a period may have a number for a name
+        let (period, last) = (field(at.line, 3)?, field(at.line, 4)?);
+        return match (parse(period), parse(last)) {
+            (Ok(_), Err(_)) => Some(Places::One(3)),
+            _ => None,
         };
     }
     entry(at)
