@@ -120,6 +120,13 @@ impl Working {
 }
 
 impl Method {
+    /// Has the other method take the place of this one.
+    fn turn_into(&mut self, other: Method)
+        ensures { self.new ≡ other }
+    {
+        *self = other;
+    }
+
     /// Edits the program in place, and goes on with the program after it. `counted` has what the program's nodes have, before and
     /// after. The pools are swept for what the edit touches: cuts that don't rest on it are kept, cuts that it shifts are repaired,
     /// and the others go. A method that couldn't go on begins with the program after it.
@@ -152,14 +159,15 @@ impl Method {
             Method::Working(working) => {
                 let budget = working.state.budget();
                 if let Some(why) = working.edit(alloc, program, counted, edit)? {
-                    *self = Method::Idle(why, budget);
+                    self.turn_into(Method::Idle(why, budget));
                 }
                 Ok(())
             }
             Method::Idle(_, budget) => {
                 let budget = *budget;
                 applied(alloc, program, counted, edit)?;
-                *self = Method::begin(alloc, program, budget)?;
+                let begun = Method::begin(alloc, program, budget)?;
+                self.turn_into(begun);
                 Ok(())
             }
         }

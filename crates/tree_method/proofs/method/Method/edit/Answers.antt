@@ -8,7 +8,7 @@ use Rattle.tree_method.specs.Edited.{is_grown, KeepsTabled, IsEdited}
 use Rattle.tree_method.specs.Stands.{StandsOn, CarriesVersions}
 use Rattle.tree_method.proofs.StandLemmas.{works_on, touches_carry}
 use Rattle.scen_defs.specs.Program.{Program}
-use Rattle.tree_method.specs.Scripted.{AreToCome, IsInHistory, IsInScript}
+use Rattle.tree_method.specs.Scripted.{AreToCome, IsInHistory, IsInScript, GoesOnInScript}
 use Rattle.tree_method.proofs.Histories.{history_goes_on, is_to_come, still_to_come}
 use Rattle.tree_method.proofs.method.Method.edit.Goals as goal
 
@@ -42,13 +42,15 @@ pub returns-in-Some-clause-made : goal.returns-in-Some-clause-made
 returns-in-Some-clause-made c = λ budget first edits rest came s h.
     let p = content c.args.program.now in
     let e = c.args.edit.now in
-    inl (subst (λ (q : Program). AreToCome q rest) (sym c.in_ok-why-in-Working.ensures.after)
-    (still_to_come p e rest (is_to_come first edits came p (e ∷ rest) c.in-Working.working.state (subst (IsInScript first edits came p (e ∷ rest)) c.in-Working.is h))))
+    subst (GoesOnInScript first edits came (content c.edit.new.program) rest) (sym c.turn_into.ensures)
+    (inl (subst (λ (q : Program). AreToCome q rest) (sym c.in_ok-why-in-Working.ensures.after)
+    (still_to_come p e rest (is_to_come first edits came p (e ∷ rest) c.in-Working.working.state (subst (IsInScript first edits came p (e ∷ rest)) c.in-Working.is h)))))
 
-pub returns-in_ok-self-in-Idle-clause-made : goal.returns-in_ok-self-in-Idle-clause-made
-returns-in_ok-self-in-Idle-clause-made c = λ budget first edits rest came s h.
+pub returns-in_ok-begun-in-Idle-clause-made : goal.returns-in_ok-begun-in-Idle-clause-made
+returns-in_ok-begun-in-Idle-clause-made c = λ budget first edits rest came s h.
     let p = content c.args.program.now in
     let e = c.args.edit.now in
-    inr (c.in_ok-self-in-Idle.ensures.made rest
+    subst (GoesOnInScript first edits came (content c.applied.new.program) rest) (sym c.turn_into-in-Idle.ensures)
+    (inr (c.in_ok-begun-in-Idle.ensures.made rest
     (subst (λ (q : Program). AreToCome q rest) (sym c.in_ok-applied-in-Idle.ensures.after)
-    (still_to_come p e rest (subst (IsInScript first edits came p (e ∷ rest)) c.in-Idle.is h))))
+    (still_to_come p e rest (subst (IsInScript first edits came p (e ∷ rest)) c.in-Idle.is h)))))
