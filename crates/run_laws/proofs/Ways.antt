@@ -22,7 +22,8 @@ use Rattle.cut_banks.specs.declared.banks.Banks.{Banks}
 use Rattle.pass_core.specs.declared.budget.Budget.{Budget}
 use Rattle.pass_core.specs.declared.state.Counts.{Counts}
 use Rattle.pass_core.specs.declared.state.State.{State}
-use Rattle.pass_core.specs.Counting.{with_commit}
+use Rattle.pass_core.specs.Beginning.{IsBeginning}
+use Rattle.pass_core.specs.Counting.{no_commits, with_commit}
 use Rattle.pass_core.specs.Turns.{OpensAnyhow, stays_closed, is_open, MakesStep, begins_none, opens_run, solves}
 use Rattle.pass_core.proofs.MadeAfterEdits.{never_touched}
 use Rattle.tree_method.specs.declared.method.Method.TheVariants.{Working as AtWork, Idle}
@@ -46,36 +47,45 @@ use Rattle.run_laws.proofs.Openings.{openings_are_made}
 use Rattle.run_laws.proofs.SolvesUsed.{solves_are_used}
 
 -- ---- the beginning
-pub ways_begin : WaysBegin
-ways_begin budget came p (Idle why own) i few widths b = widths
-ways_begin budget came p (AtWork w) i few widths b = record {
-  run = record {
-    program = i;
-    few = few;
-    tree = w.tree;
-    walk = b.0;
-    most = 0;
-    first = w.state;
-    opens = beginning_opens p 0 budget w.state b.1;
-    goes = here;
-  };
-  widths = widths;
-  rows = λ n. let none : (version_of w.state.versions n).rows ≡ 0 = ap (λ (v : Version). v.rows) (zeros n) in omega (arith, none);
-  costs = λ n. let none : (version_of w.state.versions n).costs ≡ 0 = ap (λ (v : Version). v.costs) (zeros n) in omega (arith, none);
-  most = omega arith;
-  counted = let none : w.state.counts.all ≡ 0 = ap (λ (c : Counts). c.all) b.2 in omega (arith, none);
-}
-  where
-    zeros : (n : ℕ) → version_of w.state.versions n ≡ record { rows = 0; costs = 0 }
-    zeros n = ap (λ (vs : List Version). version_of vs n) b.1.versions ∙ never_touched (length p.nodes) n
-
--- ---- solves
 -- what an item and a solve leave of the versions and of the counts
 record IsCountedBy (budget : Budget) (came : ℕ) (s : State) : Type 0 where
   rows : (n : ℕ) → (version_of s.versions n).rows ≤ came
   costs : (n : ℕ) → (version_of s.versions n).costs ≤ came
   counted : s.counts.all ≤ came * budget.solves + s.counts.since_report
 
+begun_counted : (budget : Budget) (came : ℕ) (p : Program) (s : State) → IsBeginning p budget s → s.counts ≡ no_commits → IsCountedBy budget came s
+begun_counted budget came p s b none = record {
+  rows = λ n. let e : (version_of s.versions n).rows ≡ 0 = ap (λ (v : Version). v.rows) (zeros n) in omega (arith, e);
+  costs = λ n. let e : (version_of s.versions n).costs ≡ 0 = ap (λ (v : Version). v.costs) (zeros n) in omega (arith, e);
+  counted = let e : s.counts.all ≡ 0 = ap (λ (c : Counts). c.all) none in omega (arith, e);
+}
+  where
+    zeros : (n : ℕ) → version_of s.versions n ≡ record { rows = 0; costs = 0 }
+    zeros n = ap (λ (vs : List Version). version_of vs n) b.versions ∙ never_touched (length p.nodes) n
+
+pub ways_begin : WaysBegin
+ways_begin budget came p (Idle why own) i few widths b = widths
+ways_begin budget came p (AtWork w) i few widths b =
+    let c : IsCountedBy budget came w.state = begun_counted budget came p w.state b.1 b.2 in
+    record {
+      run = record {
+        program = i;
+        few = few;
+        tree = w.tree;
+        walk = b.0;
+        most = 0;
+        first = w.state;
+        opens = beginning_opens p 0 budget w.state b.1;
+        goes = here;
+      };
+      widths = widths;
+      rows = c.rows;
+      costs = c.costs;
+      most = omega arith;
+      counted = c.counted;
+    }
+
+-- ---- solves
 module _ (budget : Budget) (came : ℕ) where
   counted_on : (old new : State) → new.versions ≡ old.versions → (new.counts ≡ old.counts) ⊎ (new.counts ≡ with_commit old.counts)
       → IsCountedBy budget came old → IsCountedBy budget came new
@@ -113,6 +123,14 @@ module _ (budget : Budget) (came : ℕ) where
     where
       zeros : (n : ℕ) → version_of k.versions n ≡ record { rows = 0; costs = 0 }
       zeros n = ap (λ (vs : List Version). version_of vs n) over.beginning.versions ∙ never_touched (length p.nodes) n
+
+-- from the beginning of a program no more solves are counted in all than since the report before
+pub begun_counts : (budget : Budget) (p : Program) (old new : State) → IsBeginning p budget old → old.counts ≡ no_commits → SolvesNodes p old new
+    → new.counts.all ≤ new.counts.since_report
+begun_counts budget p old new b none x =
+    let c : new.counts.all ≤ 0 * budget.solves + new.counts.since_report
+    = (solves_counted budget 0 p old new x (begun_counted budget 0 p old b none)).counted in
+    omega (arith, c)
 
 pub solves_keep_way : SolvesKeepWay
 solves_keep_way budget came p old new x way =

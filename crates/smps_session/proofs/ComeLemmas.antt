@@ -27,7 +27,8 @@ use Rattle.pass_core.specs.declared.state.Counts.{Counts}
 use Rattle.pass_core.specs.declared.state.State.{State}
 use Rattle.pass_core.specs.Explained.{AreExplained}
 use Rattle.run_ends.specs.Claims.{EndsAssembly}
-use Rattle.pass_core.specs.Counting.{one_solve_more}
+use Rattle.pass_core.specs.Beginning.{IsBeginning}
+use Rattle.pass_core.specs.Counting.{no_commits, one_solve_more}
 use Rattle.tree_method.specs.declared.found.Found.{Found}
 use Rattle.tree_method.specs.declared.method.Method.{Method}
 use Rattle.tree_method.specs.declared.method.Method.TheVariants.{Working as AtWork, Idle}
@@ -39,7 +40,9 @@ use Rattle.tree_method.proofs.Numbers.{pivots_arise, pass_arises, cut_arises, co
 use Rattle.tree_method.proofs.Numbers.{closing_dual, told_cleared}
 use Rattle.run_laws.specs.Ways.{AreFew, IsOnWay}
 use Rattle.run_laws.proofs.Finished.{ends_are_finished}
-use Rattle.run_laws.proofs.Ways.{solves_keep_way, ways_have_numbers}
+use Rattle.run_laws.specs.Courses.{here, by_solves}
+use Rattle.run_laws.proofs.Course.{beginning_opens}
+use Rattle.run_laws.proofs.Ways.{solves_keep_way, ways_have_numbers, begun_counts}
 use Rattle.run_laws.proofs.WhereMet.{reasons_were_met}
 use Rattle.smps_session.specs.Reasons.{told_reasons}
 use Rattle.smps_session.specs.Comes.{tells_solves, is_unfinished, ShowsClosing, ShowsFound, PassesInTestOf, WasReason, ComesOf, ComesOfAll, IsUnderWay}
@@ -59,6 +62,7 @@ shows_one : (budget : Budget) (start : Started) (came : ℕ) (program : Program)
 shows_one budget start came program (AtWork old) (AtWork new) found number report f ends steps n c t = record {
   solves = f.solves.solves;
   once = λ widths few. f.solves.never;
+  first = λ small begins none. f.solves.never;
   ends = ends;
   claimed = claimed_so program number budget.solves found.place _ found.why _ found.claim _ report n f.place f.why f.claim c;
   truth = subst (λ (why : Open). IsTrue (view_of (content program)) (given why budget.solves) report) f.why t;
@@ -124,6 +128,34 @@ never_left budget start came program old mid report i few stands shows items way
     })
     shows.claimed told
 
+-- nor is the first report of a program that begins
+never_left_first : (budget : Budget) (start : Started) (came : ℕ) (program : Program) (old : State) (mid : Working) (report : Report)
+    → IsProgram (content program) → HasFewNodes (content program) → WorksOn (content program) budget mid
+    → ShowsClosing budget start came program old mid.state report → budget.solves < 2 ^ 63 → IsBeginning (content program) budget old
+    → old.counts ≡ no_commits → (n : ℕ) → report.finding ≡ OpenSolves n → mid.state.budget.solves ≤ mid.state.counts.since_report
+never_left_first budget start came program old mid report i few stands shows small begins none n told =
+    let p = content program in
+    let all : mid.state.counts.all ≤ mid.state.counts.since_report = begun_counts budget p old mid.state begins none shows.solves in
+    let within : mid.state.counts.since_report ≤ budget.solves = counted_within budget p mid i few stands in
+    ends_are_finished program mid.state report.number (Cost mid.state.counts.all) budget.solves report n
+    (record {
+      run = record {
+        program = i;
+        few = few;
+        tree = mid.tree;
+        walk = stands.tree;
+        most = 0;
+        first = old;
+        opens = beginning_opens p 0 budget old begins;
+        goes = by_solves old mid.state here shows.solves;
+      };
+      numbers = omega (arith, all, within, small);
+      ends = shows.ends;
+      explained = stands.explained;
+      tabled = stands.tabled i few;
+    })
+    shows.claimed told
+
 solves_told : (finding : Finding) → tells_solves finding ≡ true → (n : ℕ) × (finding ≡ OpenSolves n)
 solves_told Optimal e = absurd (let no : false ≡ true = e in cc)
 solves_told Infeasible e = absurd (let no : false ≡ true = e in cc)
@@ -160,6 +192,10 @@ round_counts budget start came program k (AtWork old) (AtWork mid) (AtWork next)
         once = λ widths items.
             let n = solves_told report.finding tells in
             let spent = never_left budget start came program old.state mid report i few stands shows items (way few widths items) n.0 n.1 in
+            absurd (omega (arith, less, spent));
+        first = λ small begins none.
+            let n = solves_told report.finding tells in
+            let spent = never_left_first budget start came program old.state mid report i few stands shows small begins none n.0 n.1 in
             absurd (omega (arith, less, spent));
         ends = shows'.ends;
         claimed = shows'.claimed;

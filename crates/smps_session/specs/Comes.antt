@@ -1,5 +1,5 @@
 -- How a report comes of the method: of its solves, of what it claims behind them, and of the test of that.
-use Rattle.std.specs.Prelude.{◌≡◌, ◌⊎◌, ◌&&◌, ℕ, Bool, true, false, not}
+use Rattle.std.specs.Prelude.{◌≡◌, ◌⊎◌, ◌&&◌, ◌<◌, ◌^◌, ℕ, Bool, true, false, not}
 use Rattle.scen_defs.specs.Program.{Program, content, view_of}
 use Rattle.scen_defs.specs.declared.program.Program.{Program as ProgramOf}
 use Rattle.scen_defs.specs.declared.report.Finding.{Finding}
@@ -20,6 +20,8 @@ use Rattle.edit_defs.specs.declared.edit.Edit.{Edit}
 use Rattle.edit_defs.specs.Shifts.{HasWidths}
 use Rattle.pass_core.specs.declared.budget.Budget.{Budget}
 use Rattle.pass_core.specs.declared.state.State.{State}
+use Rattle.pass_core.specs.Beginning.{IsBeginning}
+use Rattle.pass_core.specs.Counting.{no_commits}
 use Rattle.pass_core.specs.Reasons.{HasReason}
 use Rattle.tree_method.specs.declared.method.Method.{Method}
 use Rattle.tree_method.specs.declared.method.Method.TheVariants.{Working as AtWork, Idle}
@@ -50,6 +52,8 @@ pub record ShowsClosing (budget : Budget) (start : Program) (came : ℕ) (progra
   pub solves : SolvesNodes (content program) old new
   -- where the rows of the script's first program have the widths of their ranges, and few items came, the program is never begun anew
   pub once : HasWidths start → AreFew budget came → NeverAnew solves
+  -- nor is it from the beginning of any program to its first report
+  pub first : budget.solves < 2 ^ 63 → IsBeginning (content program) budget old → old.counts ≡ no_commits → NeverAnew solves
   pub ends : IsAtEnd (content program) new
   pub claimed : IsClaimed program report.number (Cost new.counts.all) (closing new).why budget.solves (closing new).claim report
   pub truth : IsTrue (view_of (content program)) (given (closing new).why budget.solves) report

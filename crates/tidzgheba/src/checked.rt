@@ -1,9 +1,9 @@
 //! What standard error says of a check.
 use crate::files::read_again;
-use crate::lines::field;
 use crate::noted::Noted;
 use crate::refusal::put_file;
 use command_words::Sources;
+use line_remarks::field;
 use smps_cli::FileKind;
 use std::alloc::{AllocError, Global};
 use std::fmt::Write;

@@ -1,24 +1,16 @@
 //! What standard error says of a status.
 use crate::checked::put_checked;
+use crate::files::read_again;
 use crate::noted::Noted;
-use crate::refusal::{put_refusal, put_too_long, put_unread};
-use crate::unused_text::put_unused;
+use crate::refusal::{file_start, put_refusal, put_too_long, put_unread};
 use crate::words::put_word_fault;
 use command_words::{Command, Sources, Task, read_words};
-use smps_cli::Status;
+use line_remarks::put_unused;
+use smps_cli::{FileKind, Status};
 use std::alloc::{AllocError, Global};
 use std::rt::Runtime;
 
 const NO_COMMAND: &str = "tidzgheba: the words aren't those of a command: ";
-
-const USAGE: &str = "\
-usage: tidzgheba solve --core FILE [--time FILE [--stoch FILE]] [--edits FILE] [--solves N] [--pivots N]
-       tidzgheba check --core FILE --report FILE [--time FILE [--stoch FILE]] [--edits FILE]
-       tidzgheba show --core FILE [--time FILE [--stoch FILE]] [--edits FILE]
-       tidzgheba make --start N --stages N --branches N --size N [--text core|time|stoch]
-where --solves and --pivots are from 1 to 1000000000, --start from 0 to 65536, --stages from 2 to 6, --branches from 2 to 4,
-and --size from 1 to 20; solve also takes --workers 1
-";
 
 const OPEN_PASSED: &str =
     "tidzgheba: OPEN PASSED: a result didn't fit into 128 bits, and the ends that were known by then are printed and hold; \
@@ -65,17 +57,12 @@ pub fn explanation<R: Runtime>(
             put_on_files(rt, alloc, &mut text, &sources, task, status, noted)?;
         }
         Some(Command::Make(_)) => put_made(&mut text, status, noted)?,
-        None => put_usage(&mut text, words)?,
+        None => {
+            text.push_str(NO_COMMAND)?;
+            put_word_fault(alloc, &mut text, words)?;
+        }
     }
     Ok(text)
-}
-
-/// Appends which word is at fault, and how the program is called.
-fn put_usage(text: &mut String, words: &[String]) -> Result<(), AllocError> {
-    text.push_str(NO_COMMAND)?;
-    put_word_fault(text, words)?;
-    text.push_str("\n")?;
-    text.push_str(USAGE)
 }
 
 /// Appends what is said of a task on files.
@@ -94,16 +81,32 @@ fn put_on_files<R: Runtime>(
                 Task::Check => put_checked(rt, alloc, text, sources, noted)?,
                 Task::Solve(_) | Task::Show => put_opens(text, noted)?,
             }
-            put_unused(rt, alloc, text, sources)
+            put_skipped(rt, alloc, text, sources)
         }
         Status::Refused(file, line, cause) => {
             put_refusal(rt, alloc, text, sources, *file, *line, *cause)
         }
         Status::TooLong(file) => put_too_long(text, sources, *file),
         Status::ReadFault(file) => put_unread(rt, text, sources, *file),
-        Status::Words => text.push_str(USAGE),
+        Status::Words => Ok(()),
         Status::WriteFault => text.push_str(UNWRITTEN),
         Status::Memory => text.push_str(MEMORY),
+    }
+}
+
+/// Appends what is said of lines of the core file that aren't used. A file that can't be read again gets nothing.
+fn put_skipped<R: Runtime>(
+    rt: &R,
+    alloc: Global,
+    text: &mut String,
+    sources: &Sources<'_>,
+) -> Result<(), AllocError> {
+    match read_again(rt, alloc, sources.core) {
+        Some(core) => {
+            let start = file_start(alloc, sources, FileKind::Core)?;
+            put_unused(text, start.as_str(), &core)
+        }
+        None => Ok(()),
     }
 }
 
@@ -117,12 +120,13 @@ fn put_made(text: &mut String, status: &Status, noted: Noted) -> Result<(), Allo
             }
             Ok(())
         }
-        Status::Words => text.push_str(USAGE),
         Status::WriteFault => text.push_str(UNWRITTEN),
         Status::Memory => text.push_str(MEMORY),
-        Status::Done | Status::Refused(_, _, _) | Status::TooLong(_) | Status::ReadFault(_) => {
-            Ok(())
-        }
+        Status::Done
+        | Status::Words
+        | Status::Refused(_, _, _)
+        | Status::TooLong(_)
+        | Status::ReadFault(_) => Ok(()),
     }
 }
 

@@ -5,20 +5,13 @@ ghost use Rattle.std.specs.Prelude.{◌≡◌, map, drop, string_bytes};
 ghost use Rattle.std.specs.Process.{exit_status};
 ghost use Rattle.tidzgheba.specs.Ending.{EndsOn, EndsWith, IsStatusOf};
 
-mod causes;
 mod checked;
 mod explain;
-mod fault_field;
 mod files;
-mod lines;
 mod noted;
 mod refusal;
-mod report_fault;
 #[cfg(test)]
 mod tests;
-mod unused;
-mod unused_text;
-mod visible;
 mod watched;
 mod words;
 

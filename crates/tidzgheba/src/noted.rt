@@ -1,5 +1,5 @@
 //! The lines of an output that say how its reports are.
-use crate::lines::field;
+use line_remarks::field;
 
 /// What the lines of an output say of its reports.
 #[derive(Clone, Copy, Debug, PartialEq, Eq)]

@@ -1,12 +1,8 @@
 //! What standard error says of a file that is refused or can't be read.
-use crate::causes::sentence;
-use crate::fault_field::{put_count, put_fault};
 use crate::files::{name_of, read_again, why_unread};
-use crate::lines::numbered_line;
-use crate::report_fault::report_fault;
-use crate::visible::{push_line, push_visible};
 use command_words::Sources;
-use mps_core::Cause;
+use core_defs::Cause;
+use line_remarks::{push_visible, put_cause, sentence};
 use smps_cli::FileKind;
 use std::alloc::{AllocError, Global};
 use std::fmt::Write;
@@ -21,6 +17,17 @@ pub fn put_file(
     text.push_str("tidzgheba: ")?;
     let name = name_of(sources, file).unwrap_or("a file");
     push_visible(text, name.as_bytes())
+}
+
+/// What a message of a file begins with.
+pub fn file_start(
+    alloc: Global,
+    sources: &Sources<'_>,
+    file: FileKind,
+) -> Result<String, AllocError> {
+    let mut start = String::new(alloc);
+    put_file(&mut start, sources, file)?;
+    Ok(start)
 }
 
 /// Appends where a file is refused and why, the line itself, and where the remedy stands. Line 0 is no line.
@@ -42,7 +49,10 @@ pub fn put_refusal<R: Runtime>(
             let core = bytes_of(rt, alloc, sources, FileKind::Core).unwrap_or(Vec::new(alloc));
             put_cause(text, file, &bytes, &core, line, &cause)?;
         }
-        None => put_reason(text, sentence(file, cause))?,
+        None => {
+            let sentence = sentence(file, cause);
+            writeln!(text, ": {sentence}")?;
+        }
     }
     let number = cause.number();
     writeln!(text, "docs/CAUSES.md, cause {number}, says how to mend it")
@@ -57,41 +67,6 @@ fn bytes_of<R: Runtime>(
 ) -> Option<Vec<u8>> {
     let name = name_of(sources, file)?;
     read_again(rt, alloc, name)
-}
-
-fn put_reason(text: &mut String, sentence: &str) -> Result<(), AllocError> {
-    writeln!(text, ": {sentence}")
-}
-
-/// Appends the fields at fault where the line tells them, why a file of these bytes is refused, and the line where it has one. The core
-/// file is empty where it can't be read again.
-fn put_cause(
-    text: &mut String,
-    file: FileKind,
-    bytes: &[u8],
-    core: &[u8],
-    number: u32,
-    cause: &Cause,
-) -> Result<(), AllocError> {
-    put_fault(text, file, *cause, bytes, core, number)?;
-    let reason = reason_of(file, bytes, number, *cause);
-    write!(text, ": {reason}")?;
-    put_count(text, *cause, bytes, number)?;
-    text.push_str("\n")?;
-    if let Some(line) = numbered_line(bytes, number) {
-        write!(text, "  {number} | ")?;
-        push_line(text, line)?;
-        text.push_str("\n")?;
-    }
-    Ok(())
-}
-
-/// Why a file of these bytes is refused.
-fn reason_of(file: FileKind, bytes: &[u8], number: u32, cause: Cause) -> &'static str {
-    match cause {
-        Cause::ReportBad => report_fault(bytes, number),
-        _ => sentence(file, cause),
-    }
 }
 
 /// Appends that a file is too long.

@@ -1,202 +1,155 @@
-//! Which word isn't one of a command.
-use crate::visible::push_visible;
-use std::alloc::AllocError;
+//! What is said of words that aren't those of a command. Which words are a command's, `command_words` decides; the library for command
+//! lines says what is wrong with others, and how a command is called.
+use clap::builder::ValueParser;
+use clap::error::ErrorKind;
+use clap::{Arg, Command, value_parser};
+use line_remarks::push_visible;
+use std::alloc::{AllocError, Global};
 
-/// What is wrong with words that aren't those of a command.
-enum WordFault<'a> {
-    /// There is no word.
-    Nothing,
-    /// No command has this name.
-    Command(&'a str),
-    /// This isn't an option of the command.
-    Option(&'a str),
-    /// This option has no value.
-    NoValue(&'a str),
-    /// This option has a value that begins with `-`, as none may.
-    Dashed(&'a str, &'a str),
-    /// This option stands twice.
-    Twice(&'a str),
-    /// The command needs this option.
-    Missing(&'a str),
-    /// The first of these options needs the second.
-    Alone(&'a str, &'a str),
-    /// This option can't have this value.
-    Value(&'a str, &'a str),
-    /// Each word may stand there, but not with the others.
-    Together,
+/// Said of words that the library takes and `command_words` doesn't, as `--solves +3`.
+const TOO_LOOSE: &str =
+    "each word is an option or its value, a file name isn't empty and doesn't begin with '-', and a number has digits alone, at most ten\n";
+
+/// An option whose value is a file's name.
+fn file<'a>(alloc: Global, name: &'static str, help: &'static str) -> Arg<'a> {
+    Arg::new(alloc, name)
+        .long(name)
+        .value_name("FILE")
+        .help(help)
 }
 
-/// The options of a command; none where the word is no command.
-fn options_of(command: &str) -> Option<&'static str> {
-    match command {
-        "solve" => Some("--core --time --stoch --edits --solves --pivots --workers"),
-        "check" => Some("--core --time --stoch --edits --report"),
-        "show" => Some("--core --time --stoch --edits"),
-        "make" => Some("--start --stages --branches --size --text"),
-        _ => None,
-    }
+/// An option whose value is a whole number in a range.
+fn number<'a>(
+    alloc: Global,
+    name: &'static str,
+    least: i64,
+    most: i64,
+    help: &'static str,
+) -> Arg<'a> {
+    Arg::new(alloc, name)
+        .long(name)
+        .value_name("N")
+        .value_parser(value_parser!(u32).range(least..=most))
+        .help(help)
 }
 
-/// The options that a command needs.
-fn needed_by(command: &str) -> &'static str {
-    match command {
-        "solve" | "show" => "--core",
-        "check" => "--core --report",
-        "make" => "--start --stages --branches --size",
-        _ => "",
-    }
+/// A task on the program of files.
+fn on_files<'a>(
+    alloc: Global,
+    name: &'static str,
+    about: &'static str,
+) -> Result<Command<'a>, AllocError> {
+    Command::new(alloc, name)
+        .about(about)
+        .arg(file(alloc, "core", "the program as if nothing were random").required(true))?
+        .arg(file(alloc, "time", "the periods; none: one period"))?
+        .arg(file(alloc, "stoch", "what is random; none: nothing").requires_arg("time")?)?
+        .arg(file(
+            alloc,
+            "edits",
+            "edits of the data, and where a report is wanted",
+        ))
 }
 
-/// What is wrong first with words that aren't those of a command.
-fn word_fault(words: &[String]) -> WordFault<'_> {
-    let [command, rest @ ..] = words else {
-        return WordFault::Nothing;
-    };
-    match options_of(command.as_str()) {
-        Some(options) => match setting_fault(options, rest) {
-            Some(fault) => fault,
-            None => together_fault(options, needed_by(command.as_str()), rest),
-        },
-        None => WordFault::Command(command.as_str()),
-    }
+fn solve<'a>(alloc: Global) -> Result<Command<'a>, AllocError> {
+    on_files(
+        alloc,
+        "solve",
+        "solve the program that the files mean, and print the report",
+    )?
+    .arg(number(
+        alloc,
+        "solves",
+        1,
+        1_000_000_000,
+        "at most so many solves of a node for a report",
+    ))?
+    .arg(number(
+        alloc,
+        "pivots",
+        1,
+        1_000_000_000,
+        "at most so many pivots for a solve",
+    ))?
+    .arg(number(alloc, "workers", 1, 1, "how many workers there are"))
 }
 
-/// What is wrong first with words that aren't options and their values.
-fn setting_fault<'a>(options: &str, words: &'a [String]) -> Option<WordFault<'a>> {
-    let mut begun = None;
-    for word in words {
-        let (option, value) = match begun {
-            Some(option) => (option, Some(word.as_str())),
-            None => parted(word.as_str()),
-        };
-        if !options.split_whitespace().any(|listed| listed == option) {
-            return Some(WordFault::Option(option));
+fn check<'a>(alloc: Global) -> Result<Command<'a>, AllocError> {
+    on_files(
+        alloc,
+        "check",
+        "test the reports of a file, and print for each whether it holds",
+    )?
+    .arg(file(alloc, "report", "the reports").required(true))
+}
+
+fn show<'a>(alloc: Global) -> Result<Command<'a>, AllocError> {
+    on_files(
+        alloc,
+        "show",
+        "print the tree that the files mean, after all edits",
+    )
+}
+
+fn make<'a>(alloc: Global) -> Result<Command<'a>, AllocError> {
+    let texts = Arg::new(alloc, "text")
+        .long("text")
+        .value_name("TEXT")
+        .value_parser(ValueParser::Names(["core", "time", "stoch"].as_slice()))
+        .help("print this one of its texts alone");
+    Command::new(alloc, "make")
+        .about("make a program from four numbers, and print a summary of its report")
+        .arg(number(
+            alloc,
+            "start",
+            0,
+            65_536,
+            "where the numbers of the program begin",
+        )
+        .required(true))?
+        .arg(number(alloc, "stages", 2, 6, "its periods").required(true))?
+        .arg(number(alloc, "branches", 2, 4, "its cases of each period").required(true))?
+        .arg(number(alloc, "size", 1, 20, "its items").required(true))?
+        .arg(texts)
+}
+
+/// The commands with their options.
+fn commands<'a>(alloc: Global) -> Result<Command<'a>, AllocError> {
+    Command::new(alloc, "tidzgheba")
+        .about(
+            "Solves multistage stochastic linear programs exactly and proves each report that it prints.",
+        )
+        .bin_name("tidzgheba")?
+        .no_binary_name(true)
+        .disable_help_subcommand(true)
+        .subcommand_required(true)
+        .subcommand(solve(alloc)?)?
+        .subcommand(check(alloc)?)?
+        .subcommand(show(alloc)?)?
+        .subcommand(make(alloc)?)
+}
+
+/// Appends what is wrong with words that aren't those of a command, and how the command is called.
+pub fn put_word_fault(
+    alloc: Global,
+    text: &mut String,
+    words: &[String],
+) -> Result<(), AllocError> {
+    match commands(alloc)?.try_get_matches_from(words) {
+        Ok(_) => text.push_str(TOO_LOOSE),
+        Err(error) if error.kind() == ErrorKind::OutOfMemory => Err(AllocError),
+        Err(error) => {
+            let said = format!(in alloc; "{error}")?;
+            put_lines(text, said.strip_prefix("error: ").unwrap_or(said.as_str()))
         }
-        match value {
-            Some("") => return Some(WordFault::NoValue(option)),
-            Some(value) if value.starts_with('-') => return Some(WordFault::Dashed(option, value)),
-            Some(value) if !may_be(option, value) => return Some(WordFault::Value(option, value)),
-            _ => {}
-        }
-        begun = if value.is_some() { None } else { Some(option) };
-    }
-    match begun {
-        Some(option) => Some(WordFault::NoValue(option)),
-        None => None,
     }
 }
 
-/// What is wrong with options and values that are none of a command together.
-fn together_fault<'a>(
-    options: &'static str,
-    needed: &'static str,
-    words: &'a [String],
-) -> WordFault<'a> {
-    for option in options.split_whitespace() {
-        if times(words, option) > 1 {
-            return WordFault::Twice(option);
-        }
+/// Appends lines as a terminal may show them.
+fn put_lines(text: &mut String, said: &str) -> Result<(), AllocError> {
+    for line in said.lines() {
+        push_visible(text, line.as_bytes())?;
+        text.push_str("\n")?;
     }
-    for option in needed.split_whitespace() {
-        if times(words, option) == 0 {
-            return WordFault::Missing(option);
-        }
-    }
-    if times(words, "--stoch") > 0 && times(words, "--time") == 0 {
-        return WordFault::Alone("--stoch", "--time");
-    }
-    WordFault::Together
-}
-
-/// How often an option stands among options and their values.
-fn times(words: &[String], sought: &str) -> u64 {
-    let mut count: u64 = 0;
-    let mut is_begun = false;
-    for word in words {
-        if is_begun {
-            is_begun = false;
-            continue;
-        }
-        let (option, value) = parted(word.as_str());
-        if option == sought {
-            count = count.saturating_add(1);
-        }
-        is_begun = value.is_none();
-    }
-    count
-}
-
-/// Whether an option may have a value.
-fn may_be(option: &str, value: &str) -> bool {
-    match option {
-        "--solves" | "--pivots" => is_within(value, 1, 1_000_000_000),
-        "--workers" => is_within(value, 1, 1),
-        "--start" => is_within(value, 0, 65_536),
-        "--stages" => is_within(value, 2, 6),
-        "--branches" => is_within(value, 2, 4),
-        "--size" => is_within(value, 1, 20),
-        "--text" => matches!(value, "core" | "time" | "stoch"),
-        _ => true,
-    }
-}
-
-/// Whether a value is a whole number of at most ten digits in a range.
-fn is_within(value: &str, least: u64, most: u64) -> bool {
-    if value.len() > 10 {
-        return false;
-    }
-    let mut number: u64 = 0;
-    for byte in value.as_bytes() {
-        if !byte.is_ascii_digit() {
-            return false;
-        }
-        let digit = byte.saturating_sub(b'0') as u64;
-        number = number.saturating_mul(10).saturating_add(digit);
-    }
-    number >= least && number <= most
-}
-
-/// An option, and the value that is joined to it.
-fn parted(word: &str) -> (&str, Option<&str>) {
-    match word.split_once('=') {
-        Some((option, value)) => (option, Some(value)),
-        None => (word, None),
-    }
-}
-
-/// Appends which word is at fault.
-pub fn put_word_fault(text: &mut String, words: &[String]) -> Result<(), AllocError> {
-    match word_fault(words) {
-        WordFault::Nothing => text.push_str("there are none"),
-        WordFault::Command(word) => put_word(text, word, " isn't a command"),
-        WordFault::Option(word) => put_word(text, word, " isn't an option of that command"),
-        WordFault::NoValue(word) => put_word(text, word, " has no value"),
-        WordFault::Dashed(option, value) => {
-            put_word(text, option, " can't be ")?;
-            put_word(
-                text,
-                value,
-                ": no value begins with '-'; a file of such a name is written './-..'",
-            )
-        }
-        WordFault::Twice(word) => put_word(text, word, " stands twice"),
-        WordFault::Missing(word) => put_word(text, word, " is missing"),
-        WordFault::Alone(word, other) => {
-            put_word(text, word, " needs ")?;
-            put_word(text, other, "")
-        }
-        WordFault::Value(option, value) => {
-            put_word(text, option, " can't be ")?;
-            put_word(text, value, "")
-        }
-        WordFault::Together => text.push_str("its options don't go together"),
-    }
-}
-
-/// Appends a word in quotes, and what is said of it.
-fn put_word(text: &mut String, word: &str, said: &str) -> Result<(), AllocError> {
-    text.push_str("'")?;
-    push_visible(text, word.as_bytes())?;
-    text.push_str("'")?;
-    text.push_str(said)
+    Ok(())
 }

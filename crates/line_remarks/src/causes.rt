@@ -1,6 +1,10 @@
 //! What a cause of a refusal is, in one sentence.
-use mps_core::Cause;
-use smps_cli::FileKind;
+use core_defs::Cause;
+use input_files::FileKind;
+
+const NO_ENTRY: &str =
+    "that column and row name no entry; in place of the column of a right-hand side stands RHS, \
+or the name of the set of RHS that the core uses";
 
 /// The sentence for a cause in a file. The numbers that some causes carry stand on standard output.
 pub fn sentence(file: FileKind, cause: Cause) -> &'static str {
@@ -44,7 +48,7 @@ constraint",
         Cause::KindUnknown =>
             "those words of a section aren't known: INDEP, BLOCKS and SCENARIOS are followed by nothing, by DISCRETE, \
 or by DISCRETE and one of REPLACE, ADD and MULTIPLY",
-        Cause::EntryUnknown => "that column and row name no entry",
+        Cause::EntryUnknown | Cause::EditEntryUnknown => NO_ENTRY,
         Cause::EntryStage => late(file),
         Cause::ProbabilityRange => "that probability isn't above 0, or is above 1",
         Cause::ProbabilitySum(_) =>
@@ -64,7 +68,6 @@ also where a column has that name",
         Cause::EditProbability => "that probability isn't above 0 and below 1",
         Cause::LastScenario =>
             "that scenario is the only one, so that it stays, and its probability is 1",
-        Cause::EditEntryUnknown => "that column and row name no entry",
         Cause::ScriptLimit => "that command is the 10,001st, and an edit list has at most 10,000",
         Cause::Passes(_) => passing(file),
         Cause::ReportBad => "a report has another line there, or no further report is asked for",

@@ -3,7 +3,7 @@
 use crate::lines::{Line, field, field_count, kind_of};
 
 /// A section whose lines belong to sets.
-#[derive(Clone, Copy, Debug, PartialEq, Eq)]
+#[derive(Clone, Copy, Drop)]
 pub enum Section {
     Rhs,
     Ranges,
@@ -22,13 +22,13 @@ impl Section {
 }
 
 /// The set of a line. Lines without a name of a set are a set of their own.
-#[derive(Clone, Copy, Debug, Drop)]
+#[derive(Clone, Copy, Drop)]
 pub struct Set<'a> {
     pub name: Option<&'a [u8]>,
 }
 
 /// The lines of a section that aren't used.
-#[derive(Clone, Copy, Debug, Drop)]
+#[derive(Clone, Copy, Drop)]
 pub struct Unused<'a> {
     /// How many there are.
     pub count: u64,

@@ -1,14 +1,14 @@
 //! The fields of a refused line that are at fault, where the line and those before it tell which they are.
 use crate::lines::{Line, field, field_count, kind_of, numbered_line};
 use crate::visible::push_line;
+use core_defs::Cause;
 use frac128::{NumFault, parse};
-use mps_core::Cause;
-use smps_cli::FileKind;
+use input_files::FileKind;
 use std::alloc::AllocError;
 use std::fmt::Write;
 
 /// Where the fields at fault stand in their line, counted from 0.
-#[derive(Clone, Copy, Debug, PartialEq, Eq)]
+#[derive(Clone, Copy, Drop)]
 enum Places {
     One(usize),
     /// A column and a row, which name an entry together.

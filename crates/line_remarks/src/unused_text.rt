@@ -1,28 +1,15 @@
-//! What standard error says of lines that aren't used.
-use crate::files::read_again;
-use crate::refusal::put_file;
+//! What is said of lines of a core file that aren't used.
 use crate::unused::{Section, Set, Unused, unused_lines};
 use crate::visible::push_visible;
-use command_words::Sources;
-use smps_cli::FileKind;
-use std::alloc::{AllocError, Global};
+use std::alloc::AllocError;
 use std::fmt::Write;
-use std::rt::Runtime;
 
-/// Appends a sentence for each section of the core file that has lines of another set than the one used. A file that
-/// can't be read again gets none.
-pub fn put_unused<R: Runtime>(
-    rt: &R,
-    alloc: Global,
-    text: &mut String,
-    sources: &Sources<'_>,
-) -> Result<(), AllocError> {
-    let Some(bytes) = read_again(rt, alloc, sources.core) else {
-        return Ok(());
-    };
+/// Appends a sentence for each section of the core file that has lines of another set than the one used, behind this beginning. The
+/// file has been read without a fault.
+pub fn put_unused(text: &mut String, start: &str, core: &[u8]) -> Result<(), AllocError> {
     for section in [Section::Rhs, Section::Ranges, Section::Bounds] {
-        if let Some(unused) = unused_lines(&bytes, section) {
-            put_file(text, sources, FileKind::Core)?;
+        if let Some(unused) = unused_lines(core, section) {
+            text.push_str(start)?;
             put_sentence(text, section, &unused)?;
         }
     }
