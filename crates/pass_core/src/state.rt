@@ -1,11 +1,11 @@
 //! What is known of a program, and the next step.
-ghost use Rattle.std.specs.Prelude.{◌≡◌, ◌⊎◌, ◌<◌, ℕ, Ok, length, true, false, IfOk, IfSome, IsSome, IsSomeAnd, OnOk};
+ghost use Rattle.std.specs.Prelude.{◌≡◌, ◌⊎◌, ◌<◌, ℕ, Ok, [], length, replicate, true, false, IfOk, IfSome, IsSome, IsSomeAnd, OnOk};
 ghost use Rattle.scen_defs.specs.Program.{content, Program as ProgramOf};
 ghost use Rattle.scen_tree.specs.Trees.{Tree as TreeOf, tree_walk};
 ghost use Rattle.scen_defs.specs.Valid.{IsSmall, IsProgram, Lives};
 ghost use Rattle.run_data.specs.Counts.{untouched, version_of};
 ghost use Rattle.run_data.specs.Frames.{frame_of, children_in};
-ghost use Rattle.cut_banks.specs.Banks.{pools_of};
+ghost use Rattle.cut_banks.specs.Banks.{empty_banks, pools_of};
 ghost use Rattle.cut_banks.specs.Pools.{numbers_read};
 ghost use Rattle.pass_table.specs.Machine.{Machine};
 ghost use Rattle.pass_table.specs.Marks.{nothing};
@@ -91,6 +91,18 @@ impl Counts {
     }
 }
 
+/// No cuts and no last solves, of so many nodes that no edit touched.
+fn nothing_found(alloc: Global, nodes: u32) -> Result<(Banks, Lasts, Versions), Memory>
+    ensures banks { IfOk result (λ all. all.0 ≡ empty_banks nodes) }
+    ensures points { IfOk result (λ all. all.1.nodes.items ≡ []) }
+    ensures versions { IfOk result (λ all. all.2 ≡ replicate nodes untouched) }
+{
+    let banks = Banks::empty(alloc, nodes)?;
+    let lasts = Lasts::none(alloc, 0)?;
+    let versions = Versions::untouched(alloc, nodes)?;
+    Ok((banks, lasts, versions))
+}
+
 /// A solve as it was begun.
 #[derive(Drop)]
 pub(crate) struct Begun {
@@ -113,16 +125,16 @@ impl State {
         let Some(table) = Turns::start(alloc, frame.parents())? else {
             return Ok(None);
         };
-        let nodes = frame.nodes();
+        let (banks, lasts, versions) = nothing_found(alloc, frame.nodes())?;
         Ok(Some(State {
             frame,
             budget,
             table,
             kind: Kind::Feasible,
-            banks: Banks::empty(alloc, nodes)?,
-            lasts: Lasts::none(alloc, 0)?,
+            banks,
+            lasts,
             ends: Ends::none(),
-            versions: Versions::untouched(alloc, nodes)?,
+            versions,
             stop: None,
             lasting: None,
             counts: Counts::none(),

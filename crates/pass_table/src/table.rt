@@ -1,6 +1,6 @@
 //! What is fresh, closed and complete, and what may be begun, kept event by event.
 ghost use Rattle.std.specs.Prelude.{◌≡◌, ℕ, ◌+◌, ◌<◌, ◌^◌, ◌↔◌, IsTrue, Some, None, IfOk, length, replicate};
-ghost use Rattle.std.specs.Prelude.{slice_index_or};
+ghost use Rattle.std.specs.Prelude.{slice_index_or, slice_set, true, false};
 ghost use Rattle.pass_table.specs.Marks.{nothing};
 ghost use Rattle.pass_table.specs.Walks.{IsRising, blank};
 ghost use Rattle.pass_table.specs.Readings.{AreWithin};
@@ -86,17 +86,13 @@ impl Table {
         ensures workers { IfOk result (λ t. length t.flights.items ≡ workers) }
     {
         let places = parents.len();
-        let mut candidates = Rounds::new(alloc, places as u32)?;
-        candidates.insert(0);
-        let mut unopen = Marks::new(alloc, places as u32)?;
-        unopen.insert(0);
-        let mut ungood = Marks::new(alloc, places as u32)?;
-        ungood.insert(0);
+        let (candidates, unopen, ungood) = sets_of_root(alloc, places as u32)?;
+        let (solves, flying, flights) = no_solves(alloc, places, workers)?;
         Ok(Table {
             parents,
-            solves: no_solves(alloc, places)?,
-            flying: vec![in alloc; false; places]?,
-            flights: no_flights(alloc, workers)?,
+            solves,
+            flying,
+            flights,
             candidates,
             unopen,
             ungood,
@@ -296,16 +292,54 @@ impl Table {
     }
 }
 
-/// No node has a last solve.
-fn no_solves(alloc: Global, places: usize) -> Result<Vec<Solve>, AllocError>
-    ensures { IfOk result (λ v. v.items ≡ replicate places blank) }
+/// Rounds in which the root alone comes.
+fn round_of_root(alloc: Global, places: u32) -> Result<Rounds, AllocError>
+    requires places { 0 < places }
+    requires few { places < nothing }
+    ensures { IfOk result (λ r. r ≡ record { flags = slice_set (replicate places false) 0 true; from = 0 }) }
 {
-    vec![in alloc; NO_SOLVE; places]
+    let mut round = Rounds::new(alloc, places)?;
+    round.insert(0);
+    Ok(round)
 }
 
-/// No worker has a solve in flight.
-fn no_flights(alloc: Global, workers: u32) -> Result<Vec<Option<Underway>>, AllocError>
-    ensures { IfOk result (λ v. v.items ≡ replicate workers None) }
+/// A set that has the root alone.
+fn marks_of_root(alloc: Global, places: u32) -> Result<Marks, AllocError>
+    requires places { 0 < places }
+    requires few { places < nothing }
+    ensures { IfOk result (λ m. m ≡ slice_set (replicate places false) 0 true) }
 {
-    vec![in alloc; None; workers as usize]
+    let mut marks = Marks::new(alloc, places)?;
+    marks.insert(0);
+    Ok(marks)
+}
+
+/// Three sets that have the root alone; the first comes in rounds.
+fn sets_of_root(alloc: Global, places: u32) -> Result<(Rounds, Marks, Marks), AllocError>
+    requires places { 0 < places }
+    requires few { places < nothing }
+    ensures round { IfOk result (λ sets. sets.0 ≡ record { flags = slice_set (replicate places false) 0 true; from = 0 }) }
+    ensures first { IfOk result (λ sets. sets.1 ≡ slice_set (replicate places false) 0 true) }
+    ensures second { IfOk result (λ sets. sets.2 ≡ slice_set (replicate places false) 0 true) }
+{
+    let round = round_of_root(alloc, places)?;
+    let first = marks_of_root(alloc, places)?;
+    let second = marks_of_root(alloc, places)?;
+    Ok((round, first, second))
+}
+
+/// The last solves, the flags of the nodes in flight and the flights of the workers, where there are none.
+fn no_solves(
+    alloc: Global,
+    places: usize,
+    workers: u32,
+) -> Result<(Vec<Solve>, Vec<bool>, Vec<Option<Underway>>), AllocError>
+    ensures solves { IfOk result (λ lists. lists.0.items ≡ replicate places blank) }
+    ensures flying { IfOk result (λ lists. lists.1.items ≡ replicate places false) }
+    ensures flights { IfOk result (λ lists. lists.2.items ≡ replicate workers None) }
+{
+    let solves = vec![in alloc; NO_SOLVE; places]?;
+    let flying = vec![in alloc; false; places]?;
+    let flights = vec![in alloc; None; workers as usize]?;
+    Ok((solves, flying, flights))
 }

@@ -12,21 +12,21 @@ use Rattle.pass_core.proofs.state.State.start.Goals as goal
 
 pub returns-clause-tabled : goal.returns-clause-tabled
 returns-clause-tabled c = λ i.
-    started (content c.args.program.now) _ c.in_ok-frame.frame c.parents.result.now c.nodes-nodes.result c.in_ok-table.field-0 i c.frame.view_is
-    (c.in_ok-frame.ensures i.small) c.parents.ensures c.in-Some.is c.in_ok-table.ensures.fits c.in_ok-empty.ensures c.nodes-nodes.ensures
+    started (content c.args.program.now) _ c.in_ok-frame.frame c.parents.result.now c.nodes.result c.in_ok-table.field-0 i refl
+    (c.in_ok-frame.ensures i.small) c.parents.ensures c.in-Some.is c.in_ok-table.ensures.fits c.in_ok-banks.ensures.banks c.nodes.ensures
 
 pub returns-clause-beginning : goal.returns-clause-beginning
 returns-clause-beginning c = λ small.
     let p = content c.args.program.now in
-    let n = all_nodes p c.in_ok-frame.frame c.nodes-nodes.result small (c.in_ok-frame.ensures small) c.nodes-nodes.ensures in
+    let n = all_nodes p c.in_ok-frame.frame c.nodes.result small (c.in_ok-frame.ensures small) c.nodes.ensures in
     record {
-      frame = c.frame.view_is ∙ c.in_ok-frame.ensures small;
+      frame = c.in_ok-frame.ensures small;
       budget_is = refl;
       kind = refl;
-      pools = c.in_ok-empty.ensures ∙ ap empty_banks n;
-      points = c.in_ok-none.ensures;
-      ends = c.none-2.ensures;
-      versions = c.in_ok-untouched.ensures ∙ ap (λ (k : ℕ). replicate k untouched) n;
+      pools = c.in_ok-banks.ensures.banks ∙ ap empty_banks n;
+      points = c.in_ok-banks.ensures.points;
+      ends = c.none.ensures;
+      versions = c.in_ok-banks.ensures.versions ∙ ap (λ (k : ℕ). replicate k untouched) n;
       stop = refl;
       lasting = refl;
       is_begun = refl;
@@ -38,7 +38,7 @@ returns-in_default-clause-some c = λ i few.
     (c.parents.ensures ∙ ap (λ (f : Frame). f.parents) (c.in_ok-frame.ensures i.small)) c.in_default.is (are_parents (content c.args.program.now) i few)
 
 pub returns-clause-made : goal.returns-clause-made
-returns-clause-made c = λ b. all_made_at_start b Feasible _ _ c.nodes-nodes.result c.in_ok-empty.ensures c.none-2.ensures
+returns-clause-made c = λ b. all_made_at_start b Feasible _ _ c.nodes.result c.in_ok-banks.ensures.banks c.none.ensures
 
 pub returns-clause-untouched : goal.returns-clause-untouched
-returns-clause-untouched c = λ n. ap (λ (vs : List Version). version_of vs n) c.in_ok-untouched.ensures ∙ never_touched c.nodes-nodes.result n
+returns-clause-untouched c = λ n. ap (λ (vs : List Version). version_of vs n) c.in_ok-banks.ensures.versions ∙ never_touched c.nodes.result n
