@@ -10,15 +10,13 @@ use Rattle.stoch_defs.specs.Random.{Random}
 use Rattle.stoch_defs.specs.Step.{step}
 use Rattle.smps_stoch.specs.View.{filed, stages, Reads}
 use Rattle.smps_stoch.proofs.TextLemmas.{refused_there}
-use Rattle.smps_stoch.proofs.reading.read_lines.Goals as goal
+use Rattle.smps_stoch.proofs.reading.read_behind.Goals as goal
 
 pub returns-in-Err : goal.returns-in-Err
 returns-in-Err c =
     let p = stages c.args.periods.now in
     let file = stoch_file c.args.core.now p in
-    record {
-      read = subst (λ (given : Result Random Refusal). Reads (Err c.refused.result) given)
-          (ap (λ (lines : List TextLine). read_from file c.loop-line.lines.end_line (filed c.loop-line.draft) lines) (sym c.in-Some.ensures.found) ∙ c.loop-line.invariant)
-          (subst (λ (fail : ReadFail). Reads (Err fail) (read_from file c.loop-line.lines.end_line (filed c.loop-line.draft) (seen c.in-Some.line ∷ c.next.new.self.lines))) (sym c.refused.ensures)
-          (refused_there c.step.new.self c.in-Err.stop c.in-Some.line.number (step c.args.core.now p (filed c.loop-line.draft) (seen c.in-Some.line)) _ c.in-Err.ensures));
-    }
+    subst (λ (given : Result Random Refusal). Reads (Err c.refused.result) given)
+    (ap (λ (lines : List TextLine). read_from file c.loop-line.lines.end_line (filed c.loop-line.draft) lines) (sym c.in-Some.ensures.found) ∙ c.loop-line.invariant)
+    (subst (λ (fail : ReadFail). Reads (Err fail) (read_from file c.loop-line.lines.end_line (filed c.loop-line.draft) (seen c.in-Some.line ∷ c.next.new.self.lines))) (sym c.refused.ensures)
+    (refused_there c.step.new.self c.in-Err.stop c.in-Some.line.number (step c.args.core.now p (filed c.loop-line.draft) (seen c.in-Some.line)) _ c.in-Err.ensures))

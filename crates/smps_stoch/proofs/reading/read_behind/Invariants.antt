@@ -3,7 +3,7 @@ use Rattle.std.proofs.Common.{◌≡◌, length}
 use Rattle.reader_defs.specs.Reader.{read_from}
 use Rattle.stoch_defs.specs.File.{stoch_file, read_random}
 use Rattle.smps_stoch.specs.View.{filed, stages}
-use Rattle.smps_stoch.proofs.reading.read_lines.Given as goal
+use Rattle.smps_stoch.proofs.reading.read_behind.Given as goal
 
 abbrev pub invariant-loop-line : goal.invariant-loop-line
 invariant-loop-line l = read_from (stoch_file l.core (stages l.periods)) l.lines.end_line (filed l.draft) l.lines.lines ≡ read_random l.core (stages l.periods) l.text
