@@ -83,3 +83,8 @@ module _ (names : FileNames) (before one two : List (List ℕ)) where
   pub to_edits : one ≡ before ++ (names.core ∷ option_to_list names.time ++ option_to_list names.stoch) → two ≡ one ++ option_to_list names.edits
       → two ≡ before ++ (names.core ∷ option_to_list names.time ++ option_to_list names.stoch ++ option_to_list names.edits)
   to_edits e f = names_behind before (names.core ∷ option_to_list names.time ++ option_to_list names.stoch) (option_to_list names.edits) one two e f
+
+  pub to_report : one ≡ before ++ (names.core ∷ option_to_list names.time ++ option_to_list names.stoch ++ option_to_list names.edits)
+      → two ≡ one ++ option_to_list names.report → two ≡ before ++ names_in_order names
+  to_report e f = names_behind before (names.core ∷ option_to_list names.time ++ option_to_list names.stoch ++ option_to_list names.edits)
+      (option_to_list names.report) one two e f

@@ -1,9 +1,11 @@
 //! The files of the system, and standard output: the edges that no clause can see behind.
-ghost use Rattle.std.specs.Prelude.{◌≡◌, None, map, string_bytes};
+ghost use Rattle.std.specs.Prelude.{◌≡◌, ◌<◌, ◌≤◌, ◌↔◌, None, IfOk, OnOk, IsErrOf, length, map, string_bytes};
+ghost use Rattle.smps_io.specs.Fetches.{IsTooLong};
+ghost use Rattle.smps_io.specs.declared.shelf.ShelfFault.TheVariants.{Failed, TooLong};
 
 use crate::shelf::{Shelf, ShelfFault, keep_name};
 use crate::sink::{Sink, SinkFault};
-use std::alloc::Global;
+use std::alloc::{AllocError, Global};
 use std::fs;
 use std::io::Read;
 use std::rt::Runtime;
@@ -53,30 +55,78 @@ impl Shelf for RealShelf {
         if keep_name(alloc, &mut self.fetches, name).is_err() {
             return Err(ShelfFault::Memory);
         }
-        let Ok(mut file) = fs::open(rt, name) else {
-            self.faults = self.faults.saturating_add(1);
-            return Err(ShelfFault::Failed);
-        };
-        let mut bytes = Vec::new(alloc);
-        let mut chunk = [0u8; 4096];
-        for _ in 0..u64::MAX {
-            match file.read(&mut chunk) {
-                Ok(0) => return Ok(bytes),
-                Ok(count) => {
-                    let given = (bytes.len() + count) as u64;
-                    self.given = given;
-                    if given > limit {
-                        return Err(ShelfFault::TooLong);
-                    }
-                    if bytes.extend_from_slice(&chunk[..count]).is_err() {
-                        return Err(ShelfFault::Memory);
-                    }
-                }
-                Err(_) => break,
+        match file_within(rt, alloc, name, limit, &mut self.given) {
+            Err(ShelfFault::Failed) => {
+                self.faults = self.faults.saturating_add(1);
+                Err(ShelfFault::Failed)
             }
+            fetched => fetched,
         }
-        self.faults = self.faults.saturating_add(1);
-        Err(ShelfFault::Failed)
+    }
+}
+
+/// The bytes of the file of this name, at most `limit` of them. How many it gave is left in `given`.
+fn file_within<R: Runtime>(
+    rt: &R,
+    alloc: Global,
+    name: &str,
+    limit: u64,
+    given: &mut u64,
+) -> Result<Vec<u8>, ShelfFault>
+    ensures within { IfOk result (λ bytes. length bytes.items ≤ limit) }
+    ensures too_long { IsTooLong limit given.new result }
+    ensures bytes { IfOk result (λ bytes. length bytes.items ≡ given.new) }
+{
+    *given = 0;
+    let Ok(mut file) = fs::open(rt, name) else {
+        return Err(ShelfFault::Failed);
+    };
+    bytes_within(alloc, &mut file, limit, given)
+}
+
+/// The bytes that a reader gives up to its end, at most `limit` of them. How many it gave is left in `given`.
+fn bytes_within<F: Read>(
+    alloc: Global,
+    reader: &mut F,
+    limit: u64,
+    given: &mut u64,
+) -> Result<Vec<u8>, ShelfFault>
+    ensures within { IfOk result (λ bytes. length bytes.items ≤ limit) }
+    ensures too_long { IsTooLong limit given.new result }
+    ensures bytes { IfOk result (λ bytes. length bytes.items ≡ given.new) }
+{
+    *given = 0;
+    let mut bytes = Vec::new(alloc);
+    let mut chunk = [0u8; 4096];
+    for _ in 0..u64::MAX {
+        match reader.read(&mut chunk) {
+            Ok(0) => return Ok(bytes),
+            Ok(count) => put_within(&mut bytes, &chunk[..count], limit, given)?,
+            Err(_) => break,
+        }
+    }
+    Err(ShelfFault::Failed)
+}
+
+/// Puts what a reader gave behind the bytes before, unless these are then more than `limit`. How many it has given is left in `given`.
+fn put_within(
+    bytes: &mut Vec<u8>,
+    chunk: &[u8],
+    limit: u64,
+    given: &mut u64,
+) -> Result<(), ShelfFault>
+    ensures within { OnOk result (length bytes.new.items ≤ limit) }
+    ensures too_long { IsErrOf result TooLong ↔ (limit < given.new) }
+    ensures bytes { OnOk result (length bytes.new.items ≡ given.new) }
+    ensures sure { ¬ IsErrOf result Failed }
+{
+    *given = (bytes.len() + chunk.len()) as u64;
+    if *given > limit {
+        return Err(ShelfFault::TooLong);
+    }
+    match bytes.extend_from_slice(chunk) {
+        Ok(()) => Ok(()),
+        Err(AllocError) => Err(ShelfFault::Memory),
     }
 }
 
