@@ -10,3 +10,4 @@ pub mod Checks
 pub mod Columns
 pub mod Rises
 pub mod Sweep
+pub mod Merges

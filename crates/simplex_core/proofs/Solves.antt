@@ -1,5 +1,5 @@
 -- From the parts of a solve to its answer.
-use Rattle.std.proofs.Common.{◌≡◌, ℕ, ◌+◌, ◌-◌, ◌*◌, ◌^◌, ◌≤◌, Bool, true, false, List, [], Result, Ok, length, sym, ap, ap₂, ◌∙◌, subst, subst₂, arith, le_refl}
+use Rattle.std.proofs.Common.{◌≡◌, ℕ, ◌+◌, ◌-◌, ◌*◌, ◌^◌, ◌≤◌, Bool, true, false, List, [], Result, Ok, length, refl, sym, ap, ap₂, ◌∙◌, subst, subst₂, arith, le_refl}
 use Rattle.std.specs.Prelude.{IfOk}
 use Rattle.rationals.specs.Rational.{ℚ, one_ℚ}
 use Rattle.rationals.specs.Sparse.{Entry, Ascending, coefficient}
@@ -60,23 +60,23 @@ apart_open p l m j t new rows s e h =
     let w = subst (EndsWell (Second p) p.columns) e (second_path p l m t s) in
     subst (NotIn j) (sym h) (apart_entering new.objective j new.rows w.0.three.1.objective_rises (entering_falls p.columns 0 j new.objective w.0.three.1.objective_rises w.1) w.0.three.1.priced)
 
-pub tells_done : (p : Program) (l m last columns : ℕ) (t new : Tableau) (forms : List (List Entry)) (rows : List Row) (objective : List Entry) (x : List Entry) (y : List ℚ) → path p.columns l m t ≡ Done last new → columns ≡ p.columns → forms ≡ p.rows → rows ≡ new.rows → objective ≡ new.objective
+pub tells_optimal : (n columns : ℕ) (t : Tableau) (lines forms : List (List Entry)) (rows : List Row) (objective x : List Entry) (y : List ℚ) → columns ≡ n → forms ≡ lines → rows ≡ t.rows → objective ≡ t.objective
     → ((c : ℕ) → coefficient x c ≡ point rows c) → y ≡ unit_duals columns (length forms) objective
-    → (v : ℕ → ℚ) × (second_end p (path p.columns l m t) ≡ Optimum v y) × ((c : ℕ) → coefficient x c ≡ v c)
-tells_done p l m last columns t new forms rows objective x y e h k r o px dy =
-    let d : y ≡ unit_duals p.columns (length p.rows) new.objective =
-    dy ∙ ap (λ (z : List Entry). unit_duals columns (length forms) z) o ∙ ap₂ (λ (n : ℕ) (f : List (List Entry)). unit_duals n (length f) new.objective) h k in (
-      point new.rows,
-      ap (second_end p) e ∙ ap (λ (z : List ℚ). Optimum (point new.rows) z) (sym d),
+    → (v : ℕ → ℚ) × (Optimum (point t.rows) (unit_duals n (length lines) t.objective) ≡ Optimum v y) × ((c : ℕ) → coefficient x c ≡ v c)
+tells_optimal n columns t lines forms rows objective x y h k r o px dy =
+    let d : y ≡ unit_duals n (length lines) t.objective =
+    dy ∙ ap (λ (z : List Entry). unit_duals columns (length forms) z) o ∙ ap₂ (λ (m : ℕ) (f : List (List Entry)). unit_duals m (length f) t.objective) h k in (
+      point t.rows,
+      ap (λ (z : List ℚ). Optimum (point t.rows) z) (sym d),
       λ c. px c ∙ ap (λ (z : List Row). point z c) r,
     )
 
-pub tells_open : (p : Program) (l m j : ℕ) (t new : Tableau) (rows again : List Row) (x d : List Entry) → path p.columns l m t ≡ Open j new → rows ≡ new.rows → again ≡ new.rows → ((c : ℕ) → coefficient x c ≡ point rows c) → ((c : ℕ) → coefficient d c ≡ ray j again c)
-    → (v : ℕ → ℚ) × (w : ℕ → ℚ) × (second_end p (path p.columns l m t) ≡ Endless v w) × ((c : ℕ) → coefficient x c ≡ v c) × ((c : ℕ) → coefficient d c ≡ w c)
-tells_open p l m j t new rows again x d e r s px dx = (
-  point new.rows,
-  ray j new.rows,
-  ap (second_end p) e,
+pub tells_endless : (j : ℕ) (t : Tableau) (rows again : List Row) (x d : List Entry) → rows ≡ t.rows → again ≡ t.rows → ((c : ℕ) → coefficient x c ≡ point rows c) → ((c : ℕ) → coefficient d c ≡ ray j again c)
+    → (v : ℕ → ℚ) × (w : ℕ → ℚ) × (Endless (point t.rows) (ray j t.rows) ≡ Endless v w) × ((c : ℕ) → coefficient x c ≡ v c) × ((c : ℕ) → coefficient d c ≡ w c)
+tells_endless j t rows again x d r s px dx = (
+  point t.rows,
+  ray j t.rows,
+  refl,
   λ c. px c ∙ ap (λ (z : List Row). point z c) r,
   λ c. dx c ∙ ap (λ (z : List Row). ray j z c) s,
 )

@@ -61,7 +61,7 @@ keep_gathered done k w ws = go (is_zero w)
     go false = append_assoc done (record { column = k; value = w } ∷ []) (gathered (suc k) ws)
 
 -- ---- one step of a merge
-meet_before : (f : ℚ) (x : Entry) (next : List Entry → List Entry → Walk (List Entry)) (y : Entry) (ys done : List Entry) → y.column < x.column → less_meet f x next (y ∷ ys) done ≡ then_walk (less_product_walk zero_ℚ f y.value) (λ w. less_meet f x next ys (keep done y.column w))
+pub meet_before : (f : ℚ) (x : Entry) (next : List Entry → List Entry → Walk (List Entry)) (y : Entry) (ys done : List Entry) → y.column < x.column → less_meet f x next (y ∷ ys) done ≡ then_walk (less_product_walk zero_ℚ f y.value) (λ w. less_meet f x next ys (keep done y.column w))
 meet_before f x next y ys done l =
     let p : ltb x.column y.column ≡ false = le-ltb x.column y.column (omega arith) in
     let q : ltb y.column x.column ≡ true = lt-ltb y.column x.column l in
@@ -71,13 +71,13 @@ meet_later : (f : ℚ) (g : List Entry) (y : Entry) (ys done : List Entry) → A
 meet_later f [] y ys done a = refl
 meet_later f (x ∷ g) y ys done a = meet_before f x (less_entries f g) y ys done (let l : suc y.column ≤ x.column = a.0 in omega arith)
 
-meet_same : (f : ℚ) (x : Entry) (next : List Entry → List Entry → Walk (List Entry)) (y : Entry) (ys done : List Entry) → y.column ≡ x.column → less_meet f x next (y ∷ ys) done ≡ then_walk (less_product_walk x.value f y.value) (λ w. next ys (keep done x.column w))
+pub meet_same : (f : ℚ) (x : Entry) (next : List Entry → List Entry → Walk (List Entry)) (y : Entry) (ys done : List Entry) → y.column ≡ x.column → less_meet f x next (y ∷ ys) done ≡ then_walk (less_product_walk x.value f y.value) (λ w. next ys (keep done x.column w))
 meet_same f x next y ys done e =
     let p : ltb x.column y.column ≡ false = le-ltb x.column y.column (omega arith) in
     let q : ltb y.column x.column ≡ false = le-ltb y.column x.column (omega arith) in
     rw (less_meet, p, q) refl
 
-meet_sooner : (f : ℚ) (x : Entry) (next : List Entry → List Entry → Walk (List Entry)) (y : Entry) (ys done : List Entry) → x.column < y.column → less_meet f x next (y ∷ ys) done ≡ next (y ∷ ys) (done ++ x ∷ [])
+pub meet_sooner : (f : ℚ) (x : Entry) (next : List Entry → List Entry → Walk (List Entry)) (y : Entry) (ys done : List Entry) → x.column < y.column → less_meet f x next (y ∷ ys) done ≡ next (y ∷ ys) (done ++ x ∷ [])
 meet_sooner f x next y ys done l =
     let p : ltb x.column y.column ≡ true = lt-ltb x.column y.column l in
     rw (less_meet, p) refl

@@ -1,10 +1,13 @@
 //! Solves a program.
 ghost use Rattle.std.specs.Prelude.{◌≡◌, ◌≤◌, ◌+◌, ◌-◌, ◌*◌, ◌^◌, length, IfOk};
+ghost use Rattle.lp_defs.specs.Basis.{point, ray};
 ghost use Rattle.lp_defs.specs.Path.{Done, path};
-ghost use Rattle.lp_defs.specs.Phases.{driven};
+ghost use Rattle.lp_defs.specs.Phases.{driven, unit_duals};
+ghost use Rattle.lp_defs.specs.Placed.{BasicsDiffer};
 ghost use Rattle.lp_defs.specs.Program.{EndsInUnits};
-ghost use Rattle.lp_defs.specs.Solution.{first_end, between, second, second_end, solution};
+ghost use Rattle.lp_defs.specs.Solution.{Optimum, Endless, first_end, between, second, second_end, solution};
 ghost use Rattle.lp_defs.specs.Stages.{First, Driving, DrivenOut, Second};
+ghost use Rattle.lp_defs.specs.Trace.{NotIn};
 ghost use Rattle.simplex_core.specs.Told.{Tells, TellsFault, Shows, IsNotInfeasible, IsNotPivotsEnded};
 
 use crate::costs::first_objective;
@@ -28,6 +31,29 @@ fn stopped(fault: FormFault, pivot: u64) -> Result<Outcome, Memory>
     }
 }
 
+/// The outcome at an optimal tableau: its point, and the duals of its objective row.
+fn optimal(alloc: Global, program: &Standard, tableau: &Tableau) -> Result<Outcome, Memory>
+    requires { BasicsDiffer tableau.now.rows }
+    ensures { IfOk result (Tells (Optimum (point tableau.now.rows)
+        (unit_duals program.now.columns (length program.now.rows) tableau.now.objective))) }
+{
+    let point = point(alloc, tableau.rows())?;
+    let count = program.rows().len() as u64;
+    let duals = unit_duals(alloc, tableau.objective(), program.columns(), count)?;
+    Ok(Outcome::Optimal { point, duals })
+}
+
+/// The outcome where a column may grow without end: the tableau's point, and the ray along the column.
+fn unbounded(alloc: Global, tableau: &Tableau, column: u64) -> Result<Outcome, Memory>
+    requires differ { BasicsDiffer tableau.now.rows }
+    requires apart { NotIn column tableau.now.rows }
+    ensures { IfOk result (Tells (Endless (point tableau.now.rows) (ray column tableau.now.rows))) }
+{
+    let point = point(alloc, tableau.rows())?;
+    let ray = ray(alloc, tableau.rows(), column)?;
+    Ok(Outcome::Unbounded { point, ray })
+}
+
 /// Follows the path of phase two to its end.
 fn finish(
     alloc: Global,
@@ -41,20 +67,9 @@ fn finish(
     requires ready { Second program.now tableau }
     ensures { IfOk result (Tells (second_end program.now (path program.now.columns (pivots - made) made tableau))) }
 {
-    let columns = program.columns();
-    let end = tableau.follow(columns, pivots, made, spare)?;
-    match end {
-        End::Done(_last) => {
-            let point = point(alloc, tableau.rows())?;
-            let count = program.rows().len() as u64;
-            let duals = unit_duals(alloc, tableau.objective(), columns, count)?;
-            Ok(Outcome::Optimal { point, duals })
-        }
-        End::Open(column) => {
-            let point = point(alloc, tableau.rows())?;
-            let ray = ray(alloc, tableau.rows(), column)?;
-            Ok(Outcome::Unbounded { point, ray })
-        }
+    match tableau.follow(program.columns(), pivots, made, spare)? {
+        End::Done(_last) => optimal(alloc, program, &tableau),
+        End::Open(column) => unbounded(alloc, &tableau, column),
         End::PivotsEnded => Ok(Outcome::PivotsEnded),
         End::Passed(pivot, passed) => Ok(Outcome::Passed(pivot, passed)),
     }
