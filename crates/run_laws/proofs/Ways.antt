@@ -54,10 +54,10 @@ record IsCountedBy (budget : Budget) (came : ℕ) (s : State) : Type 0 where
   counted : s.counts.all ≤ came * budget.solves + s.counts.since_report
 
 begun_counted : (budget : Budget) (came : ℕ) (p : Program) (s : State) → IsBeginning p budget s → s.counts ≡ no_commits → IsCountedBy budget came s
-begun_counted budget came p s b none = record {
+begun_counted budget came p s b uncounted = record {
   rows = λ n. let e : (version_of s.versions n).rows ≡ 0 = ap (λ (v : Version). v.rows) (zeros n) in omega (arith, e);
   costs = λ n. let e : (version_of s.versions n).costs ≡ 0 = ap (λ (v : Version). v.costs) (zeros n) in omega (arith, e);
-  counted = let e : s.counts.all ≡ 0 = ap (λ (c : Counts). c.all) none in omega (arith, e);
+  counted = let e : s.counts.all ≡ 0 = ap (λ (c : Counts). c.all) uncounted in omega (arith, e);
 }
   where
     zeros : (n : ℕ) → version_of s.versions n ≡ record { rows = 0; costs = 0 }
@@ -127,9 +127,9 @@ module _ (budget : Budget) (came : ℕ) where
 -- from the beginning of a program no more solves are counted in all than since the report before
 pub begun_counts : (budget : Budget) (p : Program) (old new : State) → IsBeginning p budget old → old.counts ≡ no_commits → SolvesNodes p old new
     → new.counts.all ≤ new.counts.since_report
-begun_counts budget p old new b none x =
+begun_counts budget p old new b uncounted x =
     let c : new.counts.all ≤ 0 * budget.solves + new.counts.since_report
-    = (solves_counted budget 0 p old new x (begun_counted budget 0 p old b none)).counted in
+    = (solves_counted budget 0 p old new x (begun_counted budget 0 p old b uncounted)).counted in
     omega (arith, c)
 
 pub solves_keep_way : SolvesKeepWay

@@ -62,7 +62,7 @@ shows_one : (budget : Budget) (start : Started) (came : ℕ) (program : Program)
 shows_one budget start came program (AtWork old) (AtWork new) found number report f ends steps n c t = record {
   solves = f.solves.solves;
   once = λ widths few. f.solves.never;
-  first = λ small begins none. f.solves.never;
+  first = λ small begins uncounted. f.solves.never;
   ends = ends;
   claimed = claimed_so program number budget.solves found.place _ found.why _ found.claim _ report n f.place f.why f.claim c;
   truth = subst (λ (why : Open). IsTrue (view_of (content program)) (given why budget.solves) report) f.why t;
@@ -133,9 +133,9 @@ never_left_first : (budget : Budget) (start : Started) (came : ℕ) (program : P
     → IsProgram (content program) → HasFewNodes (content program) → WorksOn (content program) budget mid
     → ShowsClosing budget start came program old mid.state report → budget.solves < 2 ^ 63 → IsBeginning (content program) budget old
     → old.counts ≡ no_commits → (n : ℕ) → report.finding ≡ OpenSolves n → mid.state.budget.solves ≤ mid.state.counts.since_report
-never_left_first budget start came program old mid report i few stands shows small begins none n told =
+never_left_first budget start came program old mid report i few stands shows small begins uncounted n told =
     let p = content program in
-    let all : mid.state.counts.all ≤ mid.state.counts.since_report = begun_counts budget p old mid.state begins none shows.solves in
+    let all : mid.state.counts.all ≤ mid.state.counts.since_report = begun_counts budget p old mid.state begins uncounted shows.solves in
     let within : mid.state.counts.since_report ≤ budget.solves = counted_within budget p mid i few stands in
     ends_are_finished program mid.state report.number (Cost mid.state.counts.all) budget.solves report n
     (record {
@@ -193,9 +193,9 @@ round_counts budget start came program k (AtWork old) (AtWork mid) (AtWork next)
             let n = solves_told report.finding tells in
             let spent = never_left budget start came program old.state mid report i few stands shows items (way few widths items) n.0 n.1 in
             absurd (omega (arith, less, spent));
-        first = λ small begins none.
+        first = λ small begins uncounted.
             let n = solves_told report.finding tells in
-            let spent = never_left_first budget start came program old.state mid report i few stands shows small begins none n.0 n.1 in
+            let spent = never_left_first budget start came program old.state mid report i few stands shows small begins uncounted n.0 n.1 in
             absurd (omega (arith, less, spent));
         ends = shows'.ends;
         claimed = shows'.claimed;
