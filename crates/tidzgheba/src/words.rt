@@ -2,7 +2,7 @@
 //! lines says what is wrong with others, and how a command is called.
 use clap::builder::ValueParser;
 use clap::error::ErrorKind;
-use clap::{Arg, Command, value_parser};
+use clap::{Arg, Command, Error, value_parser};
 use line_remarks::push_visible;
 use std::alloc::{AllocError, Global};
 
@@ -33,56 +33,78 @@ fn number<'a>(
         .help(help)
 }
 
+/// The option for the stoch file, which goes with a time file.
+fn stoch<'a>(alloc: Global) -> Result<Arg<'a>, AllocError> {
+    file(alloc, "stoch", "what is random; none: nothing").requires_arg("time")
+}
+
+/// The option for one of the texts of a program that is made.
+fn text<'a>(alloc: Global) -> Arg<'a> {
+    Arg::new(alloc, "text")
+        .long("text")
+        .value_name("TEXT")
+        .value_parser(ValueParser::Names(["core", "time", "stoch"].as_slice()))
+        .help("print this one of its texts alone")
+}
+
+/// A command with one more option.
+fn with_option<'a>(
+    command: Command<'a>,
+    option: Result<Arg<'a>, AllocError>,
+) -> Result<Command<'a>, AllocError> {
+    command.arg(option?)
+}
+
+/// A command with one more command below it.
+fn with_command<'a>(
+    command: Command<'a>,
+    other: Result<Command<'a>, AllocError>,
+) -> Result<Command<'a>, AllocError> {
+    command.subcommand(other?)
+}
+
 /// A task on the program of files.
 fn on_files<'a>(
     alloc: Global,
     name: &'static str,
     about: &'static str,
 ) -> Result<Command<'a>, AllocError> {
-    Command::new(alloc, name)
-        .about(about)
-        .arg(file(alloc, "core", "the program as if nothing were random").required(true))?
-        .arg(file(alloc, "time", "the periods; none: one period"))?
-        .arg(file(alloc, "stoch", "what is random; none: nothing").requires_arg("time")?)?
-        .arg(file(
-            alloc,
-            "edits",
-            "edits of the data, and where a report is wanted",
-        ))
+    let core = file(alloc, "core", "the program as if nothing were random").required(true);
+    let command = Command::new(alloc, name).about(about).arg(core)?;
+    let command = command.arg(file(alloc, "time", "the periods; none: one period"))?;
+    let command = with_option(command, stoch(alloc))?;
+    command.arg(file(
+        alloc,
+        "edits",
+        "edits of the data, and where a report is wanted",
+    ))
 }
 
+/// Solves a program.
 fn solve<'a>(alloc: Global) -> Result<Command<'a>, AllocError> {
-    on_files(
+    let solves = "at most so many solves of a node for a report";
+    let pivots = "at most so many pivots for a solve";
+    let command = on_files(
         alloc,
         "solve",
         "solve the program that the files mean, and print the report",
-    )?
-    .arg(number(
-        alloc,
-        "solves",
-        1,
-        1_000_000_000,
-        "at most so many solves of a node for a report",
-    ))?
-    .arg(number(
-        alloc,
-        "pivots",
-        1,
-        1_000_000_000,
-        "at most so many pivots for a solve",
-    ))?
-    .arg(number(alloc, "workers", 1, 1, "how many workers there are"))
+    )?;
+    let command = command.arg(number(alloc, "solves", 1, 1_000_000_000, solves))?;
+    let command = command.arg(number(alloc, "pivots", 1, 1_000_000_000, pivots))?;
+    command.arg(number(alloc, "workers", 1, 1, "how many workers there are"))
 }
 
+/// Checks reports.
 fn check<'a>(alloc: Global) -> Result<Command<'a>, AllocError> {
-    on_files(
+    let command = on_files(
         alloc,
         "check",
         "test the reports of a file, and print for each whether it holds",
-    )?
-    .arg(file(alloc, "report", "the reports").required(true))
+    )?;
+    command.arg(file(alloc, "report", "the reports").required(true))
 }
 
+/// Shows a tree.
 fn show<'a>(alloc: Global) -> Result<Command<'a>, AllocError> {
     on_files(
         alloc,
@@ -91,42 +113,53 @@ fn show<'a>(alloc: Global) -> Result<Command<'a>, AllocError> {
     )
 }
 
+/// Makes a program.
 fn make<'a>(alloc: Global) -> Result<Command<'a>, AllocError> {
-    let texts = Arg::new(alloc, "text")
-        .long("text")
-        .value_name("TEXT")
-        .value_parser(ValueParser::Names(["core", "time", "stoch"].as_slice()))
-        .help("print this one of its texts alone");
-    Command::new(alloc, "make")
+    let start = number(
+        alloc,
+        "start",
+        0,
+        65_536,
+        "where the numbers of the program begin",
+    );
+    let command = Command::new(alloc, "make")
         .about("make a program from four numbers, and print a summary of its report")
-        .arg(number(
-            alloc,
-            "start",
-            0,
-            65_536,
-            "where the numbers of the program begin",
-        )
-        .required(true))?
-        .arg(number(alloc, "stages", 2, 6, "its periods").required(true))?
-        .arg(number(alloc, "branches", 2, 4, "its cases of each period").required(true))?
-        .arg(number(alloc, "size", 1, 20, "its items").required(true))?
-        .arg(texts)
+        .arg(start.required(true))?;
+    let command = command.arg(number(alloc, "stages", 2, 6, "its periods").required(true))?;
+    let command = command.arg(number(alloc, "branches", 2, 4, "its cases of each period").required(
+        true,
+    ))?;
+    let command = command.arg(number(alloc, "size", 1, 20, "its items").required(true))?;
+    command.arg(text(alloc))
+}
+
+/// The program without its commands.
+fn program<'a>(alloc: Global) -> Result<Command<'a>, AllocError> {
+    let program = Command::new(alloc, "tidzgheba").bin_name("tidzgheba")?;
+    Ok(
+        program
+            .about(
+                "Solves multistage stochastic linear programs exactly and proves each report that it prints.",
+            )
+            .no_binary_name(true)
+            .disable_help_subcommand(true)
+            .subcommand_required(true),
+    )
 }
 
 /// The commands with their options.
 fn commands<'a>(alloc: Global) -> Result<Command<'a>, AllocError> {
-    Command::new(alloc, "tidzgheba")
-        .about(
-            "Solves multistage stochastic linear programs exactly and proves each report that it prints.",
-        )
-        .bin_name("tidzgheba")?
-        .no_binary_name(true)
-        .disable_help_subcommand(true)
-        .subcommand_required(true)
-        .subcommand(solve(alloc)?)?
-        .subcommand(check(alloc)?)?
-        .subcommand(show(alloc)?)?
-        .subcommand(make(alloc)?)
+    let program = with_command(program(alloc)?, solve(alloc))?;
+    let program = with_command(program, check(alloc))?;
+    let program = with_command(program, show(alloc))?;
+    with_command(program, make(alloc))
+}
+
+/// Fails where the library doesn't take the words.
+fn taken(alloc: Global, words: &[String]) -> Result<(), Error> {
+    let matches = commands(alloc)?.try_get_matches_from(words)?;
+    drop(matches);
+    Ok(())
 }
 
 /// Appends what is wrong with words that aren't those of a command, and how the command is called.
@@ -135,14 +168,19 @@ pub fn put_word_fault(
     text: &mut String,
     words: &[String],
 ) -> Result<(), AllocError> {
-    match commands(alloc)?.try_get_matches_from(words) {
-        Ok(_) => text.push_str(TOO_LOOSE),
-        Err(error) if error.kind() == ErrorKind::OutOfMemory => Err(AllocError),
-        Err(error) => {
-            let said = format!(in alloc; "{error}")?;
-            put_lines(text, said.strip_prefix("error: ").unwrap_or(said.as_str()))
-        }
+    match taken(alloc, words) {
+        Ok(()) => text.push_str(TOO_LOOSE),
+        Err(error) => put_error(alloc, text, &error),
     }
+}
+
+/// Appends what the library says of words.
+fn put_error(alloc: Global, text: &mut String, error: &Error) -> Result<(), AllocError> {
+    if error.kind() == ErrorKind::OutOfMemory {
+        return Err(AllocError);
+    }
+    let said = format!(in alloc; "{error}")?;
+    put_lines(text, said.strip_prefix("error: ").unwrap_or(said.as_str()))
 }
 
 /// Appends lines as a terminal may show them.
