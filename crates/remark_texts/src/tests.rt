@@ -1,9 +1,9 @@
 //! Files that a run refuses, and what is said of the line at fault. A table has texts with a `#` between them, and is one text, since
 //! each member of an array is a step of the proof.
-mod core;
+mod cores;
 mod others;
 
-use core::CORE;
+use cores::CORES;
 use line_remarks::put_cause;
 use others::OTHERS;
 use sample_programs::COVER;
@@ -136,7 +136,7 @@ fn put_if_other(
 fn fields_at_fault_are_quoted(rt: HostRuntime) -> Result<(), Fail> {
     let alloc = rt.alloc();
     let mut others = String::new(alloc);
-    for row in CORE.split('#') {
+    for row in CORES.split('#') {
         let (said, rest) = row.split_once('\n').ok_or("a row without a text")?;
         let wanted = format!(in alloc; "Core {said}")?;
         let text = format!(in alloc; "{HEAD}{rest}")?;

@@ -1,6 +1,6 @@
 /// Texts behind five lines of a core file: ROWS with the N row COST and the G row CORN, COLUMNS with the column X, which has an entry
 /// of both. The first line of each has the line at fault, the cause, and what is said.
-pub const CORE: &str = "\
+pub const CORES: &str = "\
 6 12: COLUMNS or ENDATA is missing
 #6 10: 'SOS': that header isn't a section of the file
 SOS
