@@ -7,8 +7,6 @@ mod fault_field;
 mod lines;
 mod refused;
 mod report_fault;
-#[cfg(test)]
-mod tests;
 mod unused;
 mod unused_text;
 mod visible;
