@@ -70,8 +70,8 @@ PassesInTestOf program s told o = PassesInClaim program (Cost s.counts.all) (clo
 
 -- The method has a reason of a report before: the operation passed so on its way from an opening of the program, where the rows of the
 -- script's first program have the widths of their ranges, and few items came.
-pub record WasReason (budget : Budget) (start : Program) (came : ℕ) (p : Program) (why : Open) (Passes : State → State → Type 0) (old : State)
-    : Type 0 where
+pub record WasReason (budget : Budget) (start : Program) (came : ℕ) (p : Program) (why : Open) (Passes : State → State → Type 0)
+    (old : State) : Type 0 where
   pub reason : HasReason old why
   pub met : HasWidths start → AreFew budget came → WasMet p Passes old
 
