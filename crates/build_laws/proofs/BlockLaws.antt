@@ -15,7 +15,7 @@ use Rattle.tree_build.specs.Nodes.{digits_at}
 use Rattle.tree_build.specs.Finish.{block_paths}
 use Rattle.tree_build.specs.Walks.{paths_of, block_rows}
 use Rattle.tree_build.proofs.WheelLemmas.{digits_within}
-use Rattle.tree_laws.proofs.Scenarios.{all_wheels, block_rows_long, block_rows_length}
+use Rattle.tree_build.proofs.ScenarioLaws.{all_wheels, block_rows_long, block_rows_length}
 use Rattle.build_laws.proofs.Numbered.{no_scenario, IsNumbered}
 use Rattle.build_laws.proofs.Tables.{by_stage}
 use Rattle.build_laws.proofs.Tests.{tests_same}

@@ -15,9 +15,9 @@ use Rattle.tree_build.specs.Nodes.{no_values, digits_at, block_node}
 use Rattle.tree_build.specs.Finish.{no_debut}
 use Rattle.tree_build.specs.Walks.{base_of, debuts_of, paths_of}
 use Rattle.tree_build.proofs.ValueLemmas.{all_sets}
-use Rattle.tree_laws.proofs.Lists.{each_from}
-use Rattle.tree_laws.proofs.Numbers.{outlines, paths_length, paths_long}
-use Rattle.tree_laws.proofs.NodeValues.{stages_low}
+use Rattle.tree_build.proofs.Lists.{each_from}
+use Rattle.tree_build.proofs.Numbers.{outlines, paths_length, paths_long}
+use Rattle.tree_build.proofs.NodeValues.{stages_low}
 use Rattle.build_laws.proofs.Numbered.{no_scenario, stand_of}
 use Rattle.build_laws.proofs.Tables.{by_stage, map_each, map_map}
 

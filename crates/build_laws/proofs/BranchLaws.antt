@@ -12,8 +12,8 @@ use Rattle.build_defs.specs.Built.{paths_from}
 use Rattle.tree_build.specs.Branches.{branch_rows}
 use Rattle.tree_build.specs.Finish.{branch_paths}
 use Rattle.tree_build.specs.Walks.{paths_of}
-use Rattle.tree_laws.specs.Law.{AreBranches}
-use Rattle.tree_laws.proofs.Scenarios.{rows_length, rows_long}
+use Rattle.tree_build.specs.Law.{AreBranches}
+use Rattle.tree_build.proofs.ScenarioLaws.{rows_length, rows_long}
 use Rattle.build_laws.proofs.Numbered.{no_scenario, AreBranchesNumbered, IsNumbered}
 use Rattle.build_laws.proofs.Tables.{by_stage}
 use Rattle.build_laws.proofs.Tests.{tests_same}

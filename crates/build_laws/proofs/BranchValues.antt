@@ -14,11 +14,11 @@ use Rattle.tree_build.specs.Branches.{branch_rows}
 use Rattle.tree_build.specs.Nodes.{no_values, node_in, source_of, with_own, branch_node, branch_nodes}
 use Rattle.tree_build.specs.Finish.{no_debut}
 use Rattle.tree_build.specs.Walks.{base_of, debuts_of, paths_of}
-use Rattle.tree_laws.proofs.Lists.{each_at}
-use Rattle.tree_laws.proofs.Numbers.{Stands, stands_at, IsOn, Outlines, outlines, paths_length, paths_long}
-use Rattle.tree_laws.proofs.NodeValues.{stages_low}
-use Rattle.tree_laws.proofs.Marks.{key_at, keys_at, paths_have_keys}
-use Rattle.tree_laws.proofs.Scenarios.{rows_length, rows_long}
+use Rattle.tree_build.proofs.Lists.{each_at}
+use Rattle.tree_build.proofs.Numbers.{Stands, stands_at, IsOn, Outlines, outlines, paths_length, paths_long}
+use Rattle.tree_build.proofs.NodeValues.{stages_low}
+use Rattle.tree_build.proofs.Marks.{key_at, keys_at, paths_have_keys}
+use Rattle.tree_build.proofs.ScenarioLaws.{rows_length, rows_long}
 use Rattle.build_laws.proofs.Numbered.{no_scenario, stand_of}
 use Rattle.build_laws.proofs.Tables.{map_push, map_each, map_map}
 use Rattle.build_laws.proofs.Above.{none_above, values_above, above_is}

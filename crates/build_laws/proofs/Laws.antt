@@ -2,7 +2,7 @@
 use Rattle.stoch_defs.specs.Random.Random.{Blocks, Branches}
 use Rattle.build_laws.proofs.Meant.{numbered_are_meant}
 use Rattle.build_laws.specs.Law.{BuiltIsMeant}
-use Rattle.tree_laws.specs.Law.{AreCases}
+use Rattle.tree_build.specs.Law.{AreCases}
 use Rattle.time_defs.specs.Means.{Stages}
 use Rattle.stoch_defs.specs.Random.{Random}
 use Rattle.build_laws.proofs.Numbered.{IsNumbered}

@@ -7,7 +7,7 @@ use Rattle.tree_build.specs.Wheels.{wheels_of, product, sizes_of}
 use Rattle.tree_build.specs.Branches.{branch_rows}
 use Rattle.tree_build.specs.Finish.{block_paths, branch_paths}
 use Rattle.tree_build.specs.Walks.{debuts_of, paths_of, block_rows, block_all, branch_all}
-use Rattle.tree_laws.proofs.Scenarios.{block_rows_long, block_rows_length}
+use Rattle.tree_build.proofs.ScenarioLaws.{block_rows_long, block_rows_length}
 use Rattle.build_laws.proofs.Numbered.{stand_of}
 use Rattle.build_laws.proofs.Numbered.{NumberedAreMeant}
 use Rattle.build_laws.proofs.BlockValues.{IsInside, all_inside, blocks_meant, meant_values}

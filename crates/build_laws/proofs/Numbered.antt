@@ -15,7 +15,7 @@ use Rattle.tree_build.specs.Nodes.{digits_at}
 use Rattle.tree_build.specs.Finish.{position_at, block_paths, branch_paths}
 use Rattle.tree_build.specs.Walks.{debuts_of, paths_of, block_rows}
 use Rattle.core_defs.specs.declared.program.Core.{Core}
-use Rattle.tree_laws.specs.Law.{AreCases}
+use Rattle.tree_build.specs.Law.{AreCases}
 use Rattle.build_laws.specs.Law.{IsMeant}
 
 -- what stands for a scenario past the last one

@@ -15,7 +15,7 @@ use Rattle.build_defs.specs.Nodes.{rows_at}
 use Rattle.tree_build.specs.declared.parts.RowValues.{RowValues}
 use Rattle.tree_build.specs.Values.{Values, put_at, row_values, values_of, at_row, with_entry, with_rhs, with_set, with_sets}
 use Rattle.tree_build.proofs.ValueLemmas.{one_set}
-use Rattle.tree_laws.proofs.Lists.{passes_get}
+use Rattle.tree_build.proofs.Lists.{passes_get}
 
 -- no row of this number
 row_other : (core : Core) (sets : Sets) (i : ℕ) (change : RowValues → RowValues) (rows : List ℕ) → Each (λ r. nat_eq r i ≡ false) rows →

@@ -16,9 +16,9 @@ use Rattle.tree_build.specs.Numbering.{same_key, has_key, number_of, key_of, key
 use Rattle.tree_build.specs.Nodes.{node_in}
 use Rattle.tree_build.specs.Finish.{no_debut, position_at}
 use Rattle.tree_build.specs.Walks.{debuts_of, paths_of}
-use Rattle.tree_laws.proofs.Lists.{each_at}
-use Rattle.tree_laws.proofs.Numbers.{Stands, stands_at, outlines, paths_length, paths_long, the_debut}
-use Rattle.tree_laws.proofs.Marks.{key_at, keys_at, paths_have_keys, debuts_own}
+use Rattle.tree_build.proofs.Lists.{each_at}
+use Rattle.tree_build.proofs.Numbers.{Stands, stands_at, outlines, paths_length, paths_long, the_debut}
+use Rattle.tree_build.proofs.Marks.{key_at, keys_at, paths_have_keys, debuts_own}
 use Rattle.build_laws.proofs.Numbered.{no_scenario, stand_of}
 use Rattle.build_laws.proofs.Tables.{map_push, by_stage, map_each, map_map}
 use Rattle.build_laws.proofs.Places.{same_list, map_both, stages_long}

@@ -9,7 +9,7 @@ use Rattle.build_defs.proofs.EachLemmas.{each_flat}
 use Rattle.tree_build.specs.declared.wheels.Wheel.{Wheel}
 use Rattle.tree_build.specs.Wheels.{wheels_at, wheels_of, sizes_of}
 use Rattle.tree_build.specs.Choices.{no_block}
-use Rattle.tree_laws.proofs.Scenarios.{IsWheel}
+use Rattle.tree_build.proofs.ScenarioLaws.{IsWheel}
 use Rattle.build_laws.proofs.Places.{map_both}
 use Rattle.build_laws.proofs.Choices.{counts}
 

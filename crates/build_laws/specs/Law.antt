@@ -5,7 +5,7 @@ use Rattle.time_defs.specs.Means.{Stages}
 use Rattle.stoch_defs.specs.Random.{Random}
 use Rattle.build_defs.specs.Built.{built, exceeds}
 use Rattle.tree_build.specs.Walks.{build_over, build_walk}
-use Rattle.tree_laws.specs.Law.{AreCases}
+use Rattle.tree_build.specs.Law.{AreCases}
 
 -- The wheels, digits, keys and debuts make the program that is meant, with the first operation that passes where one does, and find
 -- too much of it exactly where there is too much.

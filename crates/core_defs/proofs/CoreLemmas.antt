@@ -18,11 +18,10 @@ use Rattle.core_defs.specs.declared.kinds.RowUse.TheVariants as uses
 use Rattle.core_defs.specs.declared.parts.ColumnDef.{ColumnDef}
 use Rattle.core_defs.specs.declared.parts.ColumnPart.{ColumnPart}
 use Rattle.core_defs.specs.declared.parts.RowDef.{RowDef}
-use Rattle.core_defs.specs.declared.program.Core.{Core}
 use Rattle.core_defs.specs.Bounds.{first_bounds, bounds_by, crossed}
 use Rattle.core_defs.specs.Core.{row_names, column_names, IsField, InOrder, IsCore}
 use Rattle.core_defs.specs.Filed.{Filed, closed}
-use Rattle.core_defs.specs.Finished.{row_def, row_defs, column_def, column_defs, IsCoreOf}
+use Rattle.core_defs.specs.Finished.{row_def, row_defs, column_def, column_defs}
 use Rattle.core_defs.specs.Stated.{use_of, constraint_with, kind_with, constraint_name, constraint_kind, value_on}
 use Rattle.core_defs.proofs.NameLemmas.{Distinct, numbered, all_distinct}
 use Rattle.core_defs.proofs.TermLemmas.{terms_rise, terms_within, nonzero_form, nonzero_within}
@@ -142,22 +141,25 @@ uncrossed None upper e = tt
 uncrossed (Some lower) None e = tt
 uncrossed (Some lower) (Some upper) e = not_above lower upper (compare lower upper) (compare_means lower upper) e
 
-pub core_is : (d : Data) (core : Core) → Sound d → All IsField (rows_in d) → All IsField (names_in d) → IsCoreOf (filed_of d) core → IsCore core
-core_is d core sound row_fields column_fields is =
-    let rows : row_names core.rows.items ≡ rows_in d = ap row_names is.rows ∙ row_names_are (filed_of d) 0 (rows_in d) in
-    let columns : core.columns.items ≡ map (column_in d) (names_in d) = is.columns ∙ columns_are d in
-    let names : column_names core.columns.items ≡ names_in d = ap column_names columns ∙ named_in d (names_in d) in
-    let row_count : length core.rows.items ≡ length (rows_in d) = sym (length-map core.rows.items (λ (row : RowDef). row.name)) ∙ ap length rows in
-    let column_count : length core.columns.items ≡ length (names_in d) = sym (length-map core.columns.items (λ (column : ColumnDef). column.name)) ∙ ap length names in
+pub core_is : (d : Data) → Sound d → All IsField (rows_in d) → All IsField (names_in d)
+    → IsCore (row_defs (filed_of d) 0 (filed_of d).rows) (column_defs (filed_of d) 0 (closed (filed_of d)).parts)
+core_is d sound row_fields column_fields =
+    let all_rows : List RowDef = row_defs (filed_of d) 0 (filed_of d).rows in
+    let all_columns : List ColumnDef = column_defs (filed_of d) 0 (closed (filed_of d)).parts in
+    let rows : row_names all_rows ≡ rows_in d = row_names_are (filed_of d) 0 (rows_in d) in
+    let columns : all_columns ≡ map (column_in d) (names_in d) = columns_are d in
+    let names : column_names all_columns ≡ names_in d = ap column_names columns ∙ named_in d (names_in d) in
+    let row_count : length all_rows ≡ length (rows_in d) = sym (length-map all_rows (λ (row : RowDef). row.name)) ∙ ap length rows in
+    let column_count : length all_columns ≡ length (names_in d) = sym (length-map all_columns (λ (column : ColumnDef). column.name)) ∙ ap length names in
     record {
       few_rows = omega (arith, sound.rows.few, row_count);
       few_columns = omega (arith, sound.columns.few, column_count);
-      rows_differ = numbered (row_names core.rows.items) (subst Distinct (sym rows) sound.rows.rows_differ);
-      columns_differ = numbered (column_names core.columns.items) (subst Distinct (sym names) (all_distinct [] d.named tt));
+      rows_differ = numbered (row_names all_rows) (subst Distinct (sym rows) sound.rows.rows_differ);
+      columns_differ = numbered (column_names all_columns) (subst Distinct (sym names) (all_distinct [] d.named tt));
       row_fields = subst (All IsField) (sym rows) row_fields;
       column_fields = subst (All IsField) (sym names) column_fields;
       forms = subst (All (λ (column : ColumnDef). IsForm column.entries)) (sym columns) (columns_all d (λ (column : ColumnDef). IsForm column.entries) (names_in d) (form_in d));
-      within = subst (λ (count : ℕ). All (λ (column : ColumnDef). EndsBelow count column.entries) core.columns.items) (sym row_count)
+      within = subst (λ (count : ℕ). All (λ (column : ColumnDef). EndsBelow count column.entries) all_columns) (sym row_count)
           (subst (All (λ (column : ColumnDef). EndsBelow (length (rows_in d)) column.entries)) (sym columns) (columns_all d (λ (column : ColumnDef). EndsBelow (length (rows_in d)) column.entries) (names_in d) (within_in d)));
       in_order = subst (All (λ (column : ColumnDef). InOrder column.lower column.upper)) (sym columns)
           (columns_all d (λ (column : ColumnDef). InOrder column.lower column.upper) (names_in d) (λ name. uncrossed (bounds_by d.bounds name).lower (bounds_by d.bounds name).upper (sound.in_order name)));

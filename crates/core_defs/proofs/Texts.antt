@@ -138,7 +138,7 @@ all_filed lines f fields filed =
     subst (IsFiledCore lines) is (record {
       file = record { read = filed.read; rest = filed.rest; split = filed.split; fit = filed.fit; end = filed.end; whole = filed.whole };
       means = λ core of_core. means lines core sound of_core;
-      is_core = λ core of_core. core_is (data_on lines) core sound (row_fields lines fields) (column_fields lines fields) of_core;
+      keeps = core_is (data_on lines) sound (row_fields lines fields) (column_fields lines fields);
       few_rows = sound.rows.few;
       few_columns = sound.columns.few;
       named = column_names_are (data_on lines);

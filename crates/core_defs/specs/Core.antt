@@ -6,7 +6,6 @@ use Rattle.smps_words.specs.Line.{is_blank}
 use Rattle.smps_words.specs.Names.{IsNumbered}
 use Rattle.core_defs.specs.declared.parts.RowDef.{RowDef}
 use Rattle.core_defs.specs.declared.parts.ColumnDef.{ColumnDef}
-use Rattle.core_defs.specs.declared.program.Core.{Core}
 
 -- the names of the constraints, in their order
 abbrev pub row_names : List RowDef → List (List ℕ)
@@ -27,17 +26,18 @@ InOrder None upper = Unit {0}
 InOrder (Some lower) None = Unit {0}
 InOrder (Some lower) (Some upper) = lower ≤ℚ upper
 
-pub record IsCore (core : Core) : Type 0 where
-  pub few_rows : length core.rows.items < 2 ^ 32
-  pub few_columns : length core.columns.items < 2 ^ 32
+-- of the constraints and the columns of a core
+pub record IsCore (rows : List RowDef) (columns : List ColumnDef) : Type 0 where
+  pub few_rows : length rows < 2 ^ 32
+  pub few_columns : length columns < 2 ^ 32
   -- no two constraints have one name, and no two columns
-  pub rows_differ : IsNumbered (row_names core.rows.items)
-  pub columns_differ : IsNumbered (column_names core.columns.items)
-  pub row_fields : All IsField (row_names core.rows.items)
-  pub column_fields : All IsField (column_names core.columns.items)
+  pub rows_differ : IsNumbered (row_names rows)
+  pub columns_differ : IsNumbered (column_names columns)
+  pub row_fields : All IsField (row_names rows)
+  pub column_fields : All IsField (column_names columns)
   -- a column's entries rise by constraint and aren't 0
-  pub forms : All (λ column. IsForm column.entries) core.columns.items
+  pub forms : All (λ column. IsForm column.entries) columns
   -- they are of constraints that are there
-  pub within : All (λ column. EndsBelow (length core.rows.items) column.entries) core.columns.items
+  pub within : All (λ column. EndsBelow (length rows) column.entries) columns
   -- no lower bound is above the upper one
-  pub in_order : All (λ column. InOrder column.lower column.upper) core.columns.items
+  pub in_order : All (λ column. InOrder column.lower column.upper) columns

@@ -6,7 +6,7 @@ use Rattle.core_defs.specs.declared.program.Core.{Core}
 use Rattle.core_defs.specs.Core.{column_names, IsCore}
 use Rattle.core_defs.specs.Fault.{IsCoreFile, IsFault}
 use Rattle.core_defs.specs.Filed.{Filed, closed}
-use Rattle.core_defs.specs.Finished.{column_defs, IsCoreOf}
+use Rattle.core_defs.specs.Finished.{row_defs, column_defs, IsCoreOf}
 use Rattle.core_defs.specs.Means.{Means}
 use Rattle.core_defs.specs.Step.{most_rows, most_columns, filed_text}
 
@@ -14,7 +14,7 @@ use Rattle.core_defs.specs.Step.{most_rows, most_columns, filed_text}
 pub record IsFiledCore (lines : List TextLine) (f : Filed) : Type 0 where
   pub file : IsCoreFile lines
   pub means : (core : Core) → IsCoreOf f core → Means lines core
-  pub is_core : (core : Core) → IsCoreOf f core → IsCore core
+  pub keeps : IsCore (row_defs f 0 f.rows) (column_defs f 0 (closed f).parts)
   pub few_rows : length f.rows ≤ most_rows
   pub few_columns : length f.names ≤ most_columns
   pub named : column_names (column_defs f 0 (closed f).parts) ≡ f.names

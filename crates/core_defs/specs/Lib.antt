@@ -8,6 +8,7 @@ pub mod Bounds
 pub mod Filed
 pub mod Step
 pub mod Core
+pub mod CoreProofs
 pub mod Finished
 pub mod Means
 pub mod Fault

@@ -1,5 +1,7 @@
 //! The linear program of a core file.
-ghost use Rattle.std.specs.Prelude.{◌≡◌, ◌<◌, ◌^◌, map, length};
+ghost use Rattle.std.specs.Prelude.{◌≡◌, map};
+ghost use Rattle.core_defs.specs.Core.{IsCore};
+ghost use Rattle.core_defs.specs.CoreProofs.{is_core_prop};
 
 use crate::parts::{ColumnDef, RowDef};
 use smps_words::{Name, Names};
@@ -23,8 +25,8 @@ pub struct Core {
     ghost rows_named: { row_names ≡ map (λ row. row.name) rows.items },
     /// The names of the columns are kept apart to be found.
     ghost columns_named: { column_names ≡ map (λ column. column.name) columns.items },
-    ghost few_rows: { length rows.items < 2 ^ 32 },
-    ghost few_columns: { length columns.items < 2 ^ 32 },
+    /// What every core keeps.
+    ghost keeps: { IsCore rows.items columns.items } by { is_core_prop rows.items columns.items },
 }
 
 impl Core {
@@ -41,8 +43,7 @@ impl Core {
     ) -> Core
         requires rows { rows.0 ≡ row_names rows.1.items }
         requires columns { columns.0 ≡ column_names columns.1.items }
-        requires few_rows { length rows.1.items < 2 ^ 32 }
-        requires few_columns { length columns.1.items < 2 ^ 32 }
+        requires keeps { IsCore rows.1.items columns.1.items }
         ensures objective { result.objective ≡ objective }
         ensures skipped { result.skipped ≡ skipped }
         ensures rhs_set { result.rhs_set ≡ rhs_set }

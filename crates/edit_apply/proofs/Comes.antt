@@ -1,5 +1,5 @@
 -- What a walk over operations comes to.
-use Rattle.std.proofs.Common.{◌≡◌, Bool, true, false, List, [], ◌∷◌, Option, Some, None, Result, Ok, Err, refl}
+use Rattle.std.proofs.Common.{◌≡◌, Bool, true, false, List, ◌∷◌, Option, Some, None, Result, Ok, Err, refl}
 use Rattle.rationals.specs.Rational.{ℚ}
 use Rattle.rationals.specs.declared.Op.{Op}
 use Rattle.rationals.specs.Passes.{Operation, answer, passes, then_walk, value_of, walk}

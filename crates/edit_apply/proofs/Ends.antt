@@ -1,5 +1,5 @@
 -- What is known of an edit once its scenarios are made.
-use Rattle.std.proofs.Common.{◌≡◌, ℕ, ◌+◌, ◌++◌, List, [], ◌∷◌, length, length-append, true, false, Option, Some, None, Result, Ok, Err, OnOk, refl, sym, subst, ap, ap₂, ◌∙◌, arith}
+use Rattle.std.proofs.Common.{◌≡◌, ℕ, ◌+◌, ◌++◌, List, [], ◌∷◌, length, length-append, true, false, Option, Some, None, Result, Ok, Err, OnOk, sym, subst, ap, ap₂, ◌∙◌, arith}
 use Rattle.std.proofs.lemmas.List.{length-map, map-append}
 use Rattle.rationals.specs.Rational.{ℚ, one_ℚ, ◌-ℚ◌}
 use Rattle.core_defs.specs.declared.cause.Cause.TheVariants.{ScenarioLimit}
@@ -12,7 +12,7 @@ use Rattle.scen_tree.specs.Trees.{position_of}
 use Rattle.std.proofs.Common.{map}
 use Rattle.edit_defs.specs.declared.edit.Edit.{Edit}
 use Rattle.edit_defs.specs.declared.edit.Edit.TheVariants.{Prob, Drop, Add}
-use Rattle.edit_defs.specs.After.{after, divided, is_known, new_scenario, others, reached_nodes, times}
+use Rattle.edit_defs.specs.After.{after, is_known, new_scenario, others, times}
 use Rattle.edit_defs.specs.Causes.{passing, refused, refused_if}
 use Rattle.edit_defs.specs.declared.counts.Counts.{Counts}
 use Rattle.edit_defs.specs.Limits.{counts, is_above, is_above_limits, plus}

@@ -1,15 +1,9 @@
 -- Lists that grow at their end, and paths that are copied.
-use Rattle.std.proofs.Common.{◌≡◌, ℕ, zero, suc, ◌+◌, ◌-◌, ◌<◌, ◌≤◌, Bool, true, false, List, [], ◌∷◌, ◌++◌, length, get_or, drop, map, Option, Some, None, Result, Ok, Err, IfOk, ◌||◌, refl, sym, ap, ap₂, subst, ◌∙◌, arith, add-one, append_assoc}
+use Rattle.std.proofs.Common.{◌≡◌, ℕ, suc, List, [], ◌∷◌, ◌++◌, length, Option, Some, Result, Ok, Err, IfOk, refl, sym, ap, ◌∙◌}
 use Rattle.scen_defs.specs.declared.program.Node.{Node as NodeOf}
 use Rattle.scen_defs.specs.declared.program.Scenario.{Scenario as ScenarioOf}
-use Rattle.scen_defs.specs.Lists.{pick}
-use Rattle.scen_defs.specs.Program.{Node, Program, Scenario, node_at, node_content, place_content, nodes_content, scenario_content, scenarios_content}
-use Rattle.scen_defs.proofs.NodeReads.{drop_read}
-use Rattle.scen_defs.specs.Valid.{IsProgram}
-use Rattle.edit_defs.specs.After.{copies, copy, new_path, is_known, is_named, no_scenario, scenario_named}
-use Rattle.edit_defs.specs.Touches.{path_of}
-use Rattle.edit_defs.proofs.Paths.{follows-length}
-use Rattle.edit_defs.proofs.Stays.{named-fits}
+use Rattle.scen_defs.specs.Program.{Node, node_at, node_content, place_content, nodes_content, scenario_content, scenarios_content}
+use Rattle.edit_defs.specs.After.{copy}
 
 pub nodes_push : (nodes : List (Option NodeOf)) (x : Option NodeOf) → nodes_content (nodes ++ x ∷ []) ≡ nodes_content nodes ++ place_content x ∷ []
 nodes_push [] x = refl

@@ -9,3 +9,4 @@ pub mod Grown
 pub mod Numbers
 pub mod Marks
 pub mod Ends
+pub mod Keeping

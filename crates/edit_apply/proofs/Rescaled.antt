@@ -3,18 +3,18 @@ use Rattle.std.proofs.Common.{◌≡◌, ℕ, Bool, true, false, not, ◌||◌, 
 use Rattle.rationals.specs.Rational.{ℚ, one_ℚ, ◌-ℚ◌, ◌*ℚ◌, ◌/ℚ◌}
 use Rattle.rationals.specs.declared.Op.TheVariants.{Sub, Mul, Div}
 use Rattle.rationals.specs.Passes.{Operation, passes, answer, then_walk, then_value, sub_walk, div_walk}
-use Rattle.scen_defs.specs.Lists.{keep, pick}
+use Rattle.scen_defs.specs.Lists.{pick}
 use Rattle.scen_defs.specs.Program.{Scenario, Program}
 use Rattle.scen_tree.specs.declared.position.Position.{Position}
 use Rattle.scen_tree.specs.Chances.{Chances, chances_walk}
 use Rattle.scen_tree.specs.Trees.{position_of, tree_by, tree_walk}
 use Rattle.edit_defs.specs.declared.edit.Edit.{Edit}
 use Rattle.edit_defs.specs.declared.edit.Edit.TheVariants.{Prob, Drop, Add}
-use Rattle.edit_defs.specs.After.{is_named, is_other, is_known, others, times, divided, with_probability, rest_of, scenario_named, after}
+use Rattle.edit_defs.specs.After.{is_named, is_known, others, times, divided, with_probability, rest_of, after}
 use Rattle.edit_defs.specs.Operations.{first_passing, by_factor, operation, or_else, ended_by, old_probability, probability_operations, chances_passed}
 use Rattle.edit_apply.specs.declared.scaled.Scale.{Scale}
 use Rattle.edit_apply.specs.declared.scaled.Scale.TheVariants.{Times, Over}
-use Rattle.edit_apply.specs.Scaled.{scaled_walk, with_chance, own_part, scaled_part, with_part, rescaled_from, rest_walk, prob_walk, drop_walk, add_walk_from, tested_walk}
+use Rattle.edit_apply.specs.Scaled.{with_chance, own_part, scaled_part, with_part, rescaled_from, rest_walk, prob_walk, drop_walk, add_walk_from, tested_walk}
 use Rattle.edit_apply.proofs.Comes.{Comes, stepped}
 
 -- ---- without operations

@@ -1,5 +1,7 @@
 -- What an error of `apply` says.
-use Rattle.std.specs.Prelude.{◌≡◌, Option, Some, ⊤}
+use Rattle.std.specs.Prelude.{Option, Some}
+use Rattle.rationals.specs.Replies.{Reply, IsReply}
+use Rattle.rationals.specs.Replies.Reply.{Says, Silent}
 use Rattle.core_defs.specs.declared.cause.Cause.{Cause}
 use Rattle.core_defs.specs.declared.cause.Cause.TheVariants.{Passes}
 use Rattle.scen_tree.specs.declared.fault.TreeFault.{TreeFault}
@@ -7,10 +9,14 @@ use Rattle.scen_tree.specs.declared.fault.TreeFault.TheVariants.{Passed, Memory 
 use Rattle.edit_apply.specs.declared.fault.ApplyFault.{ApplyFault}
 use Rattle.edit_apply.specs.declared.fault.ApplyFault.TheVariants.{Refused, Memory}
 
+-- what an error says: the cause
+abbrev pub apply_says : ApplyFault → Reply (Option Cause)
+apply_says (Refused c) = Says (Some c)
+apply_says Memory = Silent
+
 -- it names the cause, or memory was wanting
 abbrev pub ApplyFaultOf : Option Cause → ApplyFault → Type 0
-ApplyFaultOf cause (Refused c) = cause ≡ Some c
-ApplyFaultOf cause Memory = ⊤
+ApplyFaultOf cause fault = IsReply cause (apply_says fault)
 
 -- where a tree isn't made, neither is the edit applied
 abbrev pub fault_of_tree : TreeFault → ApplyFault

@@ -1,10 +1,11 @@
 -- What is tested of a SET behind its scenario and its stage, and of an ADD behind its fields.
-use Rattle.std.specs.Prelude.{ℕ, ◌+◌, List, length, Option}
+use Rattle.std.specs.Prelude.{◌≡◌, ℕ, ◌+◌, List, ◌++◌, length, Option, None, Ok}
 use Rattle.rationals.specs.Rational.{ℚ}
 use Rattle.smps_words.specs.declared.entry.Entry.{Entry}
 use Rattle.core_defs.specs.declared.cause.Cause.{Cause}
 use Rattle.core_defs.specs.declared.cause.Cause.TheVariants.{ScenarioLimit}
 use Rattle.scen_defs.specs.Program.{Node, Scenario, Program}
+use Rattle.scen_defs.specs.Valid.{IsProgram}
 use Rattle.edit_defs.specs.declared.edit.Edit.{Edit}
 use Rattle.edit_defs.specs.declared.edit.Edit.TheVariants.{Set}
 use Rattle.edit_defs.specs.After.{after}
@@ -23,6 +24,11 @@ add_rest p new nodes =
     refused_if (is_above (length p.scenarios + 1) (plus (counts p.nodes) (counts nodes))) ScenarioLimit
     (passing (ended_by (add_told p new nodes)))
 
--- the same in the words of the program after it
+-- where these are passed, the program with the nodes and the scenarios that come of it is one
+abbrev pub KeepsWith : Program → Scenario → List (Option Node) → Type 0
+KeepsWith p new nodes = (ss : List Scenario) → add_rest p new nodes ≡ None → add_told p new nodes ≡ Ok ss
+    → IsProgram (record p { nodes = p.nodes ++ nodes; scenarios = ss })
+
+-- the tests of add_rest in the words of the program after it
 abbrev pub add_left : Program → Edit → Option Cause
 add_left p e = refused_if (is_above_limits (after p e)) ScenarioLimit (passing (first_passed p e))

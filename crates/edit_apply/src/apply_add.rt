@@ -1,13 +1,14 @@
 // An ADD in place.
-ghost use Rattle.std.specs.Prelude.{◌≡◌, ◌++◌, ◌&&◌, ltb, false, None, Some, OnOk, OnErr, IfOk, MatchResult, Ok, length};
+ghost use Rattle.std.specs.Prelude.{◌≡◌, ◌+◌, ◌<◌, ◌^◌, ◌++◌, ◌&&◌, ltb, false, None, Some, OnOk, OnErr, IfOk, MatchResult, Ok, length};
 ghost use Rattle.scen_defs.specs.Program.{content, nodes_content, scenario_content, scenarios_content};
+ghost use Rattle.scen_defs.specs.Valid.{IsField, IsProgram};
 ghost use Rattle.edit_defs.specs.declared.edit.Edit.TheVariants.{Add};
 ghost use Rattle.edit_defs.specs.After.{after, is_known, new_scenario};
 ghost use Rattle.edit_defs.specs.Causes.{refused};
 ghost use Rattle.edit_defs.specs.Limits.{counts};
 ghost use Rattle.scen_tree.specs.Chances.{TreeFaultOf};
 ghost use Rattle.edit_apply.specs.Faults.{ApplyFaultOf};
-ghost use Rattle.edit_apply.specs.Rest.{add_left, add_rest};
+ghost use Rattle.edit_apply.specs.Rest.{KeepsWith, add_left, add_rest};
 ghost use Rattle.edit_apply.specs.Told.{add_told, new_nodes};
 
 use crate::chances::{add_scenarios, test_tree};
@@ -53,7 +54,8 @@ fn new_nodes(
     parent: &Name,
     stage: u32,
 ) -> Result<Vec<Option<Node>>, Memory>
-    ensures { IfOk result (λ new. nodes_content new.items ≡ new_nodes (content program.now) parent.now stage) }
+    ensures nodes { IfOk result (λ new. nodes_content new.items ≡ new_nodes (content program.now) parent.now stage) }
+    ensures room { OnOk result (length (content program.now).nodes + 16 < 2 ^ 32) }
 {
     let above = path(program, parent);
     let first = first_new(&program.nodes)?;
@@ -86,6 +88,10 @@ fn extend(
     nodes: Vec<Option<Node>>,
     scenarios: Vec<Scenario>,
 ) -> Result<(), Memory>
+    requires { IsProgram (record (content program.old) {
+      nodes = (content program.old).nodes ++ nodes_content nodes.items;
+      scenarios = scenarios_content scenarios.items;
+    }) }
     ensures ok { OnOk result (content program.new ≡ record (content program.old) {
       nodes = (content program.old).nodes ++ nodes_content nodes.items;
       scenarios = scenarios_content scenarios.items;
@@ -106,6 +112,7 @@ fn add(
     new: Scenario,
     nodes: Vec<Option<Node>>,
 ) -> Result<(), ApplyFault>
+    requires keeps { KeepsWith (content program.old) (scenario_content new) (nodes_content nodes.items) }
     requires counted { counted.old ≡ counts (content program.old).nodes }
     ensures scenarios { OnOk result (add_told (content program.old) (scenario_content new) (nodes_content nodes.items)
         ≡ Ok (content program.new).scenarios) }
@@ -178,6 +185,7 @@ pub(crate) fn apply_add(
     probability: Frac,
     stage: u32,
 ) -> Result<(), ApplyFault>
+    requires field { IsField name.now }
     requires counted { counted.old ≡ counts (content program.old).nodes }
     ensures ok { OnOk result (content program.new ≡ after (content program.old) (Add name.now parent.now probability stage)) }
     ensures cause { MatchResult result (λ _. refused (content program.old) (Add name.now parent.now probability stage) ≡ None)

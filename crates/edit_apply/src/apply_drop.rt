@@ -1,6 +1,7 @@
 // A DROP in place.
 ghost use Rattle.std.specs.Prelude.{◌≡◌, None, Some, OnOk, OnErr, MatchResult, IfOk, Ok};
 ghost use Rattle.scen_defs.specs.Program.{content, scenarios_content};
+ghost use Rattle.scen_defs.specs.Valid.{IsProgram};
 ghost use Rattle.edit_defs.specs.declared.edit.Edit.TheVariants.{Drop};
 ghost use Rattle.edit_defs.specs.After.{after};
 ghost use Rattle.edit_defs.specs.Causes.{passing, refused};
@@ -62,6 +63,10 @@ fn test_drop(program: &Program, name: &Name) -> Result<(), Cause>
 
 /// Leaves what a DROP leaves.
 fn leave(program: &mut Program, left: Left)
+    requires { IsProgram (record (content program.old) {
+      nodes = kept_from left.marks.items 0 (content program.old).nodes;
+      scenarios = scenarios_content left.scenarios.items;
+    }) }
     ensures { content program.new ≡ record (content program.old) {
       nodes = kept_from left.marks.items 0 (content program.old).nodes;
       scenarios = scenarios_content left.scenarios.items;

@@ -2,7 +2,6 @@
 ghost use Rattle.std.specs.Prelude.{◌≡◌, IfOk, None, OnOk, OnErr, MatchResult, length};
 ghost use Rattle.smps_words.specs.declared.entry.Entry.TheVariants.{Cost, Matrix, Rhs};
 ghost use Rattle.scen_defs.specs.Program.{content};
-ghost use Rattle.scen_defs.specs.Valid.{IsProgram};
 ghost use Rattle.edit_defs.specs.declared.edit.Edit.TheVariants.{Set};
 ghost use Rattle.edit_defs.specs.After.{after, home_of};
 ghost use Rattle.edit_defs.specs.Applies.{IsSet};
@@ -32,7 +31,6 @@ fn apply_cost(
     column: u32,
     value: Frac,
 ) -> Result<(), ApplyFault>
-    requires program { IsProgram (content program.old) }
     requires applies { IsSet (content program.old) scenario.now (Cost column) }
     requires place { place ≡ home_of (content program.old) scenario.now (Cost column) }
     requires counted { counted.old ≡ counts (content program.old).nodes }
@@ -63,7 +61,6 @@ fn apply_matrix(
     column: u32,
     value: Frac,
 ) -> Result<(), ApplyFault>
-    requires program { IsProgram (content program.old) }
     requires applies { IsSet (content program.old) scenario.now (Matrix row column) }
     requires place { place ≡ home_of (content program.old) scenario.now (Matrix row column) }
     requires counted { counted.old ≡ counts (content program.old).nodes }
@@ -92,7 +89,6 @@ fn apply_right_side(
     row: u32,
     value: Frac,
 ) -> Result<(), ApplyFault>
-    requires program { IsProgram (content program.old) }
     requires applies { IsSet (content program.old) scenario.now (Rhs row) }
     requires place { place ≡ home_of (content program.old) scenario.now (Rhs row) }
     requires counted { counted.now ≡ counts (content program.old).nodes }
@@ -116,7 +112,6 @@ fn apply_entry(
     entry: Entry,
     value: Frac,
 ) -> Result<(), ApplyFault>
-    requires program { IsProgram (content program.old) }
     requires applies { IsSet (content program.old) scenario.now entry }
     requires place { place ≡ home_of (content program.old) scenario.now entry }
     requires counted { counted.old ≡ counts (content program.old).nodes }
@@ -147,7 +142,6 @@ pub(crate) fn apply_set(
     value: Frac,
     guess: usize,
 ) -> Result<(), ApplyFault>
-    requires program { IsProgram (content program.old) }
     requires numbers { HasNumbers (content program.old) entry }
     requires counted { counted.old ≡ counts (content program.old).nodes }
     ensures ok { OnOk result (content program.new ≡ after (content program.old) (Set scenario.now entry value)) }

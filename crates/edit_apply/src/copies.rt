@@ -1,5 +1,5 @@
 // Copies of a path's nodes.
-ghost use Rattle.std.specs.Prelude.{◌≡◌, ◌++◌, ◌∷◌, [], IfOk, OnOk, Some, None, length};
+ghost use Rattle.std.specs.Prelude.{◌≡◌, ◌+◌, ◌<◌, ◌^◌, ◌++◌, ◌∷◌, [], IfOk, OnOk, Some, None, length};
 ghost use Rattle.scen_defs.specs.Lists.{pick};
 ghost use Rattle.edit_apply.specs.Kept.{new_node};
 ghost use Rattle.scen_defs.specs.Program.{node_at, node_content, no_node, nodes_content};
@@ -8,6 +8,9 @@ ghost use Rattle.edit_defs.specs.After.{copies, copy, new_path};
 use frac128::{Form, Memory};
 use scen_defs::{Node, NodeRow};
 use std::alloc::Global;
+
+/// So many places of nodes a program has at most where a scenario is added: there are at most 16 new ones, and numbers have 32 bits.
+const MOST_PLACES: usize = u32::MAX as usize - 16;
 
 fn copied_rows(alloc: Global, rows: &[NodeRow]) -> Result<Vec<NodeRow>, Memory>
     ensures { IfOk result (λ all. all.items ≡ rows.now) }
@@ -94,11 +97,15 @@ fn small(number: usize) -> Result<u32, Memory>
     }
 }
 
-/// The number behind those of all nodes.
+/// The number behind those of all nodes, where sixteen more keep within 32 bits.
 #[tactic(auto, using(crate::proofs::Grown::nodes_long))]
 pub(crate) fn first_new(nodes: &[Option<Node>]) -> Result<u32, Memory>
-    ensures { IfOk result (λ first. first ≡ length (nodes_content nodes.now)) }
+    ensures first { IfOk result (λ first. first ≡ length (nodes_content nodes.now)) }
+    ensures room { OnOk result (length (nodes_content nodes.now) + 16 < 2 ^ 32) }
 {
+    if nodes.len() > MOST_PLACES {
+        return Err(Memory);
+    }
     small(nodes.len())
 }
 

@@ -1,7 +1,7 @@
 // An edit in place.
 ghost use Rattle.std.specs.Prelude.{◌≡◌, None, OnOk, OnErr, MatchResult};
 ghost use Rattle.scen_defs.specs.Program.{content};
-ghost use Rattle.scen_defs.specs.Valid.{IsField, IsProgram};
+ghost use Rattle.scen_defs.specs.Valid.{IsField};
 ghost use Rattle.edit_defs.specs.declared.edit.Edit.TheVariants.{Prob, Drop, Add};
 ghost use Rattle.edit_defs.specs.After.{after};
 ghost use Rattle.edit_defs.specs.Causes.{Asks, refused};
@@ -26,7 +26,6 @@ pub fn apply_near(
     edit: &Edit,
     guess: usize,
 ) -> Result<(), ApplyFault>
-    requires program { IsProgram (content program.old) }
     requires asks { Asks (content program.old) edit.now }
     requires counted { counted.old ≡ counts (content program.old).nodes }
     ensures ok { OnOk result (content program.new ≡ after (content program.old) edit.now) }
@@ -62,7 +61,6 @@ pub fn apply_counted(
     counted: &mut Counts,
     edit: &Edit,
 ) -> Result<(), ApplyFault>
-    requires program { IsProgram (content program.old) }
     requires asks { Asks (content program.old) edit.now }
     requires counted { counted.old ≡ counts (content program.old).nodes }
     ensures ok { OnOk result (content program.new ≡ after (content program.old) edit.now) }
@@ -77,9 +75,8 @@ pub fn apply_counted(
 /// Applies an edit in place.
 ///
 /// `Refused` says why it doesn't apply: the first test that it fails. Where it applies, memory alone can be wanting. After an
-/// error the program is as it was.
+/// error the program is as it was. An ADD that finds no 16 numbers of 32 bits for new nodes is answered by `Memory`.
 pub fn apply(alloc: Global, program: &mut Program, edit: &Edit) -> Result<(), ApplyFault>
-    requires program { IsProgram (content program.old) }
     requires asks { Asks (content program.old) edit.now }
     ensures ok { OnOk result (content program.new ≡ after (content program.old) edit.now) }
     ensures cause { MatchResult result (λ _. refused (content program.old) edit.now ≡ None)

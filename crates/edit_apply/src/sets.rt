@@ -2,7 +2,6 @@
 ghost use Rattle.std.specs.Prelude.{◌≡◌, None, Some, OnOk, OnErr, IfErr};
 ghost use Rattle.smps_words.specs.declared.entry.Entry.TheVariants.{Cost, Matrix, Rhs};
 ghost use Rattle.scen_defs.specs.Program.{content};
-ghost use Rattle.scen_defs.specs.Valid.{IsProgram};
 ghost use Rattle.edit_defs.specs.declared.edit.Edit.TheVariants.{Set};
 ghost use Rattle.edit_defs.specs.After.{after, home_of};
 ghost use Rattle.edit_defs.specs.Applies.{IsSet};
@@ -24,7 +23,6 @@ pub(crate) fn set_right_side(
     row: u32,
     value: Frac,
 ) -> Result<(), Passed>
-    requires program { IsProgram (content program.old) }
     requires applies { IsSet (content program.old) scenario.now (Rhs row) }
     requires place { place ≡ home_of (content program.old) scenario.now (Rhs row) }
     ensures ok { OnOk result (content program.new ≡ after (content program.old) (Set scenario.now (Rhs row) value)) }
@@ -46,7 +44,6 @@ pub(crate) fn set_column_cost(
     column: u32,
     value: Frac,
 ) -> Result<(), Memory>
-    requires program { IsProgram (content program.old) }
     requires applies { IsSet (content program.old) scenario.now (Cost column) }
     requires place { place ≡ home_of (content program.old) scenario.now (Cost column) }
     ensures ok { OnOk result (content program.new ≡ after (content program.old) (Set scenario.now (Cost column) value)) }
@@ -65,7 +62,6 @@ pub(crate) fn set_matrix_entry(
     column: u32,
     value: Frac,
 ) -> Result<(), Memory>
-    requires program { IsProgram (content program.old) }
     requires applies { IsSet (content program.old) scenario.now (Matrix row column) }
     requires place { place ≡ home_of (content program.old) scenario.now (Matrix row column) }
     ensures ok { OnOk result (content program.new ≡ after (content program.old) (Set scenario.now (Matrix row column) value)) }

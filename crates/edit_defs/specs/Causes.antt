@@ -1,5 +1,5 @@
 -- Why an edit doesn't apply to a program: the first test that it fails.
-use Rattle.std.specs.Prelude.{ℕ, ◌<◌, Bool, false, not, ◌&&◌, ltb, leb, length, Option, Some, None}
+use Rattle.std.specs.Prelude.{◌<◌, Bool, false, not, ◌&&◌, ltb, leb, length, Option, Some, None}
 use Rattle.rationals.specs.Rational.{ℚ, zero_ℚ, one_ℚ, at_most}
 use Rattle.rationals.specs.Passes.{Operation}
 use Rattle.smps_words.specs.declared.entry.Entry.{Entry}

@@ -3,7 +3,7 @@ ghost use Rattle.std.specs.Prelude.{◌≡◌, ◌<◌, true, map, length, is_so
 ghost use Rattle.scen_defs.specs.Lists.{passes_at};
 ghost use Rattle.scen_defs.specs.Program.{is_live, node_at, node_content, nodes_content, no_node};
 ghost use Rattle.scen_defs.specs.Program.{Scenario as ScenarioContent, scenario_content, scenarios_content, content, column_at};
-ghost use Rattle.scen_defs.specs.Valid.{row_at, Differ, IsProgram};
+ghost use Rattle.scen_defs.specs.Valid.{row_at, Differ};
 ghost use Rattle.edit_defs.specs.After.{is_known, is_named, scenario_named, no_scenario, stage_of_entry, home_of};
 ghost use Rattle.edit_defs.specs.Shifts.{find_row, no_row};
 ghost use Rattle.edit_defs.specs.Touches.{path_of};
@@ -169,7 +169,6 @@ pub fn home(program: &Program, name: &Name, entry: Entry) -> u32
 
 /// The node of an entry, where the scenario is looked for as by `place_near`.
 pub fn home_near(program: &Program, guess: usize, name: &Name, entry: Entry) -> u32
-    requires { IsProgram (content program.now) }
     ensures { result ≡ home_of (content program.now) name.now entry }
 {
     let stage = stage_of(program, entry);

@@ -2,7 +2,7 @@
 ghost use Rattle.std.specs.Prelude.{◌≡◌, ◌++◌, ◌-◌, IfOk, OnOk, length, take, map, true};
 ghost use Rattle.scen_defs.specs.Lists.{is_in};
 ghost use Rattle.scen_defs.specs.Program.{content, scenarios_content};
-ghost use Rattle.scen_defs.specs.Valid.{is_reached, IsProgram};
+ghost use Rattle.scen_defs.specs.Valid.{is_reached};
 ghost use Rattle.edit_defs.specs.After.{others};
 ghost use Rattle.edit_defs.specs.Applies.{Applies};
 ghost use Rattle.edit_defs.specs.Touches.{costs_of, costs_or_gone, part_of_entry, touches};
@@ -109,7 +109,6 @@ fn first(path: &[u32], stages: u32) -> &[u32]
 /// PROB the costs of each node on the path that has children; of a DROP each node that only this scenario passes as
 /// gone, and the costs of the others on the path; of an ADD the costs of each shared node.
 pub fn touches(alloc: Global, program: &Program, edit: &Edit) -> Result<Vec<Touched>, Memory>
-    requires program { IsProgram (content program.now) }
     requires applies { Applies (content program.now) edit.now }
     ensures { IfOk result (λ all. all.items ≡ touches (content program.now) edit.now) }
 {

@@ -3,15 +3,12 @@ use Rattle.std.proofs.Common.{◌≡◌, ◌∙◌, ap, refl, sym, subst, ℕ, s
 use Rattle.std.proofs.lemmas.Grind.{common_steps}
 use Rattle.scen_defs.specs.declared.program.Node.{Node as NodeOf}
 use Rattle.scen_defs.specs.Program.{Program, nodes_content}
-use Rattle.scen_defs.specs.Valid.{IsProgram}
 use Rattle.edit_defs.specs.declared.edit.Edit.{Edit}
 use Rattle.edit_defs.specs.declared.edit.Act.{Act}
 use Rattle.edit_defs.specs.declared.edit.Act.TheVariants.{Change, Solve}
 use Rattle.edit_defs.specs.declared.edit.Item.{Item}
 use Rattle.edit_defs.specs.After.{after}
 use Rattle.edit_defs.specs.Causes.{Asks, refused}
-use Rattle.edit_defs.proofs.Programs.{edits_keep_programs}
-use Rattle.edit_defs.proofs.Causes.{edits_without_cause_apply}
 use Rattle.edit_script.specs.Allowed.{IsAllowed, AreAllowed, program_after}
 use Rattle.edit_script.specs.Drafts.{Leads}
 use Rattle.edit_script.specs.Script.{edit_item, report_item}
@@ -59,9 +56,6 @@ leads_report start p items l = record {
   allowed = both start items (report_item ∷ []) l.allowed tt;
   reaches = behind start items (report_item ∷ []) ∙ l.reaches;
 }
-
-pub still_program : (p q : Program) (e : Edit) → IsProgram p → length p.nodes ≤ 1000000 → Asks p e → refused p e ≡ None → q ≡ after p e → IsProgram q
-still_program p q e i places asks none is = subst IsProgram (sym is) (edits_keep_programs p e i (edits_without_cause_apply p e places asks none))
 
 pub nodes_length : (nodes : List (Option NodeOf)) → length (nodes_content nodes) ≡ length nodes
 nodes_length [] = refl

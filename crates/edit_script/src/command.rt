@@ -2,7 +2,6 @@
 ghost use Rattle.std.specs.Prelude.{◌≡◌, ◌≤◌, IfOk};
 ghost use Rattle.smps_words.specs.Seen.{seen};
 ghost use Rattle.scen_defs.specs.Program.{content};
-ghost use Rattle.scen_defs.specs.Valid.{IsProgram};
 ghost use Rattle.edit_script.specs.Commands.{HasName, word_of, first_word, work_line, solve_line, worded, command_of};
 ghost use Rattle.edit_script.specs.declared.command.Command.TheVariants.{Report};
 ghost use Rattle.edit_script.specs.Asked.{AsksOf};
@@ -108,7 +107,6 @@ fn worded(
     line: &Line,
     word: Word,
 ) -> Result<Command, Stop>
-    requires program { IsProgram (content program.now) }
     requires tables { HasTables (content program.now) tables.now }
     requires named { HasName (seen line.now).fields }
     ensures gives { Gives result (worded (content program.now) (seen line.now).fields word) }
@@ -133,7 +131,6 @@ pub(crate) fn command_of(
     place: usize,
     line: &Line,
 ) -> Result<Command, Stop>
-    requires program { IsProgram (content program.now) }
     requires tables { HasTables (content program.now) tables.now }
     requires named { HasName (seen line.now).fields }
     ensures gives { Gives result (command_of (content program.now) (seen line.now).fields) }

@@ -39,7 +39,6 @@ impl Draft {
     ghost use Rattle.std.specs.Prelude.{◌≡◌, ◌<◌, ◌≤◌, Ok, IfOk, OnOk, length};
     ghost use Rattle.smps_words.specs.Seen.{seen};
     ghost use Rattle.scen_defs.specs.Program.{content};
-    ghost use Rattle.scen_defs.specs.Valid.{IsProgram};
     ghost use Rattle.edit_defs.specs.Causes.{Asks};
     ghost use Rattle.edit_script.specs.Asked.{AsksOf};
     ghost use Rattle.edit_script.specs.Commands.{HasName};
@@ -48,7 +47,6 @@ impl Draft {
 
     /// No command is read.
     pub(crate) fn start(alloc: Global, program: &Program) -> Result<Draft, Memory>
-        requires { IsProgram (content program.now) }
         ensures stand { IfOk result (λ draft. stand draft ≡ no_commands (content program.now)) }
         ensures good { IfOk result IsDraft }
         ensures leads { IfOk result (λ draft. Leads (content program.now) draft.items.items (content draft.program)) }

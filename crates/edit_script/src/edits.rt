@@ -2,7 +2,7 @@
 ghost use Rattle.std.specs.Prelude.{◌≡◌, IfOk};
 ghost use Rattle.smps_words.specs.Seen.{seen};
 ghost use Rattle.scen_defs.specs.Program.{content};
-ghost use Rattle.scen_defs.specs.Valid.{IsField, IsProgram};
+ghost use Rattle.scen_defs.specs.Valid.{IsField};
 ghost use Rattle.edit_defs.specs.Causes.{Asks};
 ghost use Rattle.edit_script.specs.Commands.{HasName, set_edit, prob_edit, drop_edit, add_edit};
 ghost use Rattle.edit_script.specs.Commands.{set_line, prob_line, drop_line, add_line};
@@ -32,7 +32,6 @@ fn set_edit(
     row: &[u8],
     word: &[u8],
 ) -> Result<Edit, Stop>
-    requires program { IsProgram (content program.now) }
     requires tables { HasTables (content program.now) tables.now }
     ensures gives { Gives result (set_edit (content program.now) name.now column.now row.now word.now) }
     ensures asks { IfOk result (Asks (content program.now)) }
@@ -96,7 +95,6 @@ fn add_edit(
     word: &[u8],
     period: &[u8],
 ) -> Result<Edit, Stop>
-    requires program { IsProgram (content program.now) }
     requires field { IsField name.now }
     ensures gives { Gives result (add_edit (content program.now) name.now parent.now word.now period.now) }
     ensures asks { IfOk result (Asks (content program.now)) }
@@ -130,7 +128,6 @@ pub(crate) fn set_line(
     place: usize,
     line: &Line,
 ) -> Result<Edit, Stop>
-    requires program { IsProgram (content program.now) }
     requires tables { HasTables (content program.now) tables.now }
     ensures gives { Gives result (set_line (content program.now) (seen line.now).fields) }
     ensures asks { IfOk result (Asks (content program.now)) }
@@ -178,7 +175,6 @@ pub(crate) fn drop_line(
 /// A line of ADD.
 #[tactic(auto, using(crate::proofs::Long::long_add), unfolding(crate::specs::Commands::add_line))]
 pub(crate) fn add_line(alloc: Global, program: &Program, line: &Line) -> Result<Edit, Stop>
-    requires program { IsProgram (content program.now) }
     requires named { HasName (seen line.now).fields }
     ensures gives { Gives result (add_line (content program.now) (seen line.now).fields) }
     ensures asks { IfOk result (Asks (content program.now)) }

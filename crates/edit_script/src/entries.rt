@@ -2,7 +2,6 @@
 ghost use Rattle.std.specs.Prelude.{◌≡◌, ◌<◌, ◌≤◌, ◌^◌, IfSome, IfOk, length};
 ghost use Rattle.smps_words.specs.Names.{place_of};
 ghost use Rattle.scen_defs.specs.Program.{content};
-ghost use Rattle.scen_defs.specs.Valid.{IsProgram};
 ghost use Rattle.edit_defs.specs.Causes.{HasNumbers};
 ghost use Rattle.edit_script.specs.Commands.{is_rhs_name, entry_of, known_entry, if_later};
 ghost use Rattle.edit_script.specs.Tables.{HasTables};
@@ -35,7 +34,6 @@ fn is_rhs_name(program: &Program, name: &[u8]) -> bool
 
 /// The entry that a column and a row name.
 fn entry_of(program: &Program, tables: &Tables, column: &[u8], row: &[u8]) -> Option<Entry>
-    requires program { IsProgram (content program.now) }
     requires tables { HasTables (content program.now) tables.now }
     ensures entry { result ≡ entry_of (content program.now) column.now row.now }
     ensures numbers { IfSome result (HasNumbers (content program.now)) }
@@ -71,7 +69,6 @@ pub(crate) fn known_entry(
     column: &[u8],
     row: &[u8],
 ) -> Result<Entry, Cause>
-    requires program { IsProgram (content program.now) }
     requires tables { HasTables (content program.now) tables.now }
     ensures entry { result ≡ known_entry (content program.now) column.now row.now }
     ensures numbers { IfOk result (HasNumbers (content program.now)) }

@@ -1,7 +1,6 @@
 // Reading a whole edit list.
 ghost use Rattle.std.specs.Prelude.{◌≡◌, ◌<◌, ◌≤◌, ◌-◌, ◌^◌, IfOk, length};
 ghost use Rattle.scen_defs.specs.Program.{content};
-ghost use Rattle.scen_defs.specs.Valid.{IsProgram};
 ghost use Rattle.edit_script.specs.Script.{script_of};
 ghost use Rattle.edit_script.specs.Allowed.{AreAllowed};
 ghost use Rattle.edit_script.specs.Drafts.{refused_at, Means};
@@ -33,7 +32,6 @@ fn refused_at(line: u32, stop: Stop) -> ReadFail
 /// most 20,000 nodes, and 10,000 edits add at most 16 each.
 pub fn read_script(alloc: Global, text: &[u8], program: &Program) -> Result<Script, ReadFail>
     requires text { length text.now < 2 ^ 32 - 1 }
-    requires program { IsProgram (content program.now) }
     // The script is the one that the text means, or the refusal is that of the first line that is at fault, unless memory is wanting.
     ensures exact { Means result (script_of text.now (content program.now)) }
     // Each edit has no cause to be refused by the program after those before it.

@@ -1,7 +1,7 @@
 // The names of a program in tables.
 ghost use Rattle.std.specs.Prelude.{◌≡◌, IfOk, OnOk};
 ghost use Rattle.scen_defs.specs.Program.{content};
-ghost use Rattle.scen_defs.specs.Valid.{Differ, IsProgram};
+ghost use Rattle.scen_defs.specs.Valid.{Differ};
 ghost use Rattle.edit_script.specs.Commands.{column_names, row_names};
 ghost use Rattle.edit_script.specs.Tables.{HasTables};
 
@@ -61,7 +61,6 @@ fn scenario_table(
 impl Tables {
     /// The tables of a program.
     pub(crate) fn of(alloc: Global, program: &Program) -> Result<Tables, Memory>
-        requires { IsProgram (content program.now) }
         ensures { IfOk result (HasTables (content program.now)) }
     {
         Ok(Tables {

@@ -1,11 +1,10 @@
 //! A program on a tree: X costs 1 and is decided first; then a demand of 2 or 6 is seen, each with probability
 //! 1/2, and Y, which costs 3/2, is decided. X and Y together are at least the demand.
-use frac128::{Form, Frac, Memory, parse};
+use frac128::{Frac, Memory, parse};
+use sample_programs::{COVER, read_source};
 use scen_model::{
-    Column, Kind, Node, NodeRow, Program, Row, Scenario, Values, cost, derive, dual_value,
-    feasible, fits, is_direction, zero_value,
+    Kind, Program, Values, cost, derive, dual_value, feasible, fits, is_direction, zero_value,
 };
-use smps_words::{Name, RowKind};
 use std::alloc::Global;
 use std::test::Fail;
 
@@ -41,83 +40,10 @@ const DUALS: &str = "\
 1 1 1|stray
 ";
 
-fn names(alloc: Global, text: &str) -> Result<Vec<Name>, Memory> {
-    let mut all = Vec::new(alloc);
-    for word in text.split(' ') {
-        all.push(Name::new(alloc, word.as_bytes())?)?;
-    }
-    Ok(all)
-}
-
-/// The form with one value.
-fn single(alloc: Global, column: u64, value: Frac) -> Result<Form, Memory> {
-    let mut form = Form::empty(alloc);
-    if !value.is_zero() {
-        form.push(column, value)?;
-    }
-    Ok(form)
-}
-
-fn column(alloc: Global, name: &str, stage: u32) -> Result<Column, Memory> {
-    Ok(Column {
-        name: Name::new(alloc, name.as_bytes())?,
-        stage,
-        lower: Some(Frac::zero()),
-        upper: None,
-    })
-}
-
-/// A node of the second stage with this demand.
-fn demand(alloc: Global, low: i64) -> Result<Option<Node>, Fail> {
-    let entries = single(alloc, 0, Frac::one())?.add_scaled(
-        Frac::one(),
-        &single(alloc, 1, Frac::one())?,
-    )?;
-    let mut rows = Vec::new(alloc);
-    rows.push(NodeRow {
-        row: 0,
-        entries,
-        low: Some(Frac::from_int(low)),
-        high: None,
-    })?;
-    Ok(Some(Node {
-        stage: 1,
-        parent: Some(0),
-        cost: single(alloc, 1, parse(b"3/2")?)?,
-        rows,
-    }))
-}
-
-fn scenario(alloc: Global, name: &str, last: u32) -> Result<Scenario, Fail> {
-    Ok(Scenario {
-        name: Name::new(alloc, name.as_bytes())?,
-        probability: parse(b"1/2")?,
-        path: vec![in alloc; 0, last]?,
-    })
-}
-
+/// The program above, read of its three files.
 pub(crate) fn cover(alloc: Global) -> Result<Program, Fail> {
-    let root = Node {
-        stage: 0,
-        parent: None,
-        cost: single(alloc, 0, Frac::one())?,
-        rows: Vec::new(alloc),
-    };
-    let row = Row {
-        name: Name::new(alloc, b"DEMAND")?,
-        stage: 1,
-        kind: RowKind::Greater,
-        range: None,
-    };
-    Ok(Program {
-        objective: Name::new(alloc, b"COST")?,
-        rhs: Name::new(alloc, b"RHS")?,
-        periods: names(alloc, "P1 P2")?,
-        columns: vec![in alloc; column(alloc, "X", 0)?, column(alloc, "Y", 1)?]?,
-        rows: vec![in alloc; row]?,
-        nodes: vec![in alloc; Some(root), demand(alloc, 2)?, demand(alloc, 6)?]?,
-        scenarios: vec![in alloc; scenario(alloc, "S1", 1)?, scenario(alloc, "S2", 2)?]?,
-    })
+    let read = read_source(alloc, COVER)?;
+    Ok(read.ok_or("COVER isn't read")?)
 }
 
 /// The values of a row of a table.

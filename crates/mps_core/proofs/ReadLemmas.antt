@@ -35,6 +35,7 @@ whole text f is =
     record {
       some_free = some_free lines f ended;
       few_rows = core.few_rows;
+      keeps = core.keeps;
       few_columns = core.few_columns;
       all_parts = sym (column_count f 0 (closed f).parts)
           ∙ sym (length-map (column_defs f 0 (closed f).parts) (λ (column : ColumnDef). column.name)) ∙ ap length core.named;

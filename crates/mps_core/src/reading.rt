@@ -1,6 +1,5 @@
 //! Reading a whole text.
 ghost use Rattle.std.specs.Prelude.{◌≡◌, ◌<◌, ◌-◌, ◌^◌, length, IfOk};
-ghost use Rattle.core_defs.specs.Core.{IsCore};
 ghost use Rattle.core_defs.specs.Fault.{IsReadOrRefused};
 ghost use Rattle.core_defs.specs.Filed.{nothing_filed};
 ghost use Rattle.core_defs.specs.Means.{TextMeans};
@@ -22,7 +21,6 @@ pub fn read_core(alloc: Global, text: &[u8]) -> Result<Core, ReadFail>
     requires { length text.now < 2 ^ 32 - 1 }
     // The core is the one that the lines mean, taken together.
     ensures means { IfOk result (TextMeans text.now) }
-    ensures core { IfOk result IsCore }
 
     // A text is read exactly where no line is at fault and no section is missing; else the first fault is named.
     ensures faults { IsReadOrRefused text.now result }
@@ -36,7 +34,6 @@ fn core_in(alloc: Global, draft: &mut Draft, text: &[u8]) -> Result<Core, ReadFa
     requires empty { filed draft.old ≡ nothing_filed }
     requires fits { length text.now < 2 ^ 32 - 1 }
     ensures means { IfOk result (TextMeans text.now) }
-    ensures core { IfOk result IsCore }
     ensures faults { IsReadOrRefused text.now result }
 {
     file_lines(draft, text)?;

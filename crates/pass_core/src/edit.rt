@@ -2,7 +2,6 @@
 ghost use Rattle.std.specs.Prelude.{◌≡◌, ◌<◌, ◌∷◌, [], false, None, length, IfOk, OnOk};
 ghost use Rattle.scen_defs.specs.Lists.{Each, pick};
 ghost use Rattle.scen_defs.specs.Program.{content, Program as ProgramOf};
-ghost use Rattle.scen_defs.specs.Valid.{IsProgram};
 ghost use Rattle.run_data.specs.Counts.{grown};
 ghost use Rattle.cut_banks.specs.Banks.{fit_banks, swept_banks, edited_banks};
 ghost use Rattle.run_data.specs.Frames.{frame_of};
@@ -77,7 +76,6 @@ impl State {
         dues: &[Due],
         is_grown: bool,
     ) -> Result<(), Memory>
-        requires { IsProgram (content program.now) }
         ensures banks { OnOk result (self.new.banks ≡ edited_banks is_grown (content program.now).nodes dues.now self.old.banks) }
         ensures versions { OnOk result (self.new.versions
             ≡ pick is_grown (grown (length (content program.now).nodes) self.old.versions) self.old.versions) }
@@ -107,7 +105,6 @@ impl State {
 
     /// Where nodes came or went, there are places for them from now on.
     fn grow(&mut self, alloc: Global, program: &Program, is_grown: bool) -> Result<(), Memory>
-        requires { IsProgram (content program.now) }
         ensures banks { OnOk result (self.new.banks
             ≡ pick is_grown (fit_banks (content program.now).nodes self.old.banks) self.old.banks) }
         ensures versions { OnOk result (self.new.versions

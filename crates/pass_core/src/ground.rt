@@ -4,7 +4,7 @@ ghost use Rattle.std.specs.Prelude.{◌≡◌, ◌+◌, ◌<◌, ◌^◌, ℕ, t
 ghost use Rattle.std.specs.Prelude.{Some};
 ghost use Rattle.scen_defs.specs.Lists.{Each, passes_at};
 ghost use Rattle.scen_defs.specs.Program.{content, is_live, Program as ProgramOf};
-ghost use Rattle.scen_defs.specs.Valid.{IsProgram, Lives};
+ghost use Rattle.scen_defs.specs.Valid.{Lives};
 ghost use Rattle.scen_defs.specs.Values.{At};
 ghost use Rattle.scen_tree.specs.Trees.{Tree as TreeOf, tree_walk};
 ghost use Rattle.cut_defs.specs.Stored.{IsMadeFor};
@@ -105,16 +105,16 @@ impl State {
         ensures tabled { (p : ProgramOf) (m : Machine) → IsTabledBy p self.old m → self.old.is_begun ≡ true → m.run + 1 < 2 ^ 64
             → OnOk result (Opens p m self.new) }
         ensures points { (p : ProgramOf) → OnOk result (KeepsPoints p self.old self.new) }
-        ensures made { let p = content program.now in (b : BankBooks) → IsProgram p → tree_walk p ≡ Ok tree.now
+        ensures made { let p = content program.now in (b : BankBooks) → tree_walk p ≡ Ok tree.now
             → self.old.frame ≡ frame_of p → AreBooksOf p self.old.versions b → CutsAreMade b self.old
             → OnOk result (CutsAreMade b self.new) }
-        ensures reasons { let p = content program.now in IsProgram p → tree_walk p ≡ Ok tree.now → self.old.frame ≡ frame_of p
+        ensures reasons { let p = content program.now in tree_walk p ≡ Ok tree.now → self.old.frame ≡ frame_of p
             → let told = IsOfOpening self.old.budget.solves (IsStuckBefore p tree.now self.old) (PassesBefore p tree.now self.old) in
             OnOk result (GainsReasons told self.old self.new) }
         ensures opened { OnOk result (self.new.stop ≡ None → OpensRun self.old self.new) }
-        ensures first { let p = content program.now in IsProgram p → tree_walk p ≡ Ok tree.now → self.old.frame ≡ frame_of p
+        ensures first { let p = content program.now in tree_walk p ≡ Ok tree.now → self.old.frame ≡ frame_of p
             → OnOk result (self.new.stop ≡ None → PutsFirstCuts p tree.now self.old self.new) }
-        ensures anyhow { let p = content program.now in IsProgram p → tree_walk p ≡ Ok tree.now → self.old.frame ≡ frame_of p
+        ensures anyhow { let p = content program.now in tree_walk p ≡ Ok tree.now → self.old.frame ≡ frame_of p
             → OnOk result (OpensAnyhow p self.old self.new) }
         // behind a run that isn't a Cost run it opens the next one, or stops the method
         ensures progress { (self.old.kind ≡ Kind.Cost → ⊥) → OnOk result (Progresses self.old self.new) }
@@ -162,12 +162,12 @@ impl State {
     ) -> Result<Vec<Option<SharedCut>>, CutFault>
         ensures fails { AreExplained (content program.now) tree.now self.now
             → IfErr result (FailsToOpen (content program.now) self.now.frame tree.now self.now.budget.pivots) }
-        ensures made { let p = content program.now in (b : BankBooks) → is_priced kind ≡ true → IsProgram p → tree_walk p ≡ Ok tree.now
+        ensures made { let p = content program.now in (b : BankBooks) → is_priced kind ≡ true → tree_walk p ≡ Ok tree.now
             → self.now.frame ≡ frame_of p → AreBooksOf p self.now.versions b
             → IfOk result (λ cuts. Each (λ place. IfSome place (IsMadeFor (run_book kind b))) cuts.items) }
-        ensures faults { let p = content program.now in IsProgram p → tree_walk p ≡ Ok tree.now → self.now.frame ≡ frame_of p
+        ensures faults { let p = content program.now in tree_walk p ≡ Ok tree.now → self.now.frame ≡ frame_of p
             → kind ≡ next_kind self.now.kind → IfErr result (FaultsBefore p tree.now self.now) }
-        ensures first { let p = content program.now in IsProgram p → tree_walk p ≡ Ok tree.now → self.now.frame ≡ frame_of p
+        ensures first { let p = content program.now in tree_walk p ≡ Ok tree.now → self.now.frame ≡ frame_of p
             → IfOk result (λ cuts. (dual : List At) × (OpeningDual self.now.kind self.now.ends.root dual
             × AreFirstCuts kind p tree.now self.now.versions dual cuts.items)) }
     {
@@ -200,12 +200,12 @@ impl State {
         dual: &Values,
     ) -> Result<Vec<Option<SharedCut>>, CutFault>
         ensures fails { IfErr result (FailsToOpen (content program.now) self.now.frame tree.now self.now.budget.pivots) }
-        ensures made { let p = content program.now in (b : BankBooks) → is_priced kind ≡ true → IsProgram p → tree_walk p ≡ Ok tree.now
+        ensures made { let p = content program.now in (b : BankBooks) → is_priced kind ≡ true → tree_walk p ≡ Ok tree.now
             → self.now.frame ≡ frame_of p → AreBooksOf p self.now.versions b
             → IfOk result (λ cuts. Each (λ place. IfSome place (IsMadeFor (run_book kind b))) cuts.items) }
-        ensures faults { let p = content program.now in IsProgram p → tree_walk p ≡ Ok tree.now → self.now.frame ≡ frame_of p
+        ensures faults { let p = content program.now in tree_walk p ≡ Ok tree.now → self.now.frame ≡ frame_of p
             → IfErr result (FaultsFirst kind p tree.now self.now.versions dual.now) }
-        ensures first { let p = content program.now in IsProgram p → tree_walk p ≡ Ok tree.now → self.now.frame ≡ frame_of p
+        ensures first { let p = content program.now in tree_walk p ≡ Ok tree.now → self.now.frame ≡ frame_of p
             → IfOk result (λ cuts. AreFirstCuts kind p tree.now self.now.versions dual.now cuts.items) }
     {
         let nodes = self.frame.nodes();
@@ -234,10 +234,10 @@ impl State {
         cuts: &[Option<SharedCut>],
     ) -> Result<SharedCut, CutFault>
         ensures fails { IfErr result (FailsToOpen (content program.now) self.now.frame tree.now self.now.budget.pivots) }
-        ensures ground { let p = content program.now in (b : BankBooks) → is_priced kind ≡ true → IsProgram p → tree_walk p ≡ Ok tree.now
+        ensures ground { let p = content program.now in (b : BankBooks) → is_priced kind ≡ true → tree_walk p ≡ Ok tree.now
             → self.now.frame ≡ frame_of p → AreBooksOf p self.now.versions b → Lives p node
             → HasGrounds p (run_book kind b) (node + 1) cuts.now → IfOk result (IsGroundOf (run_book kind b) node) }
-        ensures first { let p = content program.now in IsProgram p → tree_walk p ≡ Ok tree.now → self.now.frame ≡ frame_of p → Lives p node
+        ensures first { let p = content program.now in tree_walk p ≡ Ok tree.now → self.now.frame ≡ frame_of p → Lives p node
             → Makes (first_walk kind p tree.now self.now.versions dual.now cuts.now node) result }
     {
         let version = self.versions.of(node);

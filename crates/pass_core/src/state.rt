@@ -2,7 +2,7 @@
 ghost use Rattle.std.specs.Prelude.{◌≡◌, ◌⊎◌, ◌<◌, ℕ, Ok, [], length, replicate, true, false, IfOk, IfSome, IsSome, IsSomeAnd, OnOk};
 ghost use Rattle.scen_defs.specs.Program.{content, Program as ProgramOf};
 ghost use Rattle.scen_tree.specs.Trees.{Tree as TreeOf, tree_walk};
-ghost use Rattle.scen_defs.specs.Valid.{IsSmall, IsProgram, Lives};
+ghost use Rattle.scen_defs.specs.Valid.{IsSmall, Lives};
 ghost use Rattle.run_data.specs.Counts.{untouched, version_of};
 ghost use Rattle.run_data.specs.Frames.{frame_of, children_in};
 ghost use Rattle.cut_banks.specs.Banks.{empty_banks, pools_of};
@@ -115,8 +115,8 @@ impl State {
     pub fn start(alloc: Global, program: &Program, budget: Budget) -> Result<Option<State>, Memory>
         ensures beginning { let p = content program.now in IsSmall p → IfOk result (λ all. IfSome all (IsBeginning p budget)) }
         ensures counts { IfOk result (λ all. IfSome all (λ s. s.counts ≡ no_commits)) }
-        ensures tabled { let p = content program.now in IsProgram p → IfOk result (λ all. IfSome all (IsTabled p)) }
-        ensures some { let p = content program.now in IsProgram p → length p.nodes < nothing → IfOk result (λ all. IsSome all) }
+        ensures tabled { IfOk result (λ all. IfSome all (IsTabled (content program.now))) }
+        ensures some { length (content program.now).nodes < nothing → IfOk result (λ all. IsSome all) }
         // there are no cuts, which are made for every book, and no edit touched a node
         ensures made { (b : BankBooks) → IfOk result (λ all. IfSome all (CutsAreMade b)) }
         ensures untouched { (n : ℕ) → IfOk result (λ all. IfSome all (λ s. version_of s.versions n ≡ untouched)) }
@@ -146,9 +146,9 @@ impl State {
     pub fn start_over(&mut self, alloc: Global, program: &Program) -> Result<(), Memory>
         // or it does nothing, where the program's nodes aren't numbered from the root on
         ensures over { let p = content program.now in IsSmall p → OnOk result ((self.new ≡ self.old) ⊎ StartsOver p self.old self.new) }
-        ensures starts { let p = content program.now in IsProgram p → length p.nodes < nothing
+        ensures starts { let p = content program.now in length p.nodes < nothing
             → OnOk result (StartsOver p self.old self.new) }
-        ensures tabled { let p = content program.now in IsProgram p → length p.nodes < nothing → OnOk result (IsTabled p self.new) }
+        ensures tabled { let p = content program.now in length p.nodes < nothing → OnOk result (IsTabled p self.new) }
     {
         let counts = self.counts;
         if let Some(state) = State::start(alloc, program, self.budget)? {
@@ -163,17 +163,17 @@ impl State {
     pub fn advance(&mut self, alloc: Global, program: &Program, tree: &Tree) -> Result<bool, Memory>
         ensures explained { OnOk result (KeepsExplained (content program.now) tree.now self.old self.new) }
         // the table goes on fitting a machine of the program, which takes a step
-        ensures tabled { let p = content program.now in (m : Machine) → IsProgram p → self.old.frame ≡ frame_of p → IsTabledBy p self.old m
+        ensures tabled { let p = content program.now in (m : Machine) → self.old.frame ≡ frame_of p → IsTabledBy p self.old m
             → IfOk result (λ told. StepsTo p m told self.new) }
         // where a node was begun, its program was solved
-        ensures solves { let p = content program.now in (m : Machine) → IsProgram p → tree_walk p ≡ Ok tree.now
+        ensures solves { let p = content program.now in (m : Machine) → tree_walk p ≡ Ok tree.now
             → self.old.frame ≡ frame_of p → IsTabledBy p self.old m → PointsStand p self.old.lasts.nodes.items
             → IfOk result (λ told. MakesStep p self.old m self.new told) }
         // where something is told to be done, a solve is counted, something stops the method, or the next run is open; else nothing is done
         ensures progress { IfOk result (λ told. told ≡ true → Progresses self.old self.new) }
         ensures rests { IfOk result (λ told. told ≡ false → Rests self.old self.new) }
         // where books are right of the program, and all cuts are made for them, they are so afterwards
-        ensures made { let p = content program.now in (b : BankBooks) → IsProgram p → tree_walk p ≡ Ok tree.now
+        ensures made { let p = content program.now in (b : BankBooks) → tree_walk p ≡ Ok tree.now
             → self.old.frame ≡ frame_of p → AreBooksOf p self.old.versions b → CutsAreMade b self.old
             → OnOk result (CutsAreMade b self.new) }
     {
@@ -219,15 +219,15 @@ impl State {
         node: u32,
     ) -> Result<(), Memory>
         ensures explained { OnOk result (KeepsExplained (content program.now) tree.now self.old self.new) }
-        ensures tabled { let p = content program.now in (m : Machine) → IsProgram p → self.old.frame ≡ frame_of p
+        ensures tabled { let p = content program.now in (m : Machine) → self.old.frame ≡ frame_of p
             → IsBegunBy p self.old m node → OnOk result (EndsBegun EndsAnyhow p m node self.new) }
         // the node's program is solved
-        ensures solves { let p = content program.now in (m : Machine) → IsProgram p → tree_walk p ≡ Ok tree.now
+        ensures solves { let p = content program.now in (m : Machine) → tree_walk p ≡ Ok tree.now
             → self.old.frame ≡ frame_of p → IsBegunBy p self.old m node → PointsStand p self.old.lasts.nodes.items
             → OnOk result (SolvesNode p self.old m node self.new) }
         // a solve is counted, or something stops the method
         ensures progress { OnOk result (Progresses self.old self.new) }
-        ensures made { let p = content program.now in (b : BankBooks) → IsProgram p → tree_walk p ≡ Ok tree.now
+        ensures made { let p = content program.now in (b : BankBooks) → tree_walk p ≡ Ok tree.now
             → self.old.frame ≡ frame_of p → AreBooksOf p self.old.versions b → CutsAreMade b self.old
             → OnOk result (CutsAreMade b self.new) }
     {
@@ -257,7 +257,7 @@ impl State {
             IsDatumOf b.task.kind p self.now.frame tree.now b.task.datum)) }
         ensures pivots { IfOk result (λ all. IfSome all (λ b. b.task.pivots ≡ self.now.budget.pivots)) }
         ensures node { IfOk result (λ all. IfSome all (λ b. b.task.datum.node ≡ node)) }
-        ensures stated { let p = content program.now in IsProgram p → tree_walk p ≡ Ok tree.now → self.now.frame ≡ frame_of p → Lives p node
+        ensures stated { let p = content program.now in tree_walk p ≡ Ok tree.now → self.now.frame ≡ frame_of p → Lives p node
             → IfOk result (λ all. IsSomeAnd all (λ b. IsTaskOf p self.now node b.task)) }
         ensures readings { IfOk result (λ all. IfSome all (λ b. b.readings.items
             ≡ numbers_read (pools_of self.now.kind self.now.banks) (children_in self.now.frame node))) }

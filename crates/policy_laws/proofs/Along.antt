@@ -9,7 +9,7 @@ use Rattle.scen_defs.specs.Lists.{Each, Once}
 use Rattle.scen_defs.specs.Ends.{Between}
 use Rattle.scen_defs.specs.declared.program.NodeRow.{NodeRow}
 use Rattle.scen_defs.specs.Program.{View, IsLive, IsColumn, HasPlace, IsEntry, IsColumnOf, IsTree}
-use Rattle.scen_defs.specs.Program.HasPlace.{is_first, is_below}
+use Rattle.scen_defs.specs.Trees.HasPlace.{is_first, is_below}
 use Rattle.scen_defs.specs.Flat.{up, home, along, FeasibleAt, Feasible, node_cost, children, share}
 use Rattle.scen_defs.proofs.SumLaws.{each-map, each-both, each-once, sum-same, sum-below}
 use Rattle.scen_defs.proofs.TreeLaws.{node-laws, home-live}

@@ -1,7 +1,6 @@
 //! Reads the edit list and the report file that stand beside the texts of a program.
 ghost use Rattle.std.specs.Prelude.{◌≡◌, ◌≤◌, ◌∷◌, [], IfOk, length};
 ghost use Rattle.scen_defs.specs.Program.{content};
-ghost use Rattle.scen_defs.specs.Valid.{IsProgram};
 ghost use Rattle.edit_script.specs.Allowed.{AreAllowed};
 ghost use Rattle.edit_script.specs.Script.{report_item};
 ghost use Rattle.script_steps.specs.Solves.{solve_count};
@@ -46,7 +45,6 @@ fn unedited(alloc: Global) -> Result<Script, Memory>
 fn read_list(alloc: Global, texts: &Texts, program: &Program) -> Result<Script, Unread>
     requires within { AreWithin (texts_view texts.now) }
     requires means { MeansProgram (texts_view texts.now) (content program.now) }
-    requires keeps { IsProgram (content program.now) }
     ensures script { GivesScript (texts_view texts.now) (content program.now) result }
     ensures allowed { IfOk result (λ script. AreAllowed (content program.now) script.items.items) }
     ensures few { IfOk result (λ script. length script.items.items ≤ 10001) }
@@ -62,7 +60,6 @@ fn read_list(alloc: Global, texts: &Texts, program: &Program) -> Result<Script, 
 pub fn read_edits(alloc: Global, texts: &Texts, program: &Program) -> Result<Script, Unread>
     requires within { AreWithin (texts_view texts.now) }
     requires means { MeansProgram (texts_view texts.now) (content program.now) }
-    requires keeps { IsProgram (content program.now) }
     ensures script { GivesScript (texts_view texts.now) (content program.now) result }
     // Each edit has no cause to be refused by the program after those before it.
     ensures allowed { IfOk result (λ script. AreAllowed (content program.now) script.items.items) }
@@ -87,7 +84,6 @@ pub fn read_told(
 ) -> Result<Vec<Report>, Unread>
     requires within { AreWithin (texts_view texts.now) }
     requires means { MeansProgram (texts_view texts.now) (content program.now) }
-    requires keeps { IsProgram (content program.now) }
     requires script { MeansScript (texts_view texts.now) (content program.now) script.now.items.items }
     requires few { length script.now.items.items ≤ 10001 }
     ensures { GivesReports (texts_view texts.now) (solve_count script.now.items.items) program.now result }

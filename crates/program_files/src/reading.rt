@@ -1,14 +1,11 @@
 //! Reads the three texts of a program.
 ghost use Rattle.std.specs.Prelude.{◌≡◌, ◌≤◌, Some, IfOk, IfSome, length};
 ghost use Rattle.core_defs.specs.declared.cause.Cause.{Cause};
-ghost use Rattle.core_defs.specs.Core.{IsCore};
 ghost use Rattle.scen_defs.specs.Program.{content, view_of, IsTree};
-ghost use Rattle.scen_defs.specs.Valid.{IsProgram};
 ghost use Rattle.stoch_defs.specs.Random.{content as content_of};
 ghost use Rattle.smps_time.specs.View.{stages_view};
 ghost use Rattle.input_files.specs.Fetched.{file_limit};
 ghost use Rattle.input_files.specs.Unfetched.{texts_view, given_bytes};
-ghost use Rattle.tree_build.specs.Walks.{Fits};
 ghost use Rattle.program_files.specs.Meant.{AreWithin, MeansCore, MeansPeriods, MeansRandom};
 ghost use Rattle.program_files.specs.Refused.{build_file};
 ghost use Rattle.program_files.specs.Views.{GivesPeriods, GivesRandom, MeansOrRefused, unread_of, unbuilt_of};
@@ -38,8 +35,7 @@ pub enum Unread {
 /// The periods of a core: those of the time file, or a single one.
 fn read_periods(alloc: Global, text: &Option<Vec<u8>>, core: &Core) -> Result<Periods, ReadFail>
     requires { IfSome (given_bytes text.now) (λ bytes. length bytes ≤ file_limit) }
-    ensures gives { GivesPeriods core.now (given_bytes text.now) result }
-    ensures fits { IfOk result (λ periods. Fits core.now (stages_view periods)) }
+    ensures { GivesPeriods core.now (given_bytes text.now) result }
 {
     match text {
         Some(text) => read_time(alloc, text, core),
@@ -112,12 +108,9 @@ fn with_cases(
     stoch: &Stoch,
 ) -> Result<Program, Unread>
     requires core { MeansCore texts.now.core.items core }
-    requires is_core { IsCore core }
-    requires fits { Fits core (stages_view periods.now) }
     requires periods { MeansPeriods core (given_bytes texts.now.time) (stages_view periods.now) }
     requires cases { MeansRandom core (stages_view periods.now) (given_bytes texts.now.stoch) (content_of stoch.now) }
     ensures means { MeansOrRefused (texts_view texts.now) result }
-    ensures keeps { IfOk result (λ program. IsProgram (content program)) }
     ensures tree { IfOk result (λ program. IsTree (view_of (content program))) }
 {
     match build(alloc, &core, periods, stoch) {
@@ -135,11 +128,8 @@ fn with_periods(
 ) -> Result<Program, Unread>
     requires within { AreWithin (texts_view texts.now) }
     requires core { MeansCore texts.now.core.items core }
-    requires is_core { IsCore core }
-    requires fits { Fits core (stages_view periods.now) }
     requires periods { MeansPeriods core (given_bytes texts.now.time) (stages_view periods.now) }
     ensures means { MeansOrRefused (texts_view texts.now) result }
-    ensures keeps { IfOk result (λ program. IsProgram (content program)) }
     ensures tree { IfOk result (λ program. IsTree (view_of (content program))) }
 {
     match read_cases(alloc, &texts.stoch, &core, periods) {
@@ -152,9 +142,7 @@ fn with_periods(
 fn with_core(alloc: Global, texts: &Texts, core: Core) -> Result<Program, Unread>
     requires within { AreWithin (texts_view texts.now) }
     requires core { MeansCore texts.now.core.items core }
-    requires is_core { IsCore core }
     ensures means { MeansOrRefused (texts_view texts.now) result }
-    ensures keeps { IfOk result (λ program. IsProgram (content program)) }
     ensures tree { IfOk result (λ program. IsTree (view_of (content program))) }
 {
     match read_periods(alloc, &texts.time, &core) {
@@ -169,7 +157,6 @@ fn with_core(alloc: Global, texts: &Texts, core: Core) -> Result<Program, Unread
 pub fn read_program(alloc: Global, texts: &Texts) -> Result<Program, Unread>
     requires { AreWithin (texts_view texts.now) }
     ensures means { MeansOrRefused (texts_view texts.now) result }
-    ensures keeps { IfOk result (λ program. IsProgram (content program)) }
     ensures tree { IfOk result (λ program. IsTree (view_of (content program))) }
 {
     match read_core(alloc, &texts.core) {

@@ -1,7 +1,9 @@
 -- The tests of lists, operation by operation.
-use Rattle.std.specs.Prelude.{◌≡◌, Bool, true, false, List, Option, Some, None, Result, Ok, Err}
+use Rattle.std.specs.Prelude.{Bool, true, false, List, Option, Some, None, Result, Ok, Err}
 use Rattle.rationals.specs.Rational.{ℚ, zero_ℚ, at_most}
 use Rattle.rationals.specs.Passes.{Operation}
+use Rattle.rationals.specs.Replies.{Reply, IsReply}
+use Rattle.rationals.specs.Replies.Reply.{Says, Silent}
 use Rattle.scen_defs.specs.Lists.{pick}
 use Rattle.scen_defs.specs.Values.{At, at}
 use Rattle.scen_defs.specs.Program.{content}
@@ -76,12 +78,16 @@ abbrev pub some_dual_test : Program → Option (List At) → Tested
 some_dual_test program None = Fails
 some_dual_test program (Some dual) = dual_test program dual
 
--- what is computed for a list: its number, or none, or the operation that passes, as the test comes to
+-- what is computed for a list: its number, or none, or the operation that passes
+abbrev pub number_says : List At → Result (Option ℚ) Halt → Reply Tested
+number_says values (Ok (Some number)) = Says (Shows number values)
+number_says values (Ok None) = Says Fails
+number_says values (Err (halt.Passed place p)) = Says (Passes p)
+number_says values (Err halt.Memory) = Silent
+
+-- the test comes to what is said so, or memory was wanting
 abbrev pub Gives : List At → Tested → Result (Option ℚ) Halt → Type 0
-Gives values tested (Ok (Some number)) = tested ≡ Shows number values
-Gives values tested (Ok None) = tested ≡ Fails
-Gives values tested (Err (halt.Passed place p)) = tested ≡ Passes p
-Gives values tested (Err halt.Memory) = Unit {0}
+Gives values tested result = IsReply tested (number_says values result)
 
 -- the number that is shown
 abbrev pub shown_number : Tested → Option ℚ

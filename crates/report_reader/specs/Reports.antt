@@ -1,5 +1,7 @@
 -- The reports that a text states, line by line.
-use Rattle.std.specs.Prelude.{◌≡◌, ℕ, ◌+◌, Bool, true, false, List, [], ◌∷◌, ◌++◌, length, Result, Ok, Err, ⊤}
+use Rattle.std.specs.Prelude.{◌≡◌, ℕ, ◌+◌, Bool, true, false, List, [], ◌∷◌, ◌++◌, length, Result, Ok, Err}
+use Rattle.rationals.specs.Replies.{Reply, IsReply}
+use Rattle.rationals.specs.Replies.Reply.{Says, Silent}
 use Rattle.scen_defs.specs.Lists.{pick}
 use Rattle.scen_defs.specs.declared.program.Program.{Program}
 use Rattle.scen_defs.specs.declared.report.Report.{Report}
@@ -66,10 +68,14 @@ read_text tables text = reads tables [] (fresh 1) 1 (lines_of text).ended (lines
 abbrev pub reports_of : ℕ → Program → List ℕ → Result (List Report) Refusal
 reports_of most program text = read_text (tables_of most program) text
 
+-- what a failed call says: the refusal
+abbrev pub refusal_says : {X : Type 0} → ReadFail → Reply (Result X Refusal)
+refusal_says (Refused r) = Says (Err r)
+refusal_says Memory = Silent
+
 -- what a failed call says of what is read
 abbrev pub FailOf : {X : Type 0} → Result X Refusal → ReadFail → Type 0
-FailOf read (Refused r) = read ≡ Err r
-FailOf read Memory = ⊤
+FailOf read fail = IsReply read (refusal_says fail)
 
 -- why the text isn't read because of a line
 abbrev pub fail_at : ℕ → Fault → ReadFail

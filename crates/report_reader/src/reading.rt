@@ -1,8 +1,6 @@
 //! Reads the text of reports.
 ghost use Rattle.std.specs.Prelude.{◌≡◌, ◌+◌, ◌-◌, ◌<◌, ◌^◌, ◌∷◌, []};
 ghost use Rattle.std.specs.Prelude.{Ok, IfOk, OnOk, IfSome, MatchOption, MatchResult, length};
-ghost use Rattle.scen_defs.specs.Program.{content};
-ghost use Rattle.scen_defs.specs.Valid.{IsProgram};
 ghost use Rattle.report_reader.specs.Pieces.{lines_of};
 ghost use Rattle.report_reader.specs.Reports.{is_head, done_behind, draft_behind, fail_at, finish, read_text, reports_of, FailOf};
 ghost use Rattle.report_reader.specs.Stated.{IsStated};
@@ -29,7 +27,6 @@ pub fn read_reports(
     most: u32,
 ) -> Result<Vec<Report>, ReadFail>
     requires short { length text.now < 2 ^ 32 - 1 }
-    requires keeps { IsProgram (content program.now) }
     ensures exact { MatchResult result (λ reports. reports_of most program.now text.now ≡ Ok reports.items)
         (FailOf (reports_of most program.now text.now)) }
     ensures stated { IfOk result (λ reports. IsStated program.now text.now reports.items) }
@@ -45,7 +42,6 @@ fn read_exactly(
     most: u32,
 ) -> Result<Vec<Report>, ReadFail>
     requires short { length text.now < 2 ^ 32 - 1 }
-    requires keeps { IsProgram (content program.now) }
     ensures { MatchResult result (λ reports. reports_of most program.now text.now ≡ Ok reports.items)
         (FailOf (reports_of most program.now text.now)) }
 {

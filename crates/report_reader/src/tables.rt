@@ -1,8 +1,7 @@
 //! The names of a program by number.
 ghost use Rattle.std.specs.Prelude.{◌≡◌, IfOk};
 ghost use Rattle.report_text.specs.Text.{column_names, row_names};
-ghost use Rattle.scen_defs.specs.Program.{content};
-ghost use Rattle.scen_defs.specs.Valid.{IsProgram, Differ};
+ghost use Rattle.scen_defs.specs.Valid.{Differ};
 ghost use Rattle.report_reader.specs.Lines.{names_of};
 ghost use Rattle.report_reader.specs.Reports.{tables_of};
 
@@ -56,7 +55,6 @@ fn row_table(alloc: Global, program: &Program) -> Result<Names, Memory>
 
 /// The names of a program, of which so many reports may be there.
 pub(crate) fn tables_of(alloc: Global, program: &Program, most: u32) -> Result<Tables, Memory>
-    requires { IsProgram (content program.now) }
     ensures { IfOk result (λ tables. tables ≡ tables_of most program.now) }
 {
     let columns = column_table(alloc, program)?;

@@ -1,8 +1,5 @@
 //! Reports and what reading and checking them gives: the line at fault and the cause; or a line for each report, and behind them `held`
 //! where all claims of all hold. A table is one text, since each member of an array is a step of the proof.
-ghost use Rattle.std.specs.Prelude.{IfOk};
-ghost use Rattle.scen_defs.specs.Program.{content};
-ghost use Rattle.scen_defs.specs.Valid.{IsProgram};
 
 mod changed;
 mod refused;
@@ -24,9 +21,7 @@ use std::alloc::Global;
 use std::test::Fail;
 
 /// The program with a name.
-fn program_named(alloc: Global, name: &str) -> Result<Program, Fail>
-    ensures { IfOk result (λ program. IsProgram (content program)) }
-{
+fn program_named(alloc: Global, name: &str) -> Result<Program, Fail> {
     let source = named(name).ok_or("an unknown program")?;
     Ok(read_source(alloc, source)?.ok_or("no program is read")?)
 }

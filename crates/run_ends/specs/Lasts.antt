@@ -1,12 +1,13 @@
 -- The last solves of a run, node by node: of each the values of its own columns, and these along with those above; none where the
 -- node has no point.
-use Rattle.std.specs.Prelude.{ℕ, List, [], Option, Some, None, Result, Ok, Err, ⊤, ◌≡◌, map, slice_index_or, slice_set}
+use Rattle.std.specs.Prelude.{ℕ, List, [], Option, Some, None, Result, Ok, map, slice_index_or, slice_set}
 use Rattle.rationals.specs.Rational.{one_ℚ}
 use Rattle.rationals.specs.Sparse.{Entry}
 use Rattle.rationals.specs.Forms.{add_scaled_walk}
 use Rattle.rationals.specs.Passes.{Operation, then_value}
 use Rattle.frac128.specs.declared.form.FormFault.{FormFault}
-use Rattle.frac128.specs.declared.form.FormFault.TheVariants.{Passed, Memory}
+use Rattle.frac128.specs.Faults.{form_says}
+use Rattle.rationals.specs.Replies.{IsReply, reply_by}
 use Rattle.scen_defs.specs.Values.{At}
 use Rattle.dual_assemble.specs.Values.{numbers_by_node, point_entries}
 use Rattle.run_ends.specs.declared.last.Last.{Last}
@@ -41,9 +42,7 @@ kept lasts n trial point =
 
 -- what is left is the walk's value, or the walk ends in the operation, or memory is wanting
 abbrev pub KeepsPoint : Result (List (Option Last)) Operation → Result (Unit {0}) FormFault → List (Option Last) → Type 0
-KeepsPoint walk (Ok done) new = walk ≡ Ok new
-KeepsPoint walk (Err (Passed p)) new = walk ≡ Err p
-KeepsPoint walk (Err Memory) new = ⊤
+KeepsPoint walk result new = IsReply walk (reply_by (λ _. new) form_says result)
 
 -- the points of all nodes by node and column
 abbrev pub joined_points : List (Option Last) → List At

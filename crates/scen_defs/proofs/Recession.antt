@@ -5,7 +5,7 @@ use Rattle.rationals.specs.Ring.Given.{nothing}
 use Rattle.scen_defs.specs.Lists.{Each}
 use Rattle.scen_defs.specs.Ends.{InOrder}
 use Rattle.scen_defs.specs.Program.{HasPlace, IsRow}
-use Rattle.scen_defs.specs.Program.HasPlace.{is_first, is_below}
+use Rattle.scen_defs.specs.Trees.HasPlace.{is_first, is_below}
 use Rattle.scen_defs.specs.Flat.{zero_end, zero_row, recession}
 use Rattle.scen_defs.specs.Laws.{RecessionsAreTrees}
 use Rattle.scen_defs.proofs.SumLaws.{each-map}

@@ -6,7 +6,7 @@ use Rattle.rationals.specs.Sums.{sum_ℚ, sum-add, sum-zero}
 use Rattle.rationals.specs.Sparse.{Entry, product, coefficient, value_if}
 use Rattle.scen_defs.specs.Lists.{Each}
 use Rattle.scen_defs.specs.Program.{View, IsLive, IsColumn, HasPlace, IsEntry, IsNode, IsTree}
-use Rattle.scen_defs.specs.Program.HasPlace.{is_first, is_below}
+use Rattle.scen_defs.specs.Trees.HasPlace.{is_first, is_below}
 use Rattle.scen_defs.specs.Flat.{up, home, is_above, along}
 use Rattle.scen_defs.proofs.SumLaws.{each-map, each-once, sum-ext, sum-none, sum-pick}
 

@@ -8,7 +8,7 @@ use Rattle.rationals.specs.Sparse.{Entry, value_if}
 use Rattle.scen_defs.specs.Lists.{Each, Once, is_in, places, passes_at}
 use Rattle.scen_defs.specs.Program.{Scenario, Program, view_of, is_live, node_at, column_at, or_root, IsLive, HasPlace, IsEntry, IsNode, IsPath, IsColumnOf, IsTree, total}
 use Rattle.scen_defs.specs.declared.program.Column.{Column}
-use Rattle.scen_defs.specs.Program.HasPlace.{is_first, is_below}
+use Rattle.scen_defs.specs.Trees.HasPlace.{is_first, is_below}
 use Rattle.scen_defs.specs.Flat.{up, is_above, IsRoot}
 use Rattle.scen_defs.specs.Valid.{Lives, HasParent, FitsNode, Follows, FitsScenario, is_reached, FitsColumn, IsProgram}
 use Rattle.scen_defs.specs.Laws.{ProgramsAreTrees}

@@ -1,9 +1,11 @@
 pub mod Lists
 pub mod Ends
 pub mod Values
+pub mod Trees
 pub mod Program
 pub mod Flat
 pub mod Valid
+pub mod ValidProofs
 pub mod Laws
 pub mod Fits
 pub mod Cover

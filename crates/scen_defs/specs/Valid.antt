@@ -10,7 +10,7 @@ use Rattle.rationals.specs.Sums.{sum_ℚ}
 use Rattle.rationals.specs.Sparse.{Entry}
 use Rattle.scen_defs.specs.Lists.{Each, is_in, places, passes_at}
 use Rattle.scen_defs.specs.Ends.{InOrder}
-use Rattle.scen_defs.specs.Program.{Node, Scenario, Program, is_live, node_at}
+use Rattle.scen_defs.specs.Trees.{Node, Scenario, Program, is_live, node_at}
 use Rattle.scen_defs.specs.declared.program.Column.{Column}
 use Rattle.scen_defs.specs.declared.program.Row.{Row}
 use Rattle.scen_defs.specs.declared.program.NodeRow.{NodeRow}

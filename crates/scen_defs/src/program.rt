@@ -1,5 +1,9 @@
 // A program in stages on a tree of nodes.
 
+ghost use Rattle.scen_defs.specs.Trees.{nodes_content, scenarios_content};
+ghost use Rattle.scen_defs.specs.Valid.{IsProgram};
+ghost use Rattle.scen_defs.specs.ValidProofs.{is_program_prop};
+
 use frac128::{Form, Frac};
 use smps_words::{Name, RowKind};
 
@@ -71,4 +75,14 @@ pub struct Program {
     /// `None` is a node that was dropped.
     pub nodes: Vec<Option<Node>>,
     pub scenarios: Vec<Scenario>,
+    /// What every program keeps.
+    ghost keeps: { IsProgram (record {
+      objective = objective;
+      rhs = rhs;
+      periods = periods.items;
+      columns = columns.items;
+      rows = rows.items;
+      nodes = nodes_content nodes.items;
+      scenarios = scenarios_content scenarios.items;
+    }) } by { is_program_prop _ },
 }

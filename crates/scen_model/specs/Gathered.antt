@@ -2,6 +2,8 @@
 use Rattle.std.specs.Prelude.{◌≡◌, ℕ, ◌<◌, Bool, true, false, not, eqb, List, [], ◌∷◌, map, length, Vec, Result, Ok, Err}
 use Rattle.std.specs.Prelude.{⊤, slice_index_or}
 use Rattle.std.specs.declared.alloc.Global.{Global}
+use Rattle.rationals.specs.Replies.{Reply, IsReply, reply_by}
+use Rattle.rationals.specs.Replies.Reply.{Says, Silent}
 use Rattle.rationals.specs.Rational.{ℚ, zero_ℚ, at_most}
 use Rattle.rationals.specs.Passes.{Operation, too_wide, less_product_walk, add_product_walk, then_walk}
 use Rattle.rationals.specs.Sparse.{Entry}
@@ -81,9 +83,12 @@ IsLeft Decided = ⊥
 IsLeft Walk = ⊤
 IsLeft Memory = ⊤
 
+-- what an early end of a pass says: that the walk is decided; nothing where it is left to the walk itself
+abbrev pub ended_says : {X : Type 0} → Ended → Reply (Result X Stop)
+ended_says Decided = Says (Err DecidedStop)
+ended_says Walk = Silent
+ended_says Memory = Silent
+
 -- what a pass says of the walk that it follows: its value, or that it is decided; nothing where it is left to the walk itself
 abbrev pub Finishes : {X : Type 0} → Result X Stop → Result X Ended → Type 0
-Finishes walk (Ok x) = walk ≡ Ok x
-Finishes walk (Err Decided) = walk ≡ Err DecidedStop
-Finishes walk (Err Walk) = ⊤
-Finishes walk (Err Memory) = ⊤
+Finishes walk result = IsReply walk (reply_by (λ x. x) ended_says result)

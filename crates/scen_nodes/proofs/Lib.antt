@@ -1,1 +1,2 @@
+pub mod DerivedLaws
 pub mod ContentLemmas

@@ -1,7 +1,6 @@
 //! Each report is checked against the program after the edits before its SOLVE.
 ghost use Rattle.std.specs.Prelude.{◌≡◌, IfOk};
 ghost use Rattle.scen_defs.specs.Program.{content};
-ghost use Rattle.scen_defs.specs.Valid.{IsProgram};
 ghost use Rattle.edit_script.specs.Allowed.{AreAllowed};
 ghost use Rattle.script_checks.specs.Checked.{AreChecked};
 
@@ -21,7 +20,6 @@ pub fn check_script(
     script: &Script,
     reports: &[Report],
 ) -> Result<Vec<Checked>, Memory>
-    requires program { IsProgram (content program.old) }
     requires allowed { AreAllowed (content program.old) script.now.items.items }
     ensures { IfOk result (λ checks. AreChecked (content program.old) script.now.items.items reports.now checks.items) }
 {

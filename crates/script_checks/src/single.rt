@@ -1,7 +1,6 @@
 //! The check of one report.
 ghost use Rattle.std.specs.Prelude.{◌≡◌, false, Ok, Err, IfOk};
 ghost use Rattle.scen_defs.specs.Program.{content};
-ghost use Rattle.scen_defs.specs.Valid.{IsProgram};
 ghost use Rattle.scen_defs.specs.declared.report.Place.{Place as PlaceOf};
 ghost use Rattle.certificate_check.specs.Text.{verdict_text};
 ghost use Rattle.script_checks.specs.Checked.{is_holding, IsCheck};
@@ -66,7 +65,6 @@ pub(crate) fn check_one(
     program: &Program,
     report: &Report,
 ) -> Result<Checked, Memory>
-    requires { IsProgram (content program.now) }
     ensures { IfOk result (IsCheck (content program.now) report.now) }
 {
     let number = report.number;

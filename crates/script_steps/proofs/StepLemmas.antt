@@ -2,7 +2,6 @@
 use Rattle.std.proofs.Common.{◌≡◌, ◌&&◌, ltb, not, length, Option, Some, None, refl}
 use Rattle.rationals.specs.Passes.{Operation}
 use Rattle.scen_defs.specs.Program.{Program}
-use Rattle.scen_defs.specs.Valid.{IsProgram}
 use Rattle.edit_defs.specs.declared.edit.Edit.{Edit}
 use Rattle.edit_defs.specs.declared.edit.Edit.TheVariants.{Set, Prob, Drop, Add}
 use Rattle.edit_defs.specs.After.{is_known, after}
@@ -11,7 +10,6 @@ use Rattle.edit_defs.specs.Limits.{is_above_limits}
 use Rattle.edit_defs.specs.Operations.{first_passed, set_passed, chances_passed}
 use Rattle.edit_defs.specs.Causes.{refused, passing, is_late, is_inner, is_last, adds_too_many}
 use Rattle.edit_defs.proofs.Causes.{passed, edits_without_cause_apply}
-use Rattle.edit_defs.proofs.Programs.{edits_keep_programs}
 use Rattle.edit_script.specs.Allowed.{IsAllowed}
 
 none-passes : (o : Option Operation) → passing o ≡ None → o ≡ None
@@ -45,10 +43,6 @@ no-passing p (Add name parent q t) h =
 -- it applies
 pub edit_applies : (p : Program) (e : Edit) → IsAllowed p e → Applies p e
 edit_applies p e h = edits_without_cause_apply p e h.places h.asks h.no_cause
-
--- and the program after it keeps what programs keep
-pub edit_keeps : (p : Program) (e : Edit) → IsProgram p → IsAllowed p e → IsProgram (after p e)
-edit_keeps p e i h = edits_keep_programs p e i (edit_applies p e h)
 
 -- it leaves the columns and the rows of the program
 pub columns-stay : (p : Program) (e : Edit) → (after p e).columns ≡ p.columns

@@ -1,7 +1,6 @@
 //! An edit that is allowed.
 ghost use Rattle.std.specs.Prelude.{◌≡◌, OnOk};
 ghost use Rattle.scen_defs.specs.Program.{content};
-ghost use Rattle.scen_defs.specs.Valid.{IsProgram};
 ghost use Rattle.edit_defs.specs.After.{after};
 ghost use Rattle.edit_defs.specs.Limits.{counts};
 ghost use Rattle.edit_script.specs.Allowed.{IsAllowed};
@@ -20,11 +19,9 @@ pub fn applied(
     counted: &mut Counts,
     edit: &Edit,
 ) -> Result<(), Memory>
-    requires program { IsProgram (content program.old) }
     requires allowed { IsAllowed (content program.old) edit.now }
     requires counted { counted.old ≡ counts (content program.old).nodes }
     ensures after { OnOk result (content program.new ≡ after (content program.old) edit.now) }
-    ensures keeps { OnOk result (IsProgram (content program.new)) }
     ensures counted { OnOk result (counted.new ≡ counts (content program.new).nodes) }
 {
     match apply_counted(alloc, program, counted, edit) {

@@ -1,7 +1,6 @@
 //! All edits of a script.
 ghost use Rattle.std.specs.Prelude.{◌≡◌, OnOk};
 ghost use Rattle.scen_defs.specs.Program.{content};
-ghost use Rattle.scen_defs.specs.Valid.{IsProgram};
 ghost use Rattle.edit_script.specs.Allowed.{AreAllowed, program_after};
 
 use crate::single::applied;
@@ -13,7 +12,6 @@ use std::alloc::Global;
 
 /// Applies all edits of a script in place, where each is allowed at the program after those before it.
 pub fn apply_all(alloc: Global, program: &mut Program, script: &Script) -> Result<(), Memory>
-    requires program { IsProgram (content program.old) }
     requires allowed { AreAllowed (content program.old) script.now.items.items }
     ensures after { OnOk result (content program.new ≡ program_after (content program.old) script.now.items.items) }
 {

@@ -2,9 +2,6 @@
 //! program and, behind a bar, what reading the list gives: the items of the script, or the line at fault and the cause with its
 //! operation. In the first table the program after all edits stands behind a `%`. A table is one text, since each member of an array
 //! is a step of the proof.
-ghost use Rattle.std.specs.Prelude.{IfOk};
-ghost use Rattle.scen_defs.specs.Program.{content};
-ghost use Rattle.scen_defs.specs.Valid.{IsProgram};
 
 mod large;
 mod outcome;
@@ -25,24 +22,18 @@ use std::alloc::Global;
 use std::test::Fail;
 
 /// The program that texts mean.
-fn program_of(alloc: Global, source: Source<'_>) -> Result<Program, Fail>
-    ensures { IfOk result (λ program. IsProgram (content program)) }
-{
+fn program_of(alloc: Global, source: Source<'_>) -> Result<Program, Fail> {
     Ok(read_source(alloc, source)?.ok_or("no program is read")?)
 }
 
 /// The program with a name.
-fn program_named(alloc: Global, name: &str) -> Result<Program, Fail>
-    ensures { IfOk result (λ program. IsProgram (content program)) }
-{
+fn program_named(alloc: Global, name: &str) -> Result<Program, Fail> {
     let source = named(name).ok_or("an unknown program")?;
     program_of(alloc, source)
 }
 
 /// What reading an edit list gives, as one line, and the program after all edits where the list is read.
-fn result_of(alloc: Global, program: Program, text: &str) -> Result<(Vec<u8>, Program), Fail>
-    requires { IsProgram (content program) }
-{
+fn result_of(alloc: Global, program: Program, text: &str) -> Result<(Vec<u8>, Program), Fail> {
     if text.len() > 8_000_000 {
         return Err("a long text")?;
     }

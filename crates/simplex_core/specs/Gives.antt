@@ -1,17 +1,17 @@
 -- What a function gives that follows a walk, and may want memory.
-use Rattle.std.specs.Prelude.{◌≡◌, Result, Ok, Err}
+use Rattle.std.specs.Prelude.{Result, Ok}
 use Rattle.rationals.specs.Rational.{ℚ}
 use Rattle.rationals.specs.Passes.{then_walk}
 use Rattle.lp_defs.specs.Walks.{Walk}
 use Rattle.lp_defs.specs.Lines.{Line, cleared_by}
 use Rattle.lp_defs.specs.Path.{Row}
 use Rattle.frac128.specs.declared.form.FormFault.{FormFault}
-use Rattle.frac128.specs.Faults.{FaultOf}
+use Rattle.frac128.specs.Faults.{form_says}
+use Rattle.rationals.specs.Replies.{IsReply, reply_by}
 
 -- the value of the walk, or its error
 abbrev pub Gives : {A B : Type 0} → Walk A → Result B FormFault → A → Type 0
-Gives w (Ok done) new = w ≡ Ok new
-Gives w (Err e) new = FaultOf w e
+Gives w result new = IsReply w (reply_by (λ _. new) form_says result)
 
 -- a row less f times a line
 abbrev pub less_row : ℚ → Line → Row → Walk Row

@@ -54,8 +54,8 @@ in_order None upper h = tt
 in_order (Some lower) None h = tt
 in_order (Some lower) (Some upper) h = h
 
-pub core_fits : (core : Core) → core_words.IsCore core → CoreFits core
-core_fits core h = record {
+pub core_fits : (core : Core) → CoreFits core
+core_fits core = let h : core_words.IsCore core.rows.items core.columns.items = core.keeps in record {
   few_rows = h.few_rows;
   few_columns = h.few_columns;
   rows = are_names (core_words.row_names core.rows.items) h.rows_differ h.row_fields;

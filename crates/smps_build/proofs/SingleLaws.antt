@@ -17,10 +17,10 @@ use Rattle.scen_defs.specs.declared.program.Row.{Row}
 use Rattle.scen_defs.specs.declared.program.NodeRow.{NodeRow}
 use Rattle.scen_defs.specs.Lists.{Each, pick, places, passes_at}
 use Rattle.scen_defs.specs.Ends.{InOrder}
-use Rattle.scen_defs.specs.Program.{Program, node_at}
+use Rattle.scen_defs.specs.Program.{Node, Program, Scenario, node_at}
 use Rattle.scen_defs.specs.Valid.{AreNames, Lives, FitsRow, FitsNode, FitsColumn, HasEnds, has_low, has_high, row_at, is_reached, IsProgram}
 use Rattle.scen_defs.proofs.SumLaws.{each-map}
-use Rattle.smps_build.specs.Single.{size, Interval, interval_walk, column_of, row_of, costs_from, entries_from, node_row, rows_from, single_program}
+use Rattle.smps_build.specs.Single.{size, Interval, interval_walk, column_of, row_of, costs_from, entries_from, node_row, only_node, only_period, only_scenario, rows_from, single_program}
 use Rattle.smps_build.specs.Laws.{SinglesArePrograms}
 use Rattle.smps_build.proofs.CoreFits.{CoreFits, core_fits}
 
@@ -228,11 +228,19 @@ module _ (core : Core) (rows : List NodeRow) where
 
 pub singles_are_programs : SinglesArePrograms
 unfolding program
-singles_are_programs core p f e = go (rows_from core.columns.items [] 0 core.rows.items) refl e
+singles_are_programs core p e = go (rows_from core.columns.items [] 0 core.rows.items) refl e
   where
     go : (w : Result (List NodeRow) Operation) → rows_from core.columns.items [] 0 core.rows.items ≡ w → then_walk w (λ rows. Ok (single_program core rows)) ≡ Ok p → IsProgram p
     go (Ok rows) d k =
         let b = rows_built core.columns.items [] 0 core.rows.items rows d in
         let q : single_program core rows ≡ p = cc in
-        subst IsProgram q (is_program core rows (core_fits core f) (subst (Lines core.columns.items 0 core.rows.items) (sym b.rows_are) b.lines))
+        subst IsProgram q (is_program core rows (core_fits core) (subst (Lines core.columns.items 0 core.rows.items) (sym b.rows_are) b.lines))
     go (Err o) d k = absurd (cc)
+
+-- the lists that make the program of one period
+pub single_parts : (core : Core) (lines : List NodeRow) (objective rhs : List ℕ) (periods : List (List ℕ)) (columns : List Column) (rows : List Row) (nodes : List (Option Node)) (scenarios : List Scenario)
+    → rows_from core.columns.items [] 0 core.rows.items ≡ Ok lines → objective ≡ core.objective → rhs ≡ core.rhs_set → periods ≡ only_period
+    → columns ≡ map column_of core.columns.items → rows ≡ map row_of core.rows.items → nodes ≡ only_node (costs_from 0 core.columns.items) lines → scenarios ≡ only_scenario
+    → IsProgram (record { objective = objective; rhs = rhs; periods = periods; columns = columns; rows = rows; nodes = nodes; scenarios = scenarios })
+single_parts core lines objective rhs periods columns rows nodes scenarios e a b c d f g h = rw (a, b, c, d, f, g, h)
+    (singles_are_programs core (single_program core lines) (ap (λ (w : Result (List NodeRow) Operation). then_walk w (λ rows. Ok (single_program core rows))) e))

@@ -1,5 +1,7 @@
 -- The program of one period that a core states.
-use Rattle.std.specs.Prelude.{◌≡◌, ℕ, suc, List, [], ◌∷◌, ◌++◌, map, Option, Some, None, Result, Ok, Err, ⊤}
+use Rattle.std.specs.Prelude.{◌≡◌, ℕ, suc, List, [], ◌∷◌, ◌++◌, map, Option, Some, None, Result, Ok, Err}
+use Rattle.rationals.specs.Replies.{Reply, IsReply}
+use Rattle.rationals.specs.Replies.Reply.{Says, Silent, Never}
 use Rattle.rationals.specs.Rational.{ℚ, zero_ℚ, one_ℚ, neg_ℚ, at_most}
 use Rattle.rationals.specs.Sparse.{Entry, coefficient}
 use Rattle.rationals.specs.Forms.{put}
@@ -13,7 +15,7 @@ use Rattle.scen_defs.specs.declared.program.Column.{Column}
 use Rattle.scen_defs.specs.declared.program.Row.{Row}
 use Rattle.scen_defs.specs.declared.program.NodeRow.{NodeRow}
 use Rattle.scen_defs.specs.Lists.{pick}
-use Rattle.scen_defs.specs.Program.{Program}
+use Rattle.scen_defs.specs.Program.{Node, Program, Scenario}
 use Rattle.smps_build.specs.declared.fault.BuildFault.{BuildFault}
 use Rattle.smps_build.specs.declared.fault.BuildFault.TheVariants.{Limit, Passed, Memory}
 
@@ -59,23 +61,39 @@ rows_from cs built i [] = Ok built
 rows_from cs built i (r ∷ rs) = then_walk (interval_walk r.kind r.rhs r.range)
     (λ ends. rows_from cs (built ++ node_row cs i ends ∷ []) (suc i) rs)
 
+-- the node 0 alone
+abbrev pub only_node : List Entry → List NodeRow → List (Option Node)
+only_node cost rows = Some (record { stage = 0; parent = None; cost = cost; rows = rows }) ∷ []
+
+-- the scenario S1 of probability 1 alone
+abbrev pub only_scenario : List Scenario
+only_scenario = record { name = 83 ∷ 49 ∷ []; probability = one_ℚ; path = 0 ∷ [] } ∷ []
+
+-- the period P1 alone
+abbrev pub only_period : List (List ℕ)
+only_period = (80 ∷ 49 ∷ []) ∷ []
+
 -- one period P1, one node 0, one scenario S1 of probability 1
 abbrev pub single_program : Core → List NodeRow → Program
 single_program core rows = record {
   objective = core.objective;
   rhs = core.rhs_set;
-  periods = (80 ∷ 49 ∷ []) ∷ [];
+  periods = only_period;
   columns = map column_of core.columns.items;
   rows = map row_of core.rows.items;
-  nodes = Some (record { stage = 0; parent = None; cost = costs_from 0 core.columns.items; rows = rows }) ∷ [];
-  scenarios = record { name = 83 ∷ 49 ∷ []; probability = one_ℚ; path = 0 ∷ [] } ∷ [];
+  nodes = only_node (costs_from 0 core.columns.items) rows;
+  scenarios = only_scenario;
 }
 
 abbrev pub single_walk : Core → Result Program Operation
 single_walk core = then_walk (rows_from core.columns.items [] 0 core.rows.items) (λ rows. Ok (single_program core rows))
 
+-- what an error says: the operation in which the walk ends; never that there is too much of a program
+abbrev pub build_says : {X : Type 0} → BuildFault → Reply (Result X Operation)
+build_says Limit = Never
+build_says (Passed p) = Says (Err p)
+build_says Memory = Silent
+
 -- what an error says of the walk
 abbrev pub BuildFaultOf : {X : Type 0} → Result X Operation → BuildFault → Type 0
-BuildFaultOf walk Limit = ⊥
-BuildFaultOf walk (Passed p) = walk ≡ Err p
-BuildFaultOf walk Memory = ⊤
+BuildFaultOf walk fault = IsReply walk (build_says fault)

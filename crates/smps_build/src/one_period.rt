@@ -1,13 +1,13 @@
 // The program of one period of a core.
 ghost use Rattle.std.specs.Prelude.{◌≡◌, ◌<◌, ◌^◌, [], length, Ok, IfOk, MatchResult, map};
-ghost use Rattle.scen_defs.specs.Program.{content};
-ghost use Rattle.smps_build.specs.Single.{column_of, row_of, rows_from, single_walk, BuildFaultOf};
+ghost use Rattle.scen_defs.specs.Program.{content, nodes_content, scenarios_content};
+ghost use Rattle.smps_build.specs.Single.{column_of, only_node, only_period, only_scenario, row_of, rows_from, single_walk, BuildFaultOf};
 
 use crate::ends::interval;
 use crate::fault::BuildFault;
 use crate::forms::{costs_of, row_forms};
 use core_defs::{ColumnDef, Core, RowDef};
-use frac128::Frac;
+use frac128::{Form, Frac};
 use scen_defs::{Column, Node, NodeRow, Program, Row, Scenario};
 use smps_words::Name;
 use std::alloc::{AllocError, Global};
@@ -81,6 +81,46 @@ fn node_rows(
     Ok(all)
 }
 
+/// The node 0 with these costs and rows, alone.
+fn only_node(alloc: Global, cost: Form, rows: Vec<NodeRow>) -> Result<Vec<Option<Node>>, AllocError>
+    ensures { IfOk result (λ nodes. nodes_content nodes.items ≡ only_node cost rows.items) }
+{
+    let mut nodes = Vec::new(alloc);
+    nodes.push(Some(Node {
+        stage: 0,
+        parent: None,
+        cost,
+        rows,
+    }))?;
+    Ok(nodes)
+}
+
+/// The scenario `S1` of probability 1, alone.
+fn only_scenario(alloc: Global) -> Result<Vec<Scenario>, AllocError>
+    ensures { IfOk result (λ scenarios. scenarios_content scenarios.items ≡ only_scenario) }
+{
+    let name = Name::new(alloc, b"S1")?;
+    let mut path = Vec::new(alloc);
+    path.push(0)?;
+    let mut scenarios = Vec::new(alloc);
+    scenarios.push(Scenario {
+        name,
+        probability: Frac::one(),
+        path,
+    })?;
+    Ok(scenarios)
+}
+
+/// The period `P1`, alone.
+fn only_period(alloc: Global) -> Result<Vec<Name>, AllocError>
+    ensures { IfOk result (λ periods. periods.items ≡ only_period) }
+{
+    let name = Name::new(alloc, b"P1")?;
+    let mut periods = Vec::new(alloc);
+    periods.push(name)?;
+    Ok(periods)
+}
+
 /// The program of one period that a core states: the period `P1`, the node 0, the scenario `S1` of
 /// probability 1.
 ///
@@ -93,29 +133,19 @@ pub fn single(alloc: Global, core: &Core) -> Result<Program, BuildFault>
 {
     let rows = node_rows(alloc, &core.columns, &core.rows)?;
     let cost = costs_of(alloc, &core.columns)?;
-    let mut nodes = Vec::new(alloc);
-    nodes.push(Some(Node {
-        stage: 0,
-        parent: None,
-        cost,
-        rows,
-    }))?;
-    let mut path = Vec::new(alloc);
-    path.push(0)?;
-    let mut scenarios = Vec::new(alloc);
-    scenarios.push(Scenario {
-        name: Name::new(alloc, b"S1")?,
-        probability: Frac::one(),
-        path,
-    })?;
-    let mut periods = Vec::new(alloc);
-    periods.push(Name::new(alloc, b"P1")?)?;
+    let nodes = only_node(alloc, cost, rows)?;
+    let scenarios = only_scenario(alloc)?;
+    let periods = only_period(alloc)?;
+    let objective = copied(alloc, &core.objective)?;
+    let rhs = copied(alloc, &core.rhs_set)?;
+    let columns = columns_of(alloc, &core.columns)?;
+    let rows = rows_of(alloc, &core.rows)?;
     Ok(Program {
-        objective: copied(alloc, &core.objective)?,
-        rhs: copied(alloc, &core.rhs_set)?,
+        objective,
+        rhs,
         periods,
-        columns: columns_of(alloc, &core.columns)?,
-        rows: rows_of(alloc, &core.rows)?,
+        columns,
+        rows,
         nodes,
         scenarios,
     })

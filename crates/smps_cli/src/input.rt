@@ -1,7 +1,6 @@
 //! The program of a task's texts, and the script of its edit list.
 ghost use Rattle.std.specs.Prelude.{IfOk, IfErr};
 ghost use Rattle.scen_defs.specs.Program.{content};
-ghost use Rattle.scen_defs.specs.Valid.{IsProgram};
 ghost use Rattle.input_files.specs.Unfetched.{texts_view};
 ghost use Rattle.program_files.specs.Meant.{AreWithin, MeansProgram};
 ghost use Rattle.smps_cli.specs.Ends.{RefusesUnread};
@@ -24,7 +23,6 @@ pub struct Input {
 fn edited(alloc: Global, texts: &Texts, program: Program) -> Result<Input, Unread>
     requires within { AreWithin (texts_view texts.now) }
     requires means { MeansProgram (texts_view texts.now) (content program) }
-    requires keeps { IsProgram (content program) }
     ensures input { IfOk result (IsInput (texts_view texts.now)) }
     ensures refused { IfErr result (RefusesUnread (texts_view texts.now)) }
 {

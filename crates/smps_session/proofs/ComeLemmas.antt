@@ -2,7 +2,6 @@
 use Rattle.std.proofs.Common.{◌≡◌, ◌<◌, ◌≤◌, ℕ, ◌+◌, ◌^◌, ◌⊎◌, inl, inr, ◌&&◌, not, Bool, true, false, Result, Ok, Err, IfOk, refl, sym, ap, subst, ◌∙◌, arith}
 use Rattle.std.proofs.lemmas.Bool.{leb-true, leb-false}
 use Rattle.scen_defs.specs.Program.{Program as Started, content, view_of}
-use Rattle.scen_defs.specs.Valid.{IsProgram}
 use Rattle.scen_tree.specs.Trees.{Tree}
 use Rattle.report_defs.specs.Truth.{Explains, IsTrue}
 use Rattle.scen_defs.specs.declared.program.Program.{Program}
@@ -111,36 +110,36 @@ counts_fewer k j (Idle why own) less h = tt
 
 -- a report to which the method comes on its way isn't left over
 never_left : (budget : Budget) (start : Started) (came : ℕ) (program : Program) (old : State) (mid : Working) (report : Report)
-    → IsProgram (content program) → HasFewNodes (content program) → WorksOn (content program) budget mid
+    → HasFewNodes (content program) → WorksOn (content program) budget mid
     → ShowsClosing budget start came program old mid.state report → AreFew budget came → IsOnWay budget came (content program) old
     → (n : ℕ) → report.finding ≡ OpenSolves n → mid.state.budget.solves ≤ mid.state.counts.since_report
-never_left budget start came program old mid report i few stands shows items way n told =
+never_left budget start came program old mid report few stands shows items way n told =
     let p = content program in
     let here : IsOnWay budget came p mid.state = solves_keep_way budget came p old mid.state shows.solves way in
     let same : mid.tree ≡ here.run.tree = cc (stands.tree, here.run.walk) in
     ends_are_finished program mid.state report.number (Cost mid.state.counts.all) budget.solves report n
     (record {
       run = here.run;
-      numbers = ways_have_numbers budget came p mid.state items here (counted_within budget p mid i few stands);
+      numbers = ways_have_numbers budget came p mid.state items here (counted_within budget p mid program.keeps few stands);
       ends = shows.ends;
       explained = subst (λ (tree : Tree). AreExplained p tree mid.state) same stands.explained;
-      tabled = stands.tabled i few;
+      tabled = stands.tabled program.keeps few;
     })
     shows.claimed told
 
 -- nor is the first report of a program that begins
 never_left_first : (budget : Budget) (start : Started) (came : ℕ) (program : Program) (old : State) (mid : Working) (report : Report)
-    → IsProgram (content program) → HasFewNodes (content program) → WorksOn (content program) budget mid
+    → HasFewNodes (content program) → WorksOn (content program) budget mid
     → ShowsClosing budget start came program old mid.state report → budget.solves < 2 ^ 63 → IsBeginning (content program) budget old
     → old.counts ≡ no_commits → (n : ℕ) → report.finding ≡ OpenSolves n → mid.state.budget.solves ≤ mid.state.counts.since_report
-never_left_first budget start came program old mid report i few stands shows small begins uncounted n told =
+never_left_first budget start came program old mid report few stands shows small begins uncounted n told =
     let p = content program in
     let all : mid.state.counts.all ≤ mid.state.counts.since_report = begun_counts budget p old mid.state begins uncounted shows.solves in
-    let within : mid.state.counts.since_report ≤ budget.solves = counted_within budget p mid i few stands in
+    let within : mid.state.counts.since_report ≤ budget.solves = counted_within budget p mid program.keeps few stands in
     ends_are_finished program mid.state report.number (Cost mid.state.counts.all) budget.solves report n
     (record {
       run = record {
-        program = i;
+        program = program.keeps;
         few = few;
         tree = mid.tree;
         walk = stands.tree;
@@ -152,7 +151,7 @@ never_left_first budget start came program old mid report i few stands shows sma
       numbers = omega (arith, all, within, small);
       ends = shows.ends;
       explained = stands.explained;
-      tabled = stands.tabled i few;
+      tabled = stands.tabled program.keeps few;
     })
     shows.claimed told
 
@@ -167,18 +166,18 @@ solves_told (OpenPassed place o) e = absurd (let no : false ≡ true = e in cc)
 -- behind one more solve, and what is found then
 pub round_counts : (budget : Budget) (start : Started) (came : ℕ) (program : Program) (k : ℕ) (old mid next new : Method) (report report' : Report)
     → budget.solves < 2 ^ 64 → tells_solves report.finding ≡ true → is_spent mid ≡ false → StandsOn (content program) budget mid
-    → IsProgram (content program) → HasFewNodes (content program) → IsUnderWay budget start came (content program) old
+    → HasFewNodes (content program) → IsUnderWay budget start came (content program) old
     → ShowsFound budget start came program old mid report → HasCounted k mid → WorksAnew (content program) mid next
     → ShowsFound budget start came program next new report' → ShowsFound budget start came program old new report' × HasCounted (k + 1) new
-round_counts budget start came program k (Idle why own) mid next new report report' bits tells left stands i few way shows counted works shows' =
+round_counts budget start came program k (Idle why own) mid next new report report' bits tells left stands few way shows counted works shows' =
     absurd (let no : true ≡ false = sym (ap is_spent shows) ∙ left in cc)
-round_counts budget start came program k (AtWork old) (Idle why own) next new report report' bits tells left stands i few way shows counted works shows' =
+round_counts budget start came program k (AtWork old) (Idle why own) next new report report' bits tells left stands few way shows counted works shows' =
     absurd shows
-round_counts budget start came program k (AtWork old) (AtWork mid) (Idle why own) new report report' bits tells left stands i few way shows counted works shows' =
+round_counts budget start came program k (AtWork old) (AtWork mid) (Idle why own) new report report' bits tells left stands few way shows counted works shows' =
     absurd works
-round_counts budget start came program k (AtWork old) (AtWork mid) (AtWork next) (Idle why own) report report' bits tells left stands i few way shows counted works shows' =
+round_counts budget start came program k (AtWork old) (AtWork mid) (AtWork next) (Idle why own) report report' bits tells left stands few way shows counted works shows' =
     absurd shows'
-round_counts budget start came program k (AtWork old) (AtWork mid) (AtWork next) (AtWork new) report report' bits tells left stands i few way shows counted works shows' =
+round_counts budget start came program k (AtWork old) (AtWork mid) (AtWork next) (AtWork new) report report' bits tells left stands few way shows counted works shows' =
     let p = content program in
     let less : mid.state.counts.since_report < mid.state.budget.solves = leb-false mid.state.budget.solves mid.state.counts.since_report left in
     let allowed : mid.state.budget.solves ≡ budget.solves = ap (λ (b : Budget). b.solves) stands.budget_is in
@@ -191,11 +190,11 @@ round_counts budget start came program k (AtWork old) (AtWork mid) (AtWork next)
         solves = solves_behind p old.state mid.state new.state shows.solves (solves_behind p mid.state next.state new.state anew.solves shows'.solves);
         once = λ widths items.
             let n = solves_told report.finding tells in
-            let spent = never_left budget start came program old.state mid report i few stands shows items (way few widths items) n.0 n.1 in
+            let spent = never_left budget start came program old.state mid report few stands shows items (way few widths items) n.0 n.1 in
             absurd (omega (arith, less, spent));
         first = λ small begins uncounted.
             let n = solves_told report.finding tells in
-            let spent = never_left_first budget start came program old.state mid report i few stands shows small begins uncounted n.0 n.1 in
+            let spent = never_left_first budget start came program old.state mid report few stands shows small begins uncounted n.0 n.1 in
             absurd (omega (arith, less, spent));
         ends = shows'.ends;
         claimed = shows'.claimed;
@@ -232,14 +231,14 @@ all_counted budget w finding n b e (inl ended) =
     let spent = leb-true w.state.budget.solves w.state.counts.since_report (ended (ap tells_solves e)) in
     omega (arith, spent, ap (λ (x : Budget). x.solves) b)
 
-pub comes_of : (budget : Budget) (start : Started) (came : ℕ) (program : Program) (old mid new : Method) (report : Report) → IsProgram (content program)
+pub comes_of : (budget : Budget) (start : Started) (came : ℕ) (program : Program) (old mid new : Method) (report : Report)
     → HasFewNodes (content program) → StandsOn (content program) budget mid → StandsCleared old → IsTrue (view_of (content program)) (told_reasons program budget) report
     → IsUnderWay budget start came (content program) old → ShowsFound budget start came program old mid report → HasEnded budget report.finding mid
     → new ≡ after_telling mid → ComesOf budget start came program old report new
-comes_of budget start came program (Idle why own) mid new report i few stands rests truth way shows ended e =
+comes_of budget start came program (Idle why own) mid new report few stands rests truth way shows ended e =
     e ∙ ap after_telling shows
-comes_of budget start came program (AtWork old) (Idle why own) new report i few stands rests truth way shows ended e = absurd shows
-comes_of budget start came program (AtWork old) (AtWork mid) new report i few stands rests truth way shows ended e = (
+comes_of budget start came program (AtWork old) (Idle why own) new report few stands rests truth way shows ended e = absurd shows
+comes_of budget start came program (AtWork old) (AtWork mid) new report few stands rests truth way shows ended e = (
   mid,
   (
     record {
@@ -261,7 +260,7 @@ comes_of budget start came program (AtWork old) (AtWork mid) new report i few st
 
     spent : (n : ℕ) → report.finding ≡ OpenSolves n → mid.state.counts.since_report ≡ n
     spent n f =
-        let within = (stands.counted i few).report in
+        let within = (stands.counted program.keeps few).report in
         let all = all_counted budget mid report.finding n stands.budget_is f ended in
         let allowed : mid.state.budget.solves ≡ budget.solves = ap (λ (x : Budget). x.solves) stands.budget_is in
         omega (arith, within, all, allowed, told report.finding n f truth.finding)

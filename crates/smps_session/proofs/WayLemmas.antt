@@ -42,19 +42,19 @@ begins_way budget came p method i begins = λ few widths items. ways_begin budge
 
 -- ---- and stays on it behind a report
 pub way_told : (budget : Budget) (start : Program) (came : ℕ) (program : ProgramOf) (old mid new : Method) (report : Report)
-    → IsProgram (content program) → StandsOn (content program) budget mid → ShowsFound budget start came program old mid report
+    → StandsOn (content program) budget mid → ShowsFound budget start came program old mid report
     → new ≡ after_telling mid → IsUnderWay budget start came (content program) old
     → IsUnderWay budget start (came + 1) (content program) new
-way_told budget start came program (Idle why own) mid new report i stands shows e way =
+way_told budget start came program (Idle why own) mid new report stands shows e way =
     subst (IsUnderWay budget start (came + 1) (content program)) (sym (e ∙ ap after_telling shows))
     (λ few widths items. way few widths (fewer_items budget came items))
-way_told budget start came program (AtWork old) (Idle why own) new report i stands shows e way = absurd shows
-way_told budget start came program (AtWork old) (AtWork mid) new report i stands shows e way =
+way_told budget start came program (AtWork old) (Idle why own) new report stands shows e way = absurd shows
+way_told budget start came program (AtWork old) (AtWork mid) new report stands shows e way =
     let p = content program in
     subst (IsUnderWay budget start (came + 1) p) (sym e) (λ few widths items.
     let before = fewer_items budget came items in
     reports_keep_way budget came p mid.state before
-    (solves_keep_way budget came p old.state mid.state shows.solves (way few widths before)) (counted_within budget p mid i few stands))
+    (solves_keep_way budget came p old.state mid.state shows.solves (way few widths before)) (counted_within budget p mid program.keeps few stands))
 
 -- ---- and behind an edit
 few_before : (p : Program) (e : Edit) → HasFewNodes (after p e) → HasFewNodes p
@@ -85,7 +85,7 @@ way_edited budget start came p e (Idle why own) worked new i allowed j here work
     (subst (λ (b : Budget). Begins (after p e) b new) here.0 (goes_on.1 few))
 
 pub changed_way : {A E : Type 0} (result : Result A E) (budget : Budget) (start : Program) (came : ℕ) (p q : Program) (e : Edit)
-    (old worked new : Method) → IsProgram p → IsAllowed p e → OnOk result (IsProgram q) → StandsOn p budget old → StandsOn p budget worked
+    (old worked new : Method) → IsProgram p → IsAllowed p e → IsProgram q → StandsOn p budget old → StandsOn p budget worked
     → OnOk result (StandsOn q budget new) → (HasFewNodes p → WorksBySolves p old worked)
     → OnOk result (q ≡ after p e) → OnOk result (GoesOn p e worked new) → IsUnderWay budget start came p old
     → OnOk result (IsUnderWay budget start (came + 1) q new)

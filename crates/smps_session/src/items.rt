@@ -1,7 +1,6 @@
 //! The items of a script, one behind the other.
 ghost use Rattle.std.specs.Prelude.{◌≡◌, ◌+◌, ◌∷◌, [], ℕ, OnOk};
 ghost use Rattle.scen_defs.specs.Program.{content, Program as ProgramOf};
-ghost use Rattle.scen_defs.specs.Valid.{IsProgram};
 ghost use Rattle.edit_defs.specs.After.{after};
 ghost use Rattle.edit_defs.specs.Limits.{counts};
 ghost use Rattle.edit_script.specs.Allowed.{AreAllowed, IsAllowed};
@@ -38,11 +37,9 @@ impl Progress {
         edit: &Edit,
         work: u64,
     ) -> Result<(), Memory>
-        requires program { IsProgram (content program.old) }
         requires allowed { IsAllowed (content program.old) edit.now }
         requires counted { self.old.counted ≡ counts (content program.old).nodes }
         ensures after { OnOk result (content program.new ≡ after (content program.old) edit.now) }
-        ensures keeps { OnOk result (IsProgram (content program.new)) }
         ensures counted { OnOk result (self.new.counted ≡ counts (content program.new).nodes) }
         ensures number { self.new.number ≡ self.old.number }
         ensures stands { (budget : BudgetOf) → StandsOn (content program.old) budget self.old.method
@@ -66,7 +63,6 @@ impl Progress {
         budget: Budget,
         tolds: &mut Vec<Told>,
     ) -> Result<(), Memory>
-        requires program { IsProgram (content program.now) }
         requires stands { StandsOn (content program.now) budget self.old.method }
         requires cleared { HasFewNodes (content program.now) → StandsCleared self.old.method }
         ensures counted { self.new.counted ≡ self.old.counted }
@@ -95,12 +91,10 @@ impl Progress {
         budget: Budget,
         tolds: &mut Vec<Told>,
     ) -> Result<(), Memory>
-        requires program { IsProgram (content program.old) }
         requires allowed { AreAllowed (content program.old) (item.now ∷ []) }
         requires counted { self.old.counted ≡ counts (content program.old).nodes }
         requires stands { StandsOn (content program.old) budget self.old.method }
         requires cleared { HasFewNodes (content program.old) → StandsCleared self.old.method }
-        ensures keeps { OnOk result (IsProgram (content program.new)) }
         ensures counted { OnOk result (self.new.counted ≡ counts (content program.new).nodes) }
         ensures stands { OnOk result (StandsOn (content program.new) budget self.new.method) }
         ensures cleared { HasFewNodes (content program.new) → OnOk result (StandsCleared self.new.method) }

@@ -2,7 +2,7 @@
 ghost use Rattle.std.specs.Prelude.{◌≡◌, ◌+◌, ℕ, IfOk, OnOk};
 ghost use Rattle.scen_defs.specs.Fits.{ListsHaveNames};
 ghost use Rattle.scen_defs.specs.Program.{IsTree, content, view_of, Program as ProgramOf};
-ghost use Rattle.scen_defs.specs.Valid.{IsSmall, IsProgram};
+ghost use Rattle.scen_defs.specs.Valid.{IsSmall};
 ghost use Rattle.report_defs.specs.Truth.{IsTrue, HasCounts};
 ghost use Rattle.proved_report.specs.Reports.{EqualIsOptimal};
 ghost use Rattle.tree_method.specs.Stands.{HasFewNodes, StandsOn, StandsCleared};
@@ -28,7 +28,7 @@ pub fn session(alloc: Global, program: &Program, solves: u64, pivots: u64) -> Re
     ensures truth { let p = content program.now in IsSmall p → IsTree (view_of p)
         → IfOk result (IsTrue (view_of p) (told_reasons program.now (record { solves = solves; pivots = pivots }))) }
     ensures equal { IfOk result EqualIsOptimal }
-    ensures comes { let p = content program.now in IsProgram p → HasFewNodes p
+    ensures comes { let p = content program.now in HasFewNodes p
         → IfOk result (ComesOfAll (record { solves = solves; pivots = pivots }) program.now) }
 {
     let budget = Budget { solves, pivots };
@@ -52,12 +52,12 @@ pub(crate) fn reported(
         → IfOk result (IsTrue (view_of p) (told_reasons program.now budget)) }
     ensures equal { IfOk result EqualIsOptimal }
     ensures stands { let p = content program.now in IsSmall p → StandsOn p budget method.old → OnOk result (StandsOn p budget method.new) }
-    ensures comes { (start : ProgramOf) (came : ℕ) → let p = content program.now in IsProgram p → HasFewNodes p
+    ensures comes { (start : ProgramOf) (came : ℕ) → let p = content program.now in HasFewNodes p
         → StandsOn p budget method.old → StandsCleared method.old → IsUnderWay budget start came p method.old
         → IfOk result (λ report. ComesOf budget start came program.now method.old report method.new) }
-    ensures cleared { let p = content program.now in IsProgram p → HasFewNodes p → StandsOn p budget method.old → StandsCleared method.old
+    ensures cleared { let p = content program.now in HasFewNodes p → StandsOn p budget method.old → StandsCleared method.old
         → OnOk result (StandsCleared method.new) }
-    ensures way { (start : ProgramOf) (came : ℕ) → let p = content program.now in IsProgram p → HasFewNodes p
+    ensures way { (start : ProgramOf) (came : ℕ) → let p = content program.now in HasFewNodes p
         → StandsOn p budget method.old → IsUnderWay budget start came p method.old
         → OnOk result (IsUnderWay budget start (came + 1) p method.new) }
 {
@@ -98,7 +98,7 @@ fn found(
         → IfOk result (IsTrue (view_of p) (told_reasons program.now budget)) }
     ensures equal { IfOk result EqualIsOptimal }
     ensures stands { let p = content program.now in StandsOn p budget method.old → OnOk result (StandsOn p budget method.new) }
-    ensures shows { (start : ProgramOf) (came : ℕ) → let p = content program.now in IsProgram p → HasFewNodes p
+    ensures shows { (start : ProgramOf) (came : ℕ) → let p = content program.now in HasFewNodes p
         → StandsOn p budget method.old → IfOk result (ShowsFound budget start came program.now method.old method.new) }
 {
     let found = method.find(alloc, program)?;

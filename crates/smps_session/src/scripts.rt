@@ -1,7 +1,6 @@
 //! The reports of a script: of the program after the edits before each SOLVE.
 ghost use Rattle.std.specs.Prelude.{◌≡◌, IfOk};
 ghost use Rattle.scen_defs.specs.Program.{content};
-ghost use Rattle.scen_defs.specs.Valid.{IsProgram};
 ghost use Rattle.edit_defs.specs.Limits.{counts};
 ghost use Rattle.edit_script.specs.Allowed.{AreAllowed};
 ghost use Rattle.pass_core.specs.declared.budget.Budget.{Budget as BudgetOf};
@@ -21,7 +20,6 @@ use tree_method::Method;
 impl Progress {
     /// Before the first item: nothing was done of the program.
     fn begin(alloc: Global, program: &Program, budget: Budget) -> Result<Progress, Memory>
-        requires program { IsProgram (content program.now) }
         ensures counted { IfOk result (λ progress. progress.counted ≡ counts (content program.now).nodes) }
         ensures number { IfOk result (λ progress. progress.number ≡ 1) }
         ensures stands { IfOk result (λ progress. StandsOn (content program.now) budget progress.method) }
@@ -45,7 +43,6 @@ impl Progress {
         items: &[Item],
         budget: Budget,
     ) -> Result<Vec<Told>, Memory>
-        requires program { IsProgram (content program.old) }
         requires allowed { AreAllowed (content program.old) items.now }
         requires counted { self.old.counted ≡ counts (content program.old).nodes }
         requires number { self.old.number ≡ 1 }
@@ -73,8 +70,7 @@ pub fn scripted(
     solves: u64,
     pivots: u64,
 ) -> Result<Vec<Told>, Memory>
-    requires program { IsProgram (content program.old) }
-    requires allowed { AreAllowed (content program.old) script.now.items.items }
+    requires { AreAllowed (content program.old) script.now.items.items }
     ensures { let budget : BudgetOf = record { solves = solves; pivots = pivots } in
         IfOk result (λ tolds. IsScripted budget (content program.old) script.now.items.items tolds.items) }
 {

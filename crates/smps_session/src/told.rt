@@ -1,7 +1,6 @@
 //! A report as it is told.
 ghost use Rattle.std.specs.Prelude.{◌+◌, ℕ, IfOk, OnOk};
 ghost use Rattle.scen_defs.specs.Program.{content, Program as ProgramOf};
-ghost use Rattle.scen_defs.specs.Valid.{IsProgram};
 ghost use Rattle.tree_method.specs.Stands.{HasFewNodes, StandsOn, StandsCleared};
 ghost use Rattle.smps_session.specs.Comes.{IsUnderWay};
 ghost use Rattle.smps_session.specs.Told.{IsTold};
@@ -30,7 +29,6 @@ pub(crate) fn told_one(
     number: u32,
     budget: Budget,
 ) -> Result<Told, Memory>
-    requires program { IsProgram (content program.now) }
     requires stands { StandsOn (content program.now) budget method.old }
     requires cleared { HasFewNodes (content program.now) → StandsCleared method.old }
     ensures told { (start : ProgramOf) (came : ℕ) → let p = content program.now in IsUnderWay budget start came p method.old

@@ -1,13 +1,19 @@
 -- Scenarios and nodes of a program, one by one.
-use Rattle.std.proofs.Common.{◌≡◌, ap, sym, refl, subst, ℕ, suc, ◌+◌, List, [], ◌∷◌, ◌++◌, length, get_or, Option, Some, Result, Ok, Err}
-use Rattle.std.specs.Result.{MatchResult, IsErrAnd}
+use Rattle.std.proofs.Common.{◌≡◌, ◌∙◌, ap, sym, refl, subst, ℕ, suc, ◌+◌, List, [], ◌∷◌, ◌++◌, length, get_or, Option, Some, Result, Ok, Err}
+use Rattle.std.specs.Result.{MatchResult, IsErrAnd, IsOk}
 use Rattle.rationals.specs.Rational.{ℚ, one_ℚ}
 use Rattle.rationals.specs.Passes.{Operation, mul_walk, then_walk}
 use Rattle.core_defs.specs.declared.parts.RowDef.{RowDef}
+use Rattle.core_defs.specs.declared.program.Core.{Core}
+use Rattle.time_defs.specs.Means.{Stages}
+use Rattle.scen_defs.specs.declared.program.Column.{Column}
 use Rattle.scen_defs.specs.declared.program.Node.{Node as NodeOf}
 use Rattle.scen_defs.specs.declared.program.NodeRow.{NodeRow}
+use Rattle.scen_defs.specs.declared.program.Row.{Row}
 use Rattle.scen_defs.specs.declared.program.Scenario.{Scenario as ScenarioOf}
 use Rattle.scen_defs.specs.Program.{Node, Scenario, scenario_content, scenarios_content, place_content, nodes_content}
+use Rattle.scen_defs.specs.Valid.{IsProgram}
+use Rattle.scen_tree.specs.Chances.{chances_walk}
 use Rattle.scen_tree.specs.declared.position.Position.{Position}
 use Rattle.scen_tree.specs.declared.position.Position.TheVariants.{Root}
 use Rattle.stoch_defs.specs.Random.{Block, Branch}
@@ -16,14 +22,14 @@ use Rattle.smps_build.specs.declared.fault.BuildFault.TheVariants.{Limit, Passed
 use Rattle.smps_build.specs.Single.{BuildFaultOf}
 use Rattle.build_defs.specs.Digits.{digits}
 use Rattle.build_defs.specs.Scenarios.{no_branch}
-use Rattle.build_defs.specs.Built.{product_from}
+use Rattle.build_defs.specs.Built.{product_from, columns_from, rows_from, program_of}
 use Rattle.tree_build.specs.declared.wheels.Wheel.{Wheel}
 use Rattle.tree_build.specs.declared.numbering.Debut.{Debut}
 use Rattle.tree_build.specs.Values.{Values}
 use Rattle.tree_build.specs.Wheels.{sizes_of}
 use Rattle.tree_build.specs.Choices.{chances_of}
 use Rattle.tree_build.specs.Nodes.{digits_at}
-use Rattle.tree_build.specs.Finish.{value_rows, value_node, value_nodes, no_debut, block_paths, branch_paths}
+use Rattle.tree_build.specs.Finish.{value_rows, value_node, value_nodes, no_debut, block_paths, branch_paths, finish_walk, GivesPrograms}
 
 pub scenarios_push : (all : List ScenarioOf) (s : ScenarioOf) → scenarios_content (all ++ s ∷ []) ≡ scenarios_content all ++ scenario_content s ∷ []
 scenarios_push [] s = refl
@@ -88,3 +94,19 @@ pub node_step : (defs : List RowDef) (debuts : List Debut) (positions : List Pos
     ≡ value_nodes defs debuts positions (built ++ Some (value_node (get_or debuts (length built) no_debut) (get_or positions (length built) Root) d rows) ∷ []) rest
 node_step defs debuts positions built d rest rows e =
     then_ok (value_rows defs [] d.rows) rows (λ rows. value_nodes defs debuts positions (built ++ Some (value_node (get_or debuts (length built) no_debut) (get_or positions (length built) Root) d rows) ∷ []) rest) e
+
+-- ---- the program
+
+past : {X Y : Type 0} (w : Result X Operation) (v : Result Y Operation) → IsOk w → then_walk w (λ x. v) ≡ v
+past (Ok x) v fine = refl
+past (Err p) v fine = absurd (cc)
+
+-- the lists that make the program
+pub finish_parts : (core : Core) (p : Stages) (debuts : List Debut) (positions : List Position) (scenarios : List Scenario) (all : List Values) (nodes : List (Option Node))
+    (objective rhs : List ℕ) (periods : List (List ℕ)) (columns : List Column) (rows : List Row)
+    → GivesPrograms (finish_walk core p debuts positions scenarios all) → IsOk (chances_walk positions scenarios) → value_nodes core.rows.items debuts positions [] all ≡ Ok nodes
+    → objective ≡ core.objective → rhs ≡ core.rhs_set → periods ≡ p.names → columns ≡ columns_from p 0 core.columns.items → rows ≡ rows_from p 0 core.rows.items
+    → IsProgram (record { objective = objective; rhs = rhs; periods = periods; columns = columns; rows = rows; nodes = nodes; scenarios = scenarios })
+finish_parts core p debuts positions scenarios all nodes objective rhs periods columns rows keeps fine made a b c d e =
+    rw (a, b, c, d, e) (keeps (program_of core p nodes scenarios)
+    (past (chances_walk positions scenarios) _ fine ∙ then_ok (value_nodes core.rows.items debuts positions [] all) nodes (λ nodes. Ok (program_of core p nodes scenarios)) made))

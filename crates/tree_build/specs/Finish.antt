@@ -6,6 +6,7 @@ use Rattle.rationals.specs.Passes.{Operation, then_walk}
 use Rattle.core_defs.specs.declared.parts.RowDef.{RowDef}
 use Rattle.scen_defs.specs.declared.program.NodeRow.{NodeRow}
 use Rattle.scen_defs.specs.Program.{Node, Scenario, Program}
+use Rattle.scen_defs.specs.Valid.{IsProgram}
 use Rattle.core_defs.specs.declared.program.Core.{Core}
 use Rattle.time_defs.specs.Means.{Stages}
 use Rattle.rationals.specs.Rational.{one_ℚ}
@@ -90,6 +91,10 @@ abbrev pub finish_walk : Core → Stages → List Debut → List Position → Li
 finish_walk core p debuts positions scenarios all =
     then_walk (chances_walk positions scenarios) (λ chances. then_walk (value_nodes core.rows.items debuts positions [] all)
     (λ nodes. Ok (program_of core p nodes scenarios)))
+
+-- a program that the walk gives keeps what programs keep
+abbrev pub GivesPrograms : Result Program Operation → Type 0
+GivesPrograms walk = (program : Program) → walk ≡ Ok program → IsProgram program
 
 -- ---- scenarios
 

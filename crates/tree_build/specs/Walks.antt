@@ -1,5 +1,5 @@
 -- The program as it is computed: numbers of nodes, values of nodes, products, totals and shares, intervals.
-use Rattle.std.specs.Prelude.{◌≡◌, ℕ, ◌≤◌, Bool, true, false, ◌||◌, List, [], map, length, nat_lt, Result, Ok, Err}
+use Rattle.std.specs.Prelude.{◌≡◌, ℕ, Bool, true, false, ◌||◌, List, [], map, length, nat_lt, Result, Ok, Err}
 use Rattle.std.specs.Prelude.{MatchResult, ⊤}
 use Rattle.rationals.specs.Passes.{Operation, then_walk}
 use Rattle.core_defs.specs.declared.program.Core.{Core}
@@ -20,13 +20,6 @@ use Rattle.tree_build.specs.Numbering.{debuts_from, all_debuts, paths_from}
 use Rattle.tree_build.specs.Limits.{are_over}
 use Rattle.tree_build.specs.Nodes.{block_node, branch_nodes}
 use Rattle.tree_build.specs.Finish.{position_at, block_paths, branch_paths, finish_walk}
-
--- the periods are those of the core
-pub record Fits (core : Core) (p : Stages) : Type 0 where
-  pub rows : length p.rows ≡ length core.rows.items
-  pub columns : length p.columns ≡ length core.columns.items
-  -- there are at most 16
-  pub few : length p.names ≤ 16
 
 -- why there is no program: there is too much of it, or the first operation that passes, or memory was wanting
 abbrev pub IsBuildFault : Bool → Result Program Operation → BuildFault → Type 0

@@ -7,7 +7,8 @@ ghost use Rattle.smps_build.specs.Single.{BuildFaultOf};
 ghost use Rattle.build_defs.specs.Built.{columns_from, rows_from};
 ghost use Rattle.tree_build.specs.Values.{stages, all_content};
 ghost use Rattle.tree_build.specs.Numbering.{paths_content};
-ghost use Rattle.tree_build.specs.Finish.{position_at, parent_in, no_debut, value_nodes, finish_walk, AreStaged, build_fault, TriesChances};
+ghost use Rattle.tree_build.specs.Finish.{position_at, parent_in, no_debut, value_nodes, finish_walk, GivesPrograms, AreStaged};
+ghost use Rattle.tree_build.specs.Finish.{build_fault, TriesChances};
 
 use crate::nodes::node_in;
 use crate::numbering::{Debut, Path};
@@ -196,6 +197,8 @@ pub(crate) fn finish(
 ) -> Result<Program, BuildFault>
     requires staged { AreStaged debuts.now }
     requires few { length positions.now < 2 ^ 32 }
+    requires keeps { GivesPrograms (finish_walk core.now (stages periods.now) debuts.now positions.now
+        (scenarios_content scenarios.items) (all_content values.items)) }
     ensures { MatchResult result (λ program. finish_walk core.now (stages periods.now) debuts.now positions.now
         (scenarios_content scenarios.items) (all_content values.items) ≡ Ok (content program))
         (BuildFaultOf (finish_walk core.now (stages periods.now) debuts.now positions.now (scenarios_content scenarios.items)

@@ -5,6 +5,7 @@ mod base;
 mod branches;
 mod choices;
 mod finish;
+mod laws;
 mod limits;
 mod names;
 mod nodes;
@@ -18,4 +19,5 @@ mod terms;
 mod values;
 mod wheels;
 
+pub use laws::{built_are_programs, built_are_trees, read_cases_hold, read_periods_are_named};
 pub use program::build;

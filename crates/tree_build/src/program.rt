@@ -1,11 +1,16 @@
 //! The program of a core, its periods and its scenarios.
-ghost use Rattle.std.specs.Prelude.{◌≡◌, ◌<◌, ◌≤◌, ◌^◌, [], map, length, IfOk};
+ghost use Rattle.std.specs.Prelude.{◌≡◌, ◌<◌, ◌≤◌, ◌^◌, [], false, map, length, IfOk};
+ghost use Rattle.time_defs.specs.Periods.{ArePeriods};
 ghost use Rattle.stoch_defs.specs.Random.{block_content, branch_content, content};
+ghost use Rattle.scen_defs.specs.Lists.{Each};
+ghost use Rattle.scen_defs.specs.Valid.{IsField};
 ghost use Rattle.build_defs.specs.Scenarios.{stages_from};
 ghost use Rattle.tree_build.specs.Values.{stages};
 ghost use Rattle.tree_build.specs.Numbering.{rows_content};
 ghost use Rattle.tree_build.specs.Wheels.{product, sizes_of, digits_of, key_row};
-ghost use Rattle.tree_build.specs.Walks.{Fits, IsBuilt, block_rows, blocks_over, blocks_walk, branches_over, branches_walk, build_over};
+ghost use Rattle.tree_build.specs.Finish.{GivesPrograms};
+ghost use Rattle.tree_build.specs.Law.{IsStaged, AreCases};
+ghost use Rattle.tree_build.specs.Walks.{IsBuilt, block_rows, blocks_over, blocks_walk, branches_over, branches_walk, build_over};
 ghost use Rattle.tree_build.specs.Walks.{build_walk};
 
 use crate::base::base;
@@ -51,7 +56,10 @@ fn build_blocks(
     periods: &Periods,
     blocks: &[Block],
 ) -> Result<Program, BuildFault>
-    requires { Fits core.now (stages periods.now) }
+    requires staged { IsStaged core.now (stages periods.now) }
+    requires periods { ArePeriods (stages periods.now) }
+    requires keeps { blocks_over core.now (stages periods.now) (map block_content blocks.now) ≡ false
+        → GivesPrograms (blocks_walk core.now (stages periods.now) (map block_content blocks.now)) }
     ensures { IsBuilt (blocks_over core.now (stages periods.now) (map block_content blocks.now))
         (blocks_walk core.now (stages periods.now) (map block_content blocks.now)) result }
 {
@@ -77,7 +85,10 @@ fn build_branches(
     periods: &Periods,
     branches: &[Branch],
 ) -> Result<Program, BuildFault>
-    requires { Fits core.now (stages periods.now) }
+    requires staged { IsStaged core.now (stages periods.now) }
+    requires periods { ArePeriods (stages periods.now) }
+    requires keeps { branches_over core.now (stages periods.now) (map branch_content branches.now) ≡ false
+        → GivesPrograms (branches_walk core.now (stages periods.now) (map branch_content branches.now)) }
     ensures { IsBuilt (branches_over core.now (stages periods.now) (map branch_content branches.now))
         (branches_walk core.now (stages periods.now) (map branch_content branches.now)) result }
 {
@@ -105,7 +116,10 @@ pub fn build(
     periods: &Periods,
     stoch: &Stoch,
 ) -> Result<Program, BuildFault>
-    requires { Fits core.now (stages periods.now) }
+    requires staged { IsStaged core.now (stages periods.now) }
+    requires periods { ArePeriods (stages periods.now) }
+    requires names { Each IsField (stages periods.now).names }
+    requires cases { AreCases (stages periods.now) (content stoch.now) }
     ensures { IsBuilt (build_over core.now (stages periods.now) (content stoch.now))
         (build_walk core.now (stages periods.now) (content stoch.now)) result }
 {

@@ -1,8 +1,7 @@
 -- What an edit leaves, step by step.
 use Rattle.std.proofs.Common.{◌≡◌, ℕ, ◌<◌, ◌^◌, List, length, Option, ap, ap₂, ◌∙◌, arith}
-use Rattle.scen_defs.specs.Program.{Program, content, view_of}
+use Rattle.scen_defs.specs.Program.{Program, view_of}
 use Rattle.scen_defs.specs.declared.program.Program.{Program as ProgramOf}
-use Rattle.scen_defs.specs.Valid.{IsProgram}
 use Rattle.scen_tree.specs.Chances.{TreeFaultOf}
 use Rattle.scen_tree.specs.Trees.{tree_walk}
 use Rattle.scen_tree.specs.declared.fault.TreeFault.{TreeFault}
@@ -21,8 +20,8 @@ use Rattle.pass_core.specs.Versions.{next_touches}
 use Rattle.tree_method.specs.Edited.{touches_of, dues_of, IsTreeless, HasNoTree}
 
 -- the number of places of a program has 32 bits
-pub few_places : (program : ProgramOf) → IsProgram (content program) → length program.nodes.items < 2 ^ 32
-few_places program h = let e = nodes_long program.nodes.items in let f = h.small.nodes in omega (arith, e, f)
+pub few_places : (program : ProgramOf) → length program.nodes.items < 2 ^ 32
+few_places program = let e = nodes_long program.nodes.items in let f = program.keeps.small.nodes in omega (arith, e, f)
 
 -- the sweeps for the touches that rise, and for the shift with the version of the rows among them
 pub dues_are : (p : Program) (e : Edit) (versions : List Version) (places : List Touched) (ts : List Touch) (version : ℕ)

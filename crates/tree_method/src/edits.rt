@@ -1,7 +1,6 @@
 //! How the method goes on behind an edit of its program.
 ghost use Rattle.std.specs.Prelude.{◌≡◌, ℕ, [], ◌∷◌, false, List, IfOk, IfNone, OnOk, MatchOption};
 ghost use Rattle.scen_defs.specs.Program.{content, Program as ProgramOf};
-ghost use Rattle.scen_defs.specs.Valid.{IsProgram};
 ghost use Rattle.scen_defs.specs.declared.report.Kind.TheVariants.{Feasible};
 ghost use Rattle.edit_defs.specs.After.{after};
 ghost use Rattle.edit_defs.specs.Limits.{counts};
@@ -43,8 +42,7 @@ fn is_grown(edit: &Edit) -> bool
 impl Working {
     /// The sweeps that are due for an edit, by the program before it. The versions of what it touches rise.
     fn dues(&mut self, alloc: Global, program: &Program, edit: &Edit) -> Result<Vec<Due>, Memory>
-        requires program { IsProgram (content program.now) }
-        requires allowed { IsAllowed (content program.now) edit.now }
+        requires { IsAllowed (content program.now) edit.now }
         ensures dues { IfOk result (λ dues. dues.items ≡ dues_of (content program.now) edit.now self.old.state.versions) }
         ensures versions { OnOk result (self.new.state.versions
             ≡ next_versions (touches (content program.now) edit.now) self.old.state.versions) }
@@ -68,7 +66,6 @@ impl Working {
         dues: &[Due],
         is_grown: bool,
     ) -> Result<(), Memory>
-        requires { IsProgram (content program.now) }
         ensures tree { OnOk result (self.new.tree ≡ tree) }
         ensures frame { OnOk result (self.new.state.frame ≡ pick is_grown (frame_of (content program.now)) self.old.state.frame) }
         ensures budget { self.new.state.budget ≡ self.old.state.budget }
@@ -96,11 +93,9 @@ impl Working {
         counted: &mut Counts,
         edit: &Edit,
     ) -> Result<Option<Open>, Memory>
-        requires program { IsProgram (content program.old) }
         requires allowed { IsAllowed (content program.old) edit.now }
         requires counted { counted.old ≡ counts (content program.old).nodes }
         ensures after { OnOk result (content program.new ≡ after (content program.old) edit.now) }
-        ensures keeps { OnOk result (IsProgram (content program.new)) }
         ensures counted { OnOk result (counted.new ≡ counts (content program.new).nodes) }
         ensures method { IfOk result (λ stop. MatchOption stop (IsEdited (content program.old) edit.now self.old self.new)
             (HasNoTree (after (content program.old) edit.now))) }
@@ -137,11 +132,9 @@ impl Method {
         counted: &mut Counts,
         edit: &Edit,
     ) -> Result<(), Memory>
-        requires program { IsProgram (content program.old) }
         requires allowed { IsAllowed (content program.old) edit.now }
         requires counted { counted.old ≡ counts (content program.old).nodes }
         ensures after { OnOk result (content program.new ≡ after (content program.old) edit.now) }
-        ensures keeps { OnOk result (IsProgram (content program.new)) }
         ensures counted { OnOk result (counted.new ≡ counts (content program.new).nodes) }
         ensures method { OnOk result (GoesOn (content program.old) edit.now self.old self.new) }
         // what stands on the program before the edit stands on the program after it

@@ -1,7 +1,7 @@
 //! The nested method at work on a program.
 ghost use Rattle.std.specs.Prelude.{◌≡◌, ◌⊎◌, ◌<◌, ◌-◌, ◌^◌, ℕ, false, List, IfOk, OnOk};
 ghost use Rattle.scen_defs.specs.Program.{content, Program as ProgramOf};
-ghost use Rattle.scen_defs.specs.Valid.{IsProgram, IsSmall};
+ghost use Rattle.scen_defs.specs.Valid.{IsSmall};
 ghost use Rattle.run_data.specs.Frames.{frame_of};
 ghost use Rattle.pass_table.specs.Machine.{Machine};
 ghost use Rattle.pass_core.specs.declared.budget.Budget.{Budget as BudgetOf};
@@ -64,18 +64,18 @@ impl Working {
     fn run(&mut self, alloc: Global, program: &Program, work: u64) -> Result<(), Memory>
         ensures stays { let p = content program.now in (budget : BudgetOf)
             → WorksOn p budget self.old → OnOk result (WorksOn p budget self.new) }
-        ensures steps { let p = content program.now in (m : Machine) → IsProgram p → self.old.state.frame ≡ frame_of p
+        ensures steps { let p = content program.now in (m : Machine) → self.old.state.frame ≡ frame_of p
             → IsTabledBy p self.old.state m → OnOk result (GoesBySteps p m self.new.state) }
-        ensures solves { let p = content program.now in (budget : BudgetOf) → IsProgram p → HasFewNodes p
+        ensures solves { let p = content program.now in (budget : BudgetOf) → HasFewNodes p
             → WorksOn p budget self.old → OnOk result (SolvesOnce p self.old.state self.new.state) }
         ensures made { let p = content program.now in (budget : BudgetOf) (first : ProgramOf) (edits rest : List Edit) (came : ℕ)
             → WorksOn p budget self.old → IsInHistory first edits came p rest self.old.state
             → OnOk result (IsInHistory first edits came p rest self.new.state) }
         // so many solves were committed, and no more, or it can't go on
-        ensures amount { let p = content program.now in (budget : BudgetOf) → IsProgram p → HasFewNodes p
+        ensures amount { let p = content program.now in (budget : BudgetOf) → HasFewNodes p
             → WorksOn p budget self.old → OnOk result (SolvesAsAsked p work self.old.state self.new.state) }
         // where as many are asked for as are ever committed, it can't go on
-        ensures endless { work ≡ 2 ^ 64 - 1 → let p = content program.now in (budget : BudgetOf) → IsProgram p → HasFewNodes p
+        ensures endless { work ≡ 2 ^ 64 - 1 → let p = content program.now in (budget : BudgetOf) → HasFewNodes p
             → WorksOn p budget self.old → OnOk result (IsAtEnd p self.new.state) }
     {
         'steps: loop {
@@ -94,9 +94,9 @@ impl Working {
             → WorksOn p budget self.old → IfOk result (TellsWhy p budget) }
         ensures stays { let p = content program.now in (budget : BudgetOf)
             → WorksOn p budget self.old → OnOk result (WorksOn p budget self.new) }
-        ensures steps { let p = content program.now in (m : Machine) → IsProgram p → self.old.state.frame ≡ frame_of p
+        ensures steps { let p = content program.now in (m : Machine) → self.old.state.frame ≡ frame_of p
             → IsTabledBy p self.old.state m → OnOk result (GoesBySteps p m self.new.state) }
-        ensures solves { let p = content program.now in (budget : BudgetOf) → IsProgram p → HasFewNodes p
+        ensures solves { let p = content program.now in (budget : BudgetOf) → HasFewNodes p
             → WorksOn p budget self.old → IfOk result (IsFoundBySolves p self.old.state self.new.state) }
         ensures made { let p = content program.now in (budget : BudgetOf) (first : ProgramOf) (edits rest : List Edit) (came : ℕ)
             → WorksOn p budget self.old → IsInHistory first edits came p rest self.old.state
@@ -104,7 +104,7 @@ impl Working {
         ensures claims { let p = content program.now in (budget : BudgetOf) (first : ProgramOf) (edits rest : List Edit) (came : ℕ)
             → WorksOn p budget self.old → IsInHistory first edits came p rest self.old.state
             → IfOk result (IsFoundInHistory first edits came p rest) }
-        ensures ends { let p = content program.now in (budget : BudgetOf) → IsProgram p → HasFewNodes p
+        ensures ends { let p = content program.now in (budget : BudgetOf) → HasFewNodes p
             → WorksOn p budget self.old → OnOk result (IsAtEnd p self.new.state) }
     {
         self.run(alloc, program, ENDLESS)?;
@@ -121,7 +121,7 @@ impl Working {
         ensures stays { let p = content program.now in (budget : BudgetOf) → IsSmall p
             → self.old.state.counts.since_report < self.old.state.budget.solves
             → WorksOn p budget self.old → OnOk result (WorksOn p budget self.new) }
-        ensures solves { let p = content program.now in (budget : BudgetOf) → IsProgram p → HasFewNodes p
+        ensures solves { let p = content program.now in (budget : BudgetOf) → HasFewNodes p
             → self.old.state.counts.since_report < self.old.state.budget.solves → IsAtEnd p self.old.state
             → WorksOn p budget self.old → OnOk result (SolvesAnew p self.old.state self.new.state) }
         ensures made { let p = content program.now in (budget : BudgetOf) (first : ProgramOf) (edits rest : List Edit) (came : ℕ)
@@ -138,7 +138,7 @@ impl Method {
     /// The method before any solve.
     pub fn begin(alloc: Global, program: &Program, budget: Budget) -> Result<Method, Memory>
         ensures stands { let p = content program.now in IsSmall p → IfOk result (StandsOn p budget) }
-        ensures begins { let p = content program.now in IsProgram p → HasFewNodes p → IfOk result (Begins p budget) }
+        ensures begins { let p = content program.now in HasFewNodes p → IfOk result (Begins p budget) }
         // with any edits that are to come
         ensures made { let p = content program.now in (rest : List Edit) → AreToCome p rest → IfOk result (IsInScript p rest 0 p rest) }
     {
@@ -161,10 +161,10 @@ impl Method {
             → StandsOn p budget self.old → OnOk result (StandsOn p budget self.new) }
         ensures steps { OnOk result (WorksBySteps (content program.now) self.old self.new) }
         // where the method stands on the program, it solves programs of its nodes
-        ensures solves { let p = content program.now in (budget : BudgetOf) → IsProgram p → HasFewNodes p
+        ensures solves { let p = content program.now in (budget : BudgetOf) → HasFewNodes p
             → StandsOn p budget self.old → OnOk result (WorksBySolves p self.old self.new) }
         // as many as are asked for, or fewer where it can't go on
-        ensures amount { let p = content program.now in (budget : BudgetOf) → IsProgram p → HasFewNodes p
+        ensures amount { let p = content program.now in (budget : BudgetOf) → HasFewNodes p
             → StandsOn p budget self.old → OnOk result (WorksAsAsked p work self.old self.new) }
         // in a script the method goes on in its history
         ensures made { let p = content program.now in (budget : BudgetOf) (first : ProgramOf) (edits rest : List Edit) (came : ℕ)
@@ -185,7 +185,7 @@ impl Method {
             → StandsOn p budget self.old → OnOk result (StandsOn p budget self.new) }
         ensures steps { OnOk result (WorksBySteps (content program.now) self.old self.new) }
         // where the method stands on the program, what it finds comes of solves of programs of its nodes
-        ensures solves { let p = content program.now in (budget : BudgetOf) → IsProgram p → HasFewNodes p
+        ensures solves { let p = content program.now in (budget : BudgetOf) → HasFewNodes p
             → StandsOn p budget self.old → IfOk result (FindsBySolves p self.old self.new) }
         // in a script the method goes on in its history
         ensures made { let p = content program.now in (budget : BudgetOf) (first : ProgramOf) (edits rest : List Edit) (came : ℕ)
@@ -196,7 +196,7 @@ impl Method {
             → StandsOn p budget self.old → IsInScript first edits came p rest self.old
             → IfOk result (FindsInScript first edits came p rest self.old) }
         // it ends only where it can't go on
-        ensures ends { let p = content program.now in (budget : BudgetOf) → IsProgram p → HasFewNodes p
+        ensures ends { let p = content program.now in (budget : BudgetOf) → HasFewNodes p
             → StandsOn p budget self.old → OnOk result (EndsAt p self.new) }
     {
         match self {
@@ -219,7 +219,7 @@ impl Method {
     pub fn start_over(&mut self, alloc: Global, program: &Program) -> Result<(), Memory>
         ensures stays { let p = content program.now in (budget : BudgetOf) → IsSmall p
             → is_spent self.old ≡ false → StandsOn p budget self.old → OnOk result (StandsOn p budget self.new) }
-        ensures solves { let p = content program.now in (budget : BudgetOf) → IsProgram p → HasFewNodes p
+        ensures solves { let p = content program.now in (budget : BudgetOf) → HasFewNodes p
             → StandsOn p budget self.old → OnOk result (WorksAnew p self.old self.new) }
         // in a script the method stays in its history, or begins a new one
         ensures made { let p = content program.now in (budget : BudgetOf) (first : ProgramOf) (edits rest : List Edit) (came : ℕ)

@@ -25,7 +25,7 @@ use Rattle.tree_build.specs.Wheels.{wheels_of}
 use Rattle.tree_build.specs.Branches.{branch_rows}
 use Rattle.tree_build.specs.Finish.{value_interval, value_row, value_rows, value_nodes, position_at, block_paths, branch_paths, finish_walk}
 use Rattle.tree_build.specs.Walks.{debuts_of, paths_of, block_rows, block_all, branch_all}
-use Rattle.tree_laws.proofs.Nodes.{AreMade, nodes_made}
+use Rattle.tree_build.proofs.NodeLaws.{AreMade, nodes_made}
 use Rattle.edit_defs.specs.Intervals.{width, Apart, HasWidth}
 use Rattle.edit_defs.specs.Shifts.{HasWidths}
 use Rattle.edit_defs.proofs.IntervalLaws.{interval-is, right-is}

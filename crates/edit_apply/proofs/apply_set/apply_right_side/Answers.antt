@@ -1,4 +1,4 @@
-use Rattle.std.proofs.Common.{◌≡◌, ap, sym, ◌∙◌}
+use Rattle.std.proofs.Common.{ap, sym, ◌∙◌}
 use Rattle.scen_defs.specs.Program.{Program, content}
 use Rattle.edit_defs.specs.Limits.{counts}
 use Rattle.edit_apply.proofs.Counting.{right_counts}

@@ -1,4 +1,4 @@
-use Rattle.std.proofs.Common.{◌≡◌, ◌++◌, ◌∷◌, [], None, Ok, ap, sym, ◌∙◌}
+use Rattle.std.proofs.Common.{◌++◌, ◌∷◌, [], None, Ok, ap, sym, ◌∙◌}
 use Rattle.rationals.specs.Passes.{sub_walk, then_value, then_walk}
 use Rattle.scen_defs.specs.Program.{scenario_content, scenarios_content}
 use Rattle.edit_apply.specs.declared.scaled.Scale.TheVariants.{Times}

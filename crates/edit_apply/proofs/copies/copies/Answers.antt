@@ -1,4 +1,3 @@
-use Rattle.std.proofs.Common.{◌≡◌}
 use Rattle.scen_defs.specs.Program.{nodes_content}
 use Rattle.edit_apply.proofs.Numbers.{copies_end}
 use Rattle.edit_apply.proofs.copies.copies.Goals as goal

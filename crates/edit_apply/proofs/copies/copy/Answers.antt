@@ -1,5 +1,3 @@
-use Rattle.std.proofs.Common.{◌≡◌, ◌∙◌, ap, sym, Option, Some, IfOk}
-use Rattle.scen_defs.specs.Program.{Node}
 use Rattle.scen_defs.proofs.NodeReads.{node_read, dead_read, past_read}
 use Rattle.edit_apply.proofs.Grown.{copied_from, copied_ok}
 use Rattle.edit_apply.proofs.copies.copy.Goals as goal

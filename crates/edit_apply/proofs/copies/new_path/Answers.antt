@@ -1,4 +1,3 @@
-use Rattle.std.proofs.Common.{◌≡◌}
 use Rattle.edit_apply.proofs.Numbers.{numbers_end}
 use Rattle.edit_apply.proofs.copies.new_path.Goals as goal
 

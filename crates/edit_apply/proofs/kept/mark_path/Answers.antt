@@ -1,4 +1,3 @@
-use Rattle.std.proofs.Common.{◌≡◌}
 use Rattle.edit_apply.specs.Kept.{with_path}
 use Rattle.edit_apply.proofs.Marks.{marks_end, next_mark}
 use Rattle.edit_apply.proofs.kept.mark_path.Goals as goal

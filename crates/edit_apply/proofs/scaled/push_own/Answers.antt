@@ -1,4 +1,4 @@
-use Rattle.std.proofs.Common.{◌≡◌, ◌++◌, ◌∷◌, [], List, Option, ap, sym, ◌∙◌}
+use Rattle.std.proofs.Common.{◌++◌, ◌∷◌, [], Option, ap, sym, ◌∙◌}
 use Rattle.rationals.specs.Rational.{ℚ}
 use Rattle.scen_defs.specs.Program.{Scenario, scenario_content, scenarios_content}
 use Rattle.edit_apply.specs.Scaled.{own_part}

@@ -1,4 +1,4 @@
-use Rattle.std.proofs.Common.{◌≡◌, ◌++◌, ◌∷◌, [], Ok, ap, sym, ◌∙◌}
+use Rattle.std.proofs.Common.{◌++◌, ◌∷◌, [], Ok, ap, sym, ◌∙◌}
 use Rattle.rationals.specs.Passes.{then_value}
 use Rattle.scen_defs.specs.Program.{Scenario, scenario_content, scenarios_content}
 use Rattle.edit_apply.specs.Scaled.{with_chance}

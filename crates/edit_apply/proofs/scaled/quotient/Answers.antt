@@ -1,4 +1,4 @@
-use Rattle.std.proofs.Common.{◌≡◌, ◌∙◌, ap, sym, Ok}
+use Rattle.std.proofs.Common.{◌∙◌, ap, sym, Ok}
 use Rattle.rationals.specs.Passes.{div_walk}
 use Rattle.scen_tree.proofs.SumLemmas.{quotient_by_zero}
 use Rattle.edit_apply.proofs.scaled.quotient.Goals as goal

@@ -1,5 +1,4 @@
 use Rattle.std.proofs.Common.{◌≡◌, true, false, List, ℕ, sym, subst, ◌∙◌}
-use Rattle.smps_words.specs.Names.{same_name}
 use Rattle.scen_defs.specs.Lists.{passes_at}
 use Rattle.scen_defs.specs.Program.{scenarios_content}
 use Rattle.edit_defs.specs.After.{is_known, is_named}

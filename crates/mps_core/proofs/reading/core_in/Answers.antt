@@ -13,10 +13,6 @@ pub returns-in-Ok-clause-means : goal.returns-in-Ok-clause-means
 returns-in-Ok-clause-means c =
     (reading_as c.args.text.now (Ok (filed c.file_lines.new.draft)) c.in_ok-file_lines.ensures).means c.in-Ok.core c.in-Ok.ensures
 
-pub returns-in-Ok-clause-core : goal.returns-in-Ok-clause-core
-returns-in-Ok-clause-core c =
-    (reading_as c.args.text.now (Ok (filed c.file_lines.new.draft)) c.in_ok-file_lines.ensures).is_core c.in-Ok.core c.in-Ok.ensures
-
 pub returns-in-Ok-clause-faults : goal.returns-in-Ok-clause-faults
 returns-in-Ok-clause-faults c = (reading_as c.args.text.now (Ok (filed c.file_lines.new.draft)) c.in_ok-file_lines.ensures).file
 

@@ -1,6 +1,6 @@
 -- The last column is closed first; that changes no constraint, name or bound.
-use Rattle.std.proofs.Common.{◌∙◌, ◌∷◌, ap, sym, length, drop, List, ℕ, arith}
-use Rattle.core_defs.specs.Core.{column_names}
+use Rattle.std.proofs.Common.{◌∙◌, ◌∷◌, ap, sym, subst₂, length, drop, List, ℕ, arith}
+use Rattle.core_defs.specs.Core.{column_names, IsCore}
 use Rattle.core_defs.specs.Filed.{Filed}
 use Rattle.core_defs.specs.Finished.{column_defs}
 use Rattle.core_defs.specs.Stated.{name_of_set}
@@ -13,6 +13,15 @@ of_parts-requires-clause-columns c =
     c.replace-column_names.ensures.value ∙ c.in_ok-close_column.ensures.names
     ∙ sym (ap column_names (rw c.replace-parts.ensures.value at c.in_ok-columns.ensures ∙ same_column_defs (filed c.args.draft.now) (filed c.close_column.new.self) c.in_ok-close_column.ensures.rest _
     ∙ ap (λ (g : Filed). column_defs (filed c.args.draft.now) 0 g.parts) c.in_ok-close_column.ensures.closed) ∙ c.requires.named)
+
+pub of_parts-requires-clause-keeps : goal.of_parts-requires-clause-keeps
+of_parts-requires-clause-keeps c =
+    let f = filed c.args.draft.now in
+    let rest = c.in_ok-close_column.ensures.rest in
+    let rows = c.in_ok-rows.ensures ∙ same_row_defs f (filed c.close_column.new.self) c.new.result.items c.new-2.result.items rest in
+    let columns = rw c.replace-parts.ensures.value at c.in_ok-columns.ensures ∙ same_column_defs f (filed c.close_column.new.self) rest _
+    ∙ ap (λ (g : Filed). column_defs f 0 g.parts) c.in_ok-close_column.ensures.closed in
+    subst₂ IsCore (sym rows) (sym columns) c.requires.keeps
 
 pub returns : goal.returns
 returns c =

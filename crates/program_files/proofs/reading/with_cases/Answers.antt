@@ -6,7 +6,8 @@ use Rattle.program_files.specs.Views.{MeansOrRefused, unbuilt_of}
 use Rattle.smps_time.specs.View.{stages_view}
 use Rattle.stoch_defs.specs.Random.{content as content_of}
 use Rattle.program_files.proofs.RefusedLemmas.{stops_build}
-use Rattle.program_files.proofs.TreeLemmas.{meant_of, program_of, tree_of}
+use Rattle.program_files.proofs.TreeLemmas.{meant_of, staged, periods, cases}
+use Rattle.scen_defs.proofs.Valid.{programs_are_trees}
 use Rattle.build_laws.specs.Law.{IsMeant}
 use Rattle.scen_defs.specs.Program.{content}
 use Rattle.program_files.proofs.reading.with_cases.Goals as goal
@@ -31,12 +32,17 @@ returns-in-Ok-clause-means c =
       built_is = sym meant.walk ∙ c.in-Ok.ensures.1;
     }
 
-pub returns-in-Ok-clause-keeps : goal.returns-in-Ok-clause-keeps
-returns-in-Ok-clause-keeps c =
-    program_of c.args.core (given_bytes c.args.texts.now.time) (stages_view c.args.periods.now) (given_bytes c.args.texts.now.stoch) (content_of c.args.stoch.now) (content c.in-Ok.program)
-    c.requires.is_core c.requires.fits c.requires.periods c.requires.cases c.in-Ok.ensures.0 c.in-Ok.ensures.1
+pub build-requires-clause-staged : goal.build-requires-clause-staged
+build-requires-clause-staged c = staged c.args.core (given_bytes c.args.texts.now.time) (stages_view c.args.periods.now) c.requires.periods
+
+pub build-requires-clause-periods : goal.build-requires-clause-periods
+build-requires-clause-periods c = (periods c.args.core (given_bytes c.args.texts.now.time) (stages_view c.args.periods.now) c.requires.periods).0
+
+pub build-requires-clause-names : goal.build-requires-clause-names
+build-requires-clause-names c = (periods c.args.core (given_bytes c.args.texts.now.time) (stages_view c.args.periods.now) c.requires.periods).1
+
+pub build-requires-clause-cases : goal.build-requires-clause-cases
+build-requires-clause-cases c = cases c.args.core (stages_view c.args.periods.now) (given_bytes c.args.texts.now.stoch) (content_of c.args.stoch.now) c.requires.cases
 
 pub returns-in-Ok-clause-tree : goal.returns-in-Ok-clause-tree
-returns-in-Ok-clause-tree c =
-    tree_of c.args.core (given_bytes c.args.texts.now.time) (stages_view c.args.periods.now) (given_bytes c.args.texts.now.stoch) (content_of c.args.stoch.now) (content c.in-Ok.program)
-    c.requires.is_core c.requires.fits c.requires.periods c.requires.cases c.in-Ok.ensures.0 c.in-Ok.ensures.1
+returns-in-Ok-clause-tree c = (programs_are_trees (content c.in-Ok.program) c.in-Ok.program.keeps).0

@@ -1,6 +1,5 @@
 use Rattle.std.proofs.Common.{◌≡◌, ◌++◌, List, length}
 use Rattle.scen_defs.specs.Program.{content}
-use Rattle.scen_defs.specs.Valid.{IsProgram}
 use Rattle.edit_defs.specs.Limits.{counts}
 use Rattle.edit_script.specs.Allowed.{AreAllowed}
 use Rattle.script_checks.specs.declared.single.Checked.{Checked}
@@ -8,8 +7,7 @@ use Rattle.script_checks.specs.Checked.{AreChecked}
 use Rattle.script_checks.proofs.checks.check_script.Given as goal
 
 abbrev pub invariant-loop-rest : goal.invariant-loop-rest
-invariant-loop-rest l = IsProgram (content l.program)
-    × AreAllowed (content l.program) l.rest
+invariant-loop-rest l = AreAllowed (content l.program) l.rest
     × (l.counted ≡ counts (content l.program).nodes)
     × ((later : List Checked) → AreChecked (content l.program) l.rest l.waiting later
     → AreChecked (content l.fn.program) l.script.items.items l.reports (l.checks.items ++ later))

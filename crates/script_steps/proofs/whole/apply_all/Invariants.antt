@@ -1,13 +1,11 @@
 use Rattle.std.proofs.Common.{◌≡◌, length}
 use Rattle.scen_defs.specs.Program.{content}
-use Rattle.scen_defs.specs.Valid.{IsProgram}
 use Rattle.edit_defs.specs.Limits.{counts}
 use Rattle.edit_script.specs.Allowed.{AreAllowed, program_after}
 use Rattle.script_steps.proofs.whole.apply_all.Given as goal
 
 abbrev pub invariant-loop-rest : goal.invariant-loop-rest
-invariant-loop-rest l = IsProgram (content l.program)
-    × AreAllowed (content l.program) l.rest
+invariant-loop-rest l = AreAllowed (content l.program) l.rest
     × (l.counted ≡ counts (content l.program).nodes)
     × (program_after (content l.program) l.rest ≡ program_after (content l.fn.program) l.script.items.items)
 

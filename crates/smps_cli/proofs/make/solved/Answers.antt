@@ -13,9 +13,9 @@ returns c = record {
   means = subst (λ (texts : Texts). MeansProgram texts (content c.args.program.now)) c.requires.texts c.requires.means;
   widths = meant_have_widths (texts_view c.args.texts.now) (content c.args.program.now) c.requires.means;
   report = c.in_ok-report.report;
-  truth = c.in_ok-report.ensures.truth c.requires.keeps.small c.requires.tree;
-  counts = c.in_ok-report.ensures.counts c.requires.keeps.small;
-  comes = c.in_ok-report.ensures.comes c.requires.keeps (few_nodes (texts_view c.args.texts.now) (content c.args.program.now) c.requires.means);
+  truth = c.in_ok-report.ensures.truth c.args.program.now.keeps.small c.requires.tree;
+  counts = c.in_ok-report.ensures.counts c.args.program.now.keeps.small;
+  comes = c.in_ok-report.ensures.comes (few_nodes (texts_view c.args.texts.now) (content c.args.program.now) c.requires.means);
   text = c.in_ok-output.ensures;
   told = c.command_status.ensures;
 }

@@ -27,8 +27,8 @@ returns-clause-stands c = λ stands. on_ok c.report.result (StandsOn (content c.
     (c.in_ok-found.ensures.stays c.args.budget stands)
 
 pub returns-clause-shows : goal.returns-clause-shows
-returns-clause-shows c = λ start came i few stands.
+returns-clause-shows c = λ start came few stands.
     shows_found c.args.budget start came c.args.program.now c.args.method.now c.find.new.self c.in_ok-found.found c.args.number c.report.result
-    (c.in_ok-found.ensures.solves c.args.budget i few stands) (c.in_ok-found.ensures.ends c.args.budget i few stands)
+    (c.in_ok-found.ensures.solves c.args.budget few stands) (c.in_ok-found.ensures.ends c.args.budget few stands)
     c.in_ok-found.ensures.steps c.report.ensures.number c.report.ensures.exact
-    (c.report.ensures.truth (programs_are_trees (content c.args.program.now) i).0)
+    (c.report.ensures.truth (programs_are_trees (content c.args.program.now) c.args.program.now.keeps).0)

@@ -15,7 +15,7 @@ loop-init c = record {
   truth = λ small stands tree. c.in_ok-report.ensures.truth stands tree;
   equal = c.in_ok-report.ensures.equal;
   stands = λ small stands. c.in_ok-report.ensures.stands stands;
-  under_way = λ start came i few stands way. (c.in_ok-report.ensures.shows start came i few stands, first_counts c.found.new.method);
+  under_way = λ start came few stands way. (c.in_ok-report.ensures.shows start came few stands, first_counts c.found.new.method);
 }
 
 pub loop-preserved : goal.loop-preserved
@@ -34,22 +34,24 @@ loop-preserved c =
       equal = c.in_ok-report-2.ensures.equal;
       stands = λ small stands.
           c.in_ok-report-2.ensures.stands (c.in_ok-start_over.ensures.stays budget small left.1 (c.loop.invariant.stands small stands));
-      under_way = λ start came i few stands way.
+      under_way = λ start came few stands way.
+          let i = c.args.program.now.keeps in
           let mid = c.loop.invariant.stands i.small stands in
-          let before = c.loop.invariant.under_way start came i few stands way in
+          let before = c.loop.invariant.under_way start came few stands way in
           round_counts budget start came c.args.program.now c.loop.counter c.args.method.now c.loop.method c.start_over.new.self c.found-in-loop.new.method
-          c.loop.report c.in_ok-report-2.report bits left.0 left.1 mid i few way before.0 before.1 (c.in_ok-start_over.ensures.solves budget i few mid)
-          (c.in_ok-report-2.ensures.shows start came i few (c.in_ok-start_over.ensures.stays budget i.small left.1 mid));
+          c.loop.report c.in_ok-report-2.report bits left.0 left.1 mid few way before.0 before.1 (c.in_ok-start_over.ensures.solves budget few mid)
+          (c.in_ok-report-2.ensures.shows start came few (c.in_ok-start_over.ensures.stays budget i.small left.1 mid));
     }
 
 pub returns-clause-stands : goal.returns-clause-stands
 returns-clause-stands c = λ small stands. c.close.ensures.stays (content c.args.program.now) c.args.budget (c.loop.invariant.stands small stands)
 
 pub returns-clause-comes : goal.returns-clause-comes
-returns-clause-comes c = λ start came i few stands rests way.
+returns-clause-comes c = λ start came few stands rests way.
     let p = content c.args.program.now in
-    let under = c.loop.invariant.under_way start came i few stands way in
-    comes_of c.args.budget start came c.args.program.now c.args.method.now c.loop.method c.close.new.self c.loop.report i few
+    let i = c.args.program.now.keeps in
+    let under = c.loop.invariant.under_way start came few stands way in
+    comes_of c.args.budget start came c.args.program.now c.args.method.now c.loop.method c.close.new.self c.loop.report few
     (c.loop.invariant.stands i.small stands) rests (c.loop.invariant.truth i.small stands (programs_are_trees p i).0) way under.0
     (elim c.loop-test.branch [
       | goal.else-loop-test w ↦ inr (counts_fewer c.loop.counter c.args.budget.solves c.loop.method (omega (arith, w.loop-test.false)) under.1)
@@ -58,12 +60,12 @@ returns-clause-comes c = λ start came i few stands rests way.
     ]) c.close.ensures.after
 
 pub returns-clause-cleared : goal.returns-clause-cleared
-returns-clause-cleared c = λ i few stands rests.
+returns-clause-cleared c = λ few stands rests.
     let p = content c.args.program.now in
     tells_cleared c.args.budget p (2 ^ 20) c.args.program.now c.args.method.now c.loop.method c.close.new.self c.loop.report rests
-    (c.loop.invariant.under_way p (2 ^ 20) i few stands (many_items c.args.budget p p c.args.method.now)).0 c.close.ensures.after
+    (c.loop.invariant.under_way p (2 ^ 20) few stands (many_items c.args.budget p p c.args.method.now)).0 c.close.ensures.after
 
 pub returns-clause-way : goal.returns-clause-way
-returns-clause-way c = λ start came i few stands way.
-    way_told c.args.budget start came c.args.program.now c.args.method.now c.loop.method c.close.new.self c.loop.report i
-    (c.loop.invariant.stands i.small stands) (c.loop.invariant.under_way start came i few stands way).0 c.close.ensures.after way
+returns-clause-way c = λ start came few stands way.
+    way_told c.args.budget start came c.args.program.now c.args.method.now c.loop.method c.close.new.self c.loop.report
+    (c.loop.invariant.stands c.args.program.now.keeps.small stands) (c.loop.invariant.under_way start came few stands way).0 c.close.ensures.after way

@@ -1,7 +1,7 @@
 use Rattle.std.proofs.Common.{◌≡◌, ℕ}
 use Rattle.scen_defs.specs.Fits.{ListsHaveNames}
 use Rattle.scen_defs.specs.Program.{Program as Started, IsTree, content, view_of}
-use Rattle.scen_defs.specs.Valid.{IsSmall, IsProgram}
+use Rattle.scen_defs.specs.Valid.{IsSmall}
 use Rattle.report_defs.specs.Truth.{IsTrue, HasCounts}
 use Rattle.proved_report.specs.Reports.{EqualIsOptimal}
 use Rattle.tree_method.specs.Stands.{HasFewNodes, StandsOn}
@@ -19,7 +19,7 @@ invariant-loop l = record {
       → IsTrue (view_of (content l.program)) (told_reasons l.program l.budget) l.report;
   equal : EqualIsOptimal l.report;
   stands : IsSmall (content l.program) → StandsOn (content l.program) l.budget l.fn.method → StandsOn (content l.program) l.budget l.method;
-  under_way : (start : Started) (came : ℕ) → IsProgram (content l.program) → HasFewNodes (content l.program)
+  under_way : (start : Started) (came : ℕ) → HasFewNodes (content l.program)
       → StandsOn (content l.program) l.budget l.fn.method → IsUnderWay l.budget start came (content l.program) l.fn.method
       → ShowsFound l.budget start came l.program l.fn.method l.method l.report × HasCounted l.counter l.method;
 }

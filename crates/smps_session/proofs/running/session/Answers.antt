@@ -20,10 +20,11 @@ pub returns-clause-equal : goal.returns-clause-equal
 returns-clause-equal c = c.reported.ensures.equal
 
 pub returns-clause-comes : goal.returns-clause-comes
-returns-clause-comes c = λ i few.
+returns-clause-comes c = λ few.
     let p = content c.args.program.now in
-    let begins = c.in_ok-method.ensures.begins i few in
+    let i = c.args.program.now.keeps in
+    let begins = c.in_ok-method.ensures.begins few in
     comes_of_all _ c.args.program.now c.in_ok-method.method c.reported.new.method c.reported.result begins
-    (c.reported.ensures.comes p 0 i few (c.in_ok-method.ensures.stands i.small)
+    (c.reported.ensures.comes p 0 few (c.in_ok-method.ensures.stands i.small)
     (first_cleared p (record { solves = c.args.solves; pivots = c.args.pivots }) c.in_ok-method.method begins)
     (begins_way (record { solves = c.args.solves; pivots = c.args.pivots }) 0 p c.in_ok-method.method i (λ small. begins)))

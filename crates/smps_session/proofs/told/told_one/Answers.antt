@@ -8,17 +8,17 @@ pub returns-clause-told : goal.returns-clause-told
 returns-clause-told c = λ start came way.
     is_told c.args.budget start came c.args.number c.args.program.now c.args.method.now c.reported.new.method c.in_ok-report.report _
     c.in_ok-report.ensures.number (rw c.new-text.ensures.items at c.in_ok-print_report.ensures.ok) refl
-    (c.in_ok-report.ensures.counts c.requires.program.small)
-    (c.in_ok-report.ensures.truth c.requires.program.small c.requires.stands (programs_are_trees (content c.args.program.now) c.requires.program).0)
+    (c.in_ok-report.ensures.counts c.args.program.now.keeps.small)
+    (c.in_ok-report.ensures.truth c.args.program.now.keeps.small c.requires.stands (programs_are_trees (content c.args.program.now) c.args.program.now.keeps).0)
     c.in_ok-report.ensures.equal
-    (λ few. c.in_ok-report.ensures.comes start came c.requires.program few c.requires.stands (c.requires.cleared few) way)
+    (λ few. c.in_ok-report.ensures.comes start came few c.requires.stands (c.requires.cleared few) way)
 
 pub returns-clause-stands : goal.returns-clause-stands
-returns-clause-stands c = c.in_ok-report.ensures.stands c.requires.program.small c.requires.stands
+returns-clause-stands c = c.in_ok-report.ensures.stands c.args.program.now.keeps.small c.requires.stands
 
 pub returns-clause-cleared : goal.returns-clause-cleared
-returns-clause-cleared c = λ few. c.in_ok-report.ensures.cleared c.requires.program few c.requires.stands (c.requires.cleared few)
+returns-clause-cleared c = λ few. c.in_ok-report.ensures.cleared few c.requires.stands (c.requires.cleared few)
 
 pub returns-clause-way : goal.returns-clause-way
 returns-clause-way c = λ start came way few.
-    c.in_ok-report.ensures.way start came c.requires.program few c.requires.stands way few
+    c.in_ok-report.ensures.way start came few c.requires.stands way few

@@ -1,20 +1,18 @@
--- The edit is allowed, so that it makes a program.
+-- The edit is allowed.
 use Rattle.std.proofs.Common.{◌≤◌, List, length, sym, subst, arith}
 use Rattle.std.proofs.lemmas.Grind.{common_steps}
 use Rattle.scen_defs.specs.Program.{content}
 use Rattle.edit_defs.specs.declared.edit.Item.{Item}
 use Rattle.edit_script.specs.Drafts.{Leads}
 use Rattle.edit_script.specs.Script.{edit_item}
-use Rattle.edit_script.proofs.Leading.{leads_edit, nodes_length, one_more, still_program}
+use Rattle.edit_script.proofs.Leading.{leads_edit, nodes_length, one_more}
 use Rattle.edit_script.proofs.TableLemmas.{still_tables}
 use Rattle.edit_script.proofs.draft.Draft.change.Goals as goal
 
 pub returns-clause-good : goal.returns-clause-good
 returns-clause-good c =
     let old = c.args.self.now in
-    let places : length (content old.program).nodes ≤ 1000000 = grind (arith, common_steps, nodes_length old.program.nodes.items, c.len.ensures, c.if-len-gt-MOST_PLACES.false) in
     record {
-      program = still_program (content old.program) (content c.apply_near.new.program) c.args.edit c.requires.good.program places c.requires.asks c.in-Ok.ensures.cause c.in-Ok.ensures.ok;
       counted = c.in-Ok.ensures.counted;
       tables = still_tables (content old.program) (content c.apply_near.new.program) c.args.edit old.tables c.note.new.self c.requires.good.tables c.in-Ok.ensures.ok c.in_ok-note.ensures.columns c.in_ok-note.ensures.rows;
       commands = omega (arith, c.requires.few);

@@ -2,7 +2,6 @@
 use Rattle.std.proofs.Common.{◌≡◌, ◌∙◌, ap₂, sym, subst, ◌≤◌, false, List, Option, length, arith}
 use Rattle.scen_defs.specs.declared.program.Node.{Node as NodeOf}
 use Rattle.scen_defs.specs.Program.{Program, content, nodes_content}
-use Rattle.scen_defs.specs.Valid.{IsProgram}
 use Rattle.edit_defs.specs.declared.edit.Item.{Item}
 use Rattle.edit_defs.specs.Limits.{counts}
 use Rattle.edit_script.specs.Script.{Stand}
@@ -17,9 +16,7 @@ returns-clause-stand c =
 
 pub returns-clause-good : goal.returns-clause-good
 returns-clause-good c =
-    let is : content c.in_ok-program.program ≡ content c.args.program.now = c.in_ok-program.ensures ∙ is_copy (content c.args.program.now) in
     record {
-      program = subst IsProgram (sym is) c.requires;
       counted = subst (λ (nodes : List (Option NodeOf)). c.in_ok-counted.counted ≡ counts (nodes_content nodes)) c.deref.ensures.value c.in_ok-counted.ensures;
       commands = omega arith;
       tables = c.in_ok-tables.ensures;
@@ -31,6 +28,3 @@ pub returns-clause-leads : goal.returns-clause-leads
 returns-clause-leads c =
     let is : content c.in_ok-program.program ≡ content c.args.program.now = c.in_ok-program.ensures ∙ is_copy (content c.args.program.now) in
     leads_start (content c.args.program.now) (content c.in_ok-program.program) c.new.result.items c.new.ensures.items is
-
-pub of-requires : goal.of-requires
-of-requires c = subst IsProgram (sym (c.in_ok-program.ensures ∙ is_copy (content c.args.program.now))) c.requires

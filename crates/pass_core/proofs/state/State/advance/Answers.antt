@@ -25,14 +25,14 @@ use Rattle.pass_core.proofs.state.State.advance.Goals as goal
 use Rattle.pass_core.proofs.state.State.advance.Goals.{else-is_closed-via-then-is_closed+else-ne, else-is_closed-via-else-is_closed}
 
 pub returns-then-not-has_room-clause-tabled : goal.returns-then-not-has_room-clause-tabled
-returns-then-not-has_room-clause-tabled c = λ m i frame t.
+returns-then-not-has_room-clause-tabled c = λ m frame t.
     let p = content c.args.program.now in
     let s = c.get_ready.new.self in
     let u : IsTabledBy p s m = ready_tabled p m c.args.self.now s t c.in_ok-get_ready.ensures.others c.in_ok-get_ready.ensures.begun in
     rested p m s (λ room n may. let no : false ≡ true = c.if-not-has_room.ensures.1 (room_in m s.table u.fits room) in absurd (cc)) u
 
 pub returns-then-ne-clause-tabled : goal.returns-then-ne-clause-tabled
-returns-then-ne-clause-tabled c = λ m i frame t.
+returns-then-ne-clause-tabled c = λ m frame t.
     let p = content c.args.program.now in
     let s = c.get_ready.new.self in
     let u : IsTabledBy p s m = ready_tabled p m c.args.self.now s t c.in_ok-get_ready.ensures.others c.in_ok-get_ready.ensures.begun in
@@ -41,7 +41,7 @@ returns-then-ne-clause-tabled c = λ m i frame t.
     (c.in_ok-open_next.ensures.tabled p m u c.in_ok-get_ready.ensures.begun room.1)
 
 pub returns-in_ok-solve-in-Some-clause-tabled : goal.returns-in_ok-solve-in-Some-clause-tabled
-returns-in_ok-solve-in-Some-clause-tabled c = λ m i frame t.
+returns-in_ok-solve-in-Some-clause-tabled c = λ m frame t.
     let p = content c.args.program.now in
     let s = c.get_ready.new.self in
     let u : IsTabledBy p s m = ready_tabled p m c.args.self.now s t c.in_ok-get_ready.ensures.others c.in_ok-get_ready.ensures.begun in
@@ -50,10 +50,10 @@ returns-in_ok-solve-in-Some-clause-tabled c = λ m i frame t.
     let b : IsBegunBy p (record s { table = c.begin.new.self }) m c.in-Some.node =
     begun_by p m s c.begin.new.self c.in-Some.node u c.in_ok-get_ready.ensures.begun room begins.0 begins.1 in
     turned EndsAnyhow p m c.in-Some.node c.solve.new.self
-    (c.in_ok-solve-in-Some.ensures.tabled m i (ap (λ (x : State). x.frame) c.in_ok-get_ready.ensures.others ∙ frame) b)
+    (c.in_ok-solve-in-Some.ensures.tabled m (ap (λ (x : State). x.frame) c.in_ok-get_ready.ensures.others ∙ frame) b)
 
 pub returns-in-None-clause-tabled : goal.returns-in-None-clause-tabled
-returns-in-None-clause-tabled c = λ m i frame t.
+returns-in-None-clause-tabled c = λ m frame t.
     let p = content c.args.program.now in
     let s = c.get_ready.new.self in
     let u : IsTabledBy p s m = ready_tabled p m c.args.self.now s t c.in_ok-get_ready.ensures.others c.in_ok-get_ready.ensures.begun in
@@ -61,7 +61,7 @@ returns-in-None-clause-tabled c = λ m i frame t.
     rested p m (record s { table = c.begin.new.self }) (λ room. none.0) (refit p m s c.begin.new.self u c.in_ok-get_ready.ensures.begun none.1)
 
 pub returns-then-not-has_room-clause-solves : goal.returns-then-not-has_room-clause-solves
-returns-then-not-has_room-clause-solves c = λ m i walk frame t stand.
+returns-then-not-has_room-clause-solves c = λ m walk frame t stand.
     let p = content c.args.program.now in
     let s = c.get_ready.new.self in
     let u : IsTabledBy p s m = ready_tabled p m c.args.self.now s t c.in_ok-get_ready.ensures.others c.in_ok-get_ready.ensures.begun in
@@ -78,8 +78,9 @@ returns-then-not-has_room-clause-solves c = λ m i walk frame t stand.
     })
 
 pub returns-then-ne-clause-solves : goal.returns-then-ne-clause-solves
-returns-then-ne-clause-solves c = λ m i walk frame t stand.
+returns-then-ne-clause-solves c = λ m walk frame t stand.
     let p = content c.args.program.now in
+    let i = c.args.program.now.keeps in
     let s = c.get_ready.new.self in
     let u : IsTabledBy p s m = ready_tabled p m c.args.self.now s t c.in_ok-get_ready.ensures.others c.in_ok-get_ready.ensures.begun in
     let room : HasRoom m = room_of m s.table u.fits (c.if-not-has_room.ensures.0 refl) in
@@ -88,20 +89,20 @@ returns-then-ne-clause-solves c = λ m i walk frame t stand.
     (c.in_ok-open_next.ensures.tabled p m u c.in_ok-get_ready.ensures.begun room.1)
     (c.in_ok-open_next.ensures.points p (c.in_ok-get_ready.ensures.points p stand))
     (opening_stuck p c.args.tree.now c.args.self.now s c.open_next.new.self c.in_ok-get_ready.ensures.others walk
-    (c.in_ok-open_next.ensures.reasons i walk (ap (λ (x : State). x.frame) c.in_ok-get_ready.ensures.others ∙ frame)))
+    (c.in_ok-open_next.ensures.reasons walk (ap (λ (x : State). x.frame) c.in_ok-get_ready.ensures.others ∙ frame)))
     (λ stop. ready_opens c.args.self.now s c.open_next.new.self c.in_ok-get_ready.ensures.others (c.in_ok-open_next.ensures.opened stop))
     (λ other there stop.
     let same : c.args.tree.now ≡ other = (let both : Ok c.args.tree.now ≡ Ok other = sym walk ∙ there in cc) in
     subst (λ (t : Tree). PutsFirstCuts p t c.args.self.now c.open_next.new.self) same
     (ready_puts p c.args.tree.now c.args.self.now s c.open_next.new.self c.in_ok-get_ready.ensures.others
-    (c.in_ok-open_next.ensures.first i walk (ap (λ (x : State). x.frame) c.in_ok-get_ready.ensures.others ∙ frame) stop)))
+    (c.in_ok-open_next.ensures.first walk (ap (λ (x : State). x.frame) c.in_ok-get_ready.ensures.others ∙ frame) stop)))
     (let begun = closed_begun p c.args.self.now i m frame t ((c.if-is_closed.ensures.meaning m u.fits).0 refl) in
     subst (λ (x : State). OpensAnyhow p x c.open_next.new.self)
     (ready_same c.args.self.now s c.in_ok-get_ready.ensures.others c.in_ok-get_ready.ensures.ready c.in_ok-get_ready.ensures.begun begun)
-    (c.in_ok-open_next.ensures.anyhow i walk (ap (λ (x : State). x.frame) c.in_ok-get_ready.ensures.others ∙ frame)))
+    (c.in_ok-open_next.ensures.anyhow walk (ap (λ (x : State). x.frame) c.in_ok-get_ready.ensures.others ∙ frame)))
 
 pub returns-in_ok-solve-in-Some-clause-solves : goal.returns-in_ok-solve-in-Some-clause-solves
-returns-in_ok-solve-in-Some-clause-solves c = λ m i walk frame t stand.
+returns-in_ok-solve-in-Some-clause-solves c = λ m walk frame t stand.
     let p = content c.args.program.now in
     let s = c.get_ready.new.self in
     let u : IsTabledBy p s m = ready_tabled p m c.args.self.now s t c.in_ok-get_ready.ensures.others c.in_ok-get_ready.ensures.begun in
@@ -111,10 +112,10 @@ returns-in_ok-solve-in-Some-clause-solves c = λ m i walk frame t stand.
     begun_by p m s c.begin.new.self c.in-Some.node u c.in_ok-get_ready.ensures.begun room begins.0 begins.1 in
     step_solved p c.args.self.now s m c.in-Some.node c.solve.new.self c.in_ok-get_ready.ensures.others c.in_ok-get_ready.ensures.ready
     (solves_before p s c.begin.new.self m c.in-Some.node c.solve.new.self
-    (c.in_ok-solve-in-Some.ensures.solves m i walk (ap (λ (x : State). x.frame) c.in_ok-get_ready.ensures.others ∙ frame) b (c.in_ok-get_ready.ensures.points p stand)))
+    (c.in_ok-solve-in-Some.ensures.solves m walk (ap (λ (x : State). x.frame) c.in_ok-get_ready.ensures.others ∙ frame) b (c.in_ok-get_ready.ensures.points p stand)))
 
 pub returns-in-None-clause-solves : goal.returns-in-None-clause-solves
-returns-in-None-clause-solves c = λ m i walk frame t stand.
+returns-in-None-clause-solves c = λ m walk frame t stand.
     let p = content c.args.program.now in
     let s = c.get_ready.new.self in
     let u : IsTabledBy p s m = ready_tabled p m c.args.self.now s t c.in_ok-get_ready.ensures.others c.in_ok-get_ready.ensures.begun in
@@ -139,28 +140,28 @@ returns-in-None-clause-solves c = λ m i walk frame t stand.
     })
 
 pub returns-then-not-has_room-clause-made : goal.returns-then-not-has_room-clause-made
-returns-then-not-has_room-clause-made c = λ b i walk frame right h.
+returns-then-not-has_room-clause-made c = λ b walk frame right h.
     let e = c.in_ok-get_ready.ensures.others in
     (same_made b c.args.self.now c.get_ready.new.self (ap (λ (x : State). x.banks) e) (ap (λ (x : State). x.kind) e) (ap (λ (x : State). x.ends) e)).1 h
 
 pub returns-then-ne-clause-made : goal.returns-then-ne-clause-made
-returns-then-ne-clause-made c = λ b i walk frame right h.
+returns-then-ne-clause-made c = λ b walk frame right h.
     let p = content c.args.program.now in
     let e = c.in_ok-get_ready.ensures.others in
-    c.in_ok-open_next.ensures.made b i walk (ap (λ (x : State). x.frame) e ∙ frame)
+    c.in_ok-open_next.ensures.made b walk (ap (λ (x : State). x.frame) e ∙ frame)
     (subst (λ (vs : List Version). AreBooksOf p vs b) (sym (ap (λ (x : State). x.versions) e)) right)
     ((same_made b c.args.self.now c.get_ready.new.self (ap (λ (x : State). x.banks) e) (ap (λ (x : State). x.kind) e) (ap (λ (x : State). x.ends) e)).1 h)
 
 pub returns-in_ok-solve-in-Some-clause-made : goal.returns-in_ok-solve-in-Some-clause-made
-returns-in_ok-solve-in-Some-clause-made c = λ b i walk frame right h.
+returns-in_ok-solve-in-Some-clause-made c = λ b walk frame right h.
     let p = content c.args.program.now in
     let e = c.in_ok-get_ready.ensures.others in
-    c.in_ok-solve-in-Some.ensures.made b i walk (ap (λ (x : State). x.frame) e ∙ frame)
+    c.in_ok-solve-in-Some.ensures.made b walk (ap (λ (x : State). x.frame) e ∙ frame)
     (subst (λ (vs : List Version). AreBooksOf p vs b) (sym (ap (λ (x : State). x.versions) e)) right)
     ((same_made b c.args.self.now c.get_ready.new.self (ap (λ (x : State). x.banks) e) (ap (λ (x : State). x.kind) e) (ap (λ (x : State). x.ends) e)).1 h)
 
 pub returns-in-None-clause-made : goal.returns-in-None-clause-made
-returns-in-None-clause-made c = λ b i walk frame right h.
+returns-in-None-clause-made c = λ b walk frame right h.
     let e = c.in_ok-get_ready.ensures.others in
     (same_made b c.args.self.now c.get_ready.new.self (ap (λ (x : State). x.banks) e) (ap (λ (x : State). x.kind) e) (ap (λ (x : State). x.ends) e)).1 h
 

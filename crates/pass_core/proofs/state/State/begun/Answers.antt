@@ -9,8 +9,9 @@ use Rattle.pass_core.proofs.TaskFits.{program_book, is_in}
 use Rattle.pass_core.proofs.state.State.begun.Goals as goal
 
 pub returns-clause-stated : goal.returns-clause-stated
-returns-clause-stated c = λ i walk frame lives.
+returns-clause-stated c = λ walk frame lives.
     let p = content c.args.program.now in
+    let i = c.args.program.now.keeps in
     let s = c.args.self.now in
     let v = c.of-version.result in
     let found = c.in_ok-datum.ensures.of_book (program_book s.kind p) (is_in s.kind p c.args.tree.now c.args.node v.rows v.costs i walk lives) frame in
@@ -26,8 +27,9 @@ returns-clause-stated c = λ i walk frame lives.
     }
 
 pub returns-in_default-clause-stated : goal.returns-in_default-clause-stated
-returns-in_default-clause-stated c = λ i walk frame lives.
+returns-in_default-clause-stated c = λ walk frame lives.
     let p = content c.args.program.now in
+    let i = c.args.program.now.keeps in
     let s = c.args.self.now in
     let v = c.of-version.result in
     let found = c.in_ok-datum.ensures.of_book (program_book s.kind p) (is_in s.kind p c.args.tree.now c.args.node v.rows v.costs i walk lives) frame in

@@ -19,7 +19,7 @@ returns-clause-tabled c = λ q t same few.
     on_ok c.begin_anew.result
     ((mid.is_begun ≡ false → c.args.is_grown ≡ false → IsUnused mid) → AreParents mid.frame.parents → IsUnused new)
     (IsTabled p new)
-    (λ unused. edited_tabled p q old mid new c.args.is_grown c.args.dues.now c.requires t same few
+    (λ unused. edited_tabled p q old mid new c.args.is_grown c.args.dues.now c.args.program.now.keeps t same few
     (c.sweep.ensures.frame ∙ c.in_ok-grow.ensures.frame) (c.sweep.ensures.table ∙ c.grow.ensures.table)
     (c.sweep.ensures.begun ∙ c.grow.ensures.begun) c.begin_anew.ensures.frame
     (c.begin_anew.ensures.banks ∙ c.in_ok-sweep.ensures.banks ∙ ap (swept_banks c.args.dues.now) c.in_ok-grow.ensures.banks)
@@ -29,7 +29,7 @@ returns-clause-tabled c = λ q t same few.
 
 pub returns-clause-stop : goal.returns-clause-stop
 returns-clause-stop c = λ q t same few.
-    c.begin_anew.ensures.stop (parents_behind (content c.args.program.now) c.args.self.now c.sweep.new.self c.args.is_grown c.requires same few
+    c.begin_anew.ensures.stop (parents_behind (content c.args.program.now) c.args.self.now c.sweep.new.self c.args.is_grown c.args.program.now.keeps same few
     (c.sweep.ensures.frame ∙ c.in_ok-grow.ensures.frame))
 
 pub returns-clause-made : goal.returns-clause-made

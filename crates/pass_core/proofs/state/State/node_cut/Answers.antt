@@ -12,8 +12,9 @@ use Rattle.pass_core.proofs.FirstCuts.{first_made}
 use Rattle.pass_core.proofs.state.State.node_cut.Goals as goal
 
 pub returns-clause-ground : goal.returns-clause-ground
-returns-clause-ground c = λ b priced i walk frame right lives h.
+returns-clause-ground c = λ b priced walk frame right lives h.
     let p = content c.args.program.now in
+    let i = c.args.program.now.keeps in
     let s = c.args.self.now in
     let v = c.of-version.result in
     let tree = c.args.tree.now in
@@ -34,8 +35,9 @@ returns-clause-ground c = λ b priced i walk frame right lives h.
 
 -- each live node has a datum
 pub returns-in_default-clause-first : goal.returns-in_default-clause-first
-returns-in_default-clause-first c = λ i walk frame lives.
+returns-in_default-clause-first c = λ walk frame lives.
     let p = content c.args.program.now in
+    let i = c.args.program.now.keeps in
     let v = c.of-version.result in
     let tree = c.args.tree.now in
     let found = c.in_ok-datum.ensures.of_book (program_book c.args.kind p) (is_in c.args.kind p tree c.args.node v.rows v.costs i walk lives)
@@ -43,8 +45,9 @@ returns-in_default-clause-first c = λ i walk frame lives.
     let no : None ≡ Some (datum_in c.args.kind p c.args.node v) = sym c.in_default.is ∙ found in absurd (cc)
 
 pub returns-clause-first : goal.returns-clause-first
-returns-clause-first c = λ i walk frame lives.
+returns-clause-first c = λ walk frame lives.
     let p = content c.args.program.now in
+    let i = c.args.program.now.keeps in
     let s = c.args.self.now in
     let v = c.of-version.result in
     let n = c.args.node in

@@ -30,11 +30,11 @@ pub returns-in-Err-clause-points : goal.returns-in-Err-clause-points
 returns-in-Err-clause-points c = λ p. c.not_opened.ensures.points p
 
 pub returns-in-Ok-clause-made : goal.returns-in-Ok-clause-made
-returns-in-Ok-clause-made c = λ b i walk frame right h.
-    c.open.ensures.made b (c.in-Ok.ensures.made b c.next-kind.ensures.priced i walk frame right) h
+returns-in-Ok-clause-made c = λ b walk frame right h.
+    c.open.ensures.made b (c.in-Ok.ensures.made b c.next-kind.ensures.priced walk frame right) h
 
 pub returns-in-Err-clause-made : goal.returns-in-Err-clause-made
-returns-in-Err-clause-made c = λ b i walk frame right h.
+returns-in-Err-clause-made c = λ b walk frame right h.
     on_ok c.not_opened.result (KeepsMade b c.args.self.now c.not_opened.new.self) (CutsAreMade b c.not_opened.new.self) (λ k. k.1 h) (c.not_opened.ensures.made b)
 
 pub returns-in-Ok-clause-opened : goal.returns-in-Ok-clause-opened
@@ -52,7 +52,7 @@ returns-in-Err-clause-opened c =
     c.not_opened.ensures.stops
 
 pub returns-in-Ok-clause-reasons : goal.returns-in-Ok-clause-reasons
-returns-in-Ok-clause-reasons c = λ i walk frame.
+returns-in-Ok-clause-reasons c = λ walk frame.
     let old = c.args.self.now in
     let new = c.open.new.self in
     let p = content c.args.program.now in
@@ -62,7 +62,7 @@ returns-in-Ok-clause-reasons c = λ i walk frame.
     let refused : Type 0 = OneIsNotPut kind cuts old.banks in
     let is = IsOfOpening old.budget.solves refused (λ o. ⊥) in
     let told = IsOfOpening old.budget.solves (IsStuckBefore p tree old) (PassesBefore p tree old) in
-    let first = c.in-Ok.ensures.first i walk frame in
+    let first = c.in-Ok.ensures.first walk frame in
     on_ok c.open.result (GainsReasons is old new) (GainsReasons told old new)
     (wider_reasons is told old new
     (wider_opening refused (IsStuckBefore p tree old) (λ o. ⊥) (PassesBefore p tree old) old.budget.solves
@@ -70,8 +70,8 @@ returns-in-Ok-clause-reasons c = λ i walk frame.
     c.open.ensures.reasons
 
 pub returns-in-Err-clause-reasons : goal.returns-in-Err-clause-reasons
-returns-in-Err-clause-reasons c = λ i walk frame.
-    c.not_opened.ensures.reasons (content c.args.program.now) c.args.tree.now (c.in-Err.ensures.faults i walk frame c.next-kind.ensures.kind)
+returns-in-Err-clause-reasons c = λ walk frame.
+    c.not_opened.ensures.reasons (content c.args.program.now) c.args.tree.now (c.in-Err.ensures.faults walk frame c.next-kind.ensures.kind)
 
 pub returns-in-Ok-clause-progress : goal.returns-in-Ok-clause-progress
 returns-in-Ok-clause-progress c = λ unlike.
@@ -84,13 +84,13 @@ returns-in-Err-clause-progress c = λ unlike.
     stopped_progresses c.not_opened.result c.args.self.now c.not_opened.new.self c.not_opened.ensures.stops c.not_opened.ensures.others
 
 pub returns-in-Ok-clause-anyhow : goal.returns-in-Ok-clause-anyhow
-returns-in-Ok-clause-anyhow c = λ i walk frame.
+returns-in-Ok-clause-anyhow c = λ walk frame.
     opened_anyhow c.open.result (content c.args.program.now) c.args.tree.now c.next-kind.result c.args.self.now c.open.new.self c.in-Ok.cuts.items
-    walk c.next-kind.ensures.kind (c.in-Ok.ensures.first i walk frame) (c.open.ensures.opened c.next-kind.ensures.kind)
+    walk c.next-kind.ensures.kind (c.in-Ok.ensures.first walk frame) (c.open.ensures.opened c.next-kind.ensures.kind)
     c.open.ensures.banks c.open.ensures.stuck
 
 pub returns-in-Err-clause-anyhow : goal.returns-in-Err-clause-anyhow
-returns-in-Err-clause-anyhow c = λ i walk frame.
+returns-in-Err-clause-anyhow c = λ walk frame.
     let old = c.args.self.now in
     let new = c.not_opened.new.self in
     on_ok c.not_opened.result (new ≡ record old { stop = new.stop }) (OpensAnyhow (content c.args.program.now) old new)

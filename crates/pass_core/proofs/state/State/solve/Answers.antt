@@ -30,17 +30,18 @@ use Rattle.pass_core.proofs.Making.{answer_made, pools_made, read_have, same_mad
 use Rattle.pass_core.proofs.state.State.solve.Goals as goal
 
 pub returns-in_default-clause-tabled : goal.returns-in_default-clause-tabled
-returns-in_default-clause-tabled c = λ m i frame b.
-    stuck_ends (content c.args.program.now) c.args.self.now m c.args.node i frame b c.left_stuck.new.self _ _ c.left_stuck.ensures.drops c.left_stuck.ensures.others
+returns-in_default-clause-tabled c = λ m frame b.
+    stuck_ends (content c.args.program.now) c.args.self.now m c.args.node c.args.program.now.keeps frame b c.left_stuck.new.self _ _ c.left_stuck.ensures.drops c.left_stuck.ensures.others
 
 pub returns-then-not-fits-clause-tabled : goal.returns-then-not-fits-clause-tabled
-returns-then-not-fits-clause-tabled c = λ m i frame b.
-    stuck_ends (content c.args.program.now) c.args.self.now m c.args.node i frame b c.left_stuck-then-not-fits.new.self _ _
+returns-then-not-fits-clause-tabled c = λ m frame b.
+    stuck_ends (content c.args.program.now) c.args.self.now m c.args.node c.args.program.now.keeps frame b c.left_stuck-then-not-fits.new.self _ _
     c.left_stuck-then-not-fits.ensures.drops c.left_stuck-then-not-fits.ensures.others
 
 pub returns-clause-tabled : goal.returns-clause-tabled
-returns-clause-tabled c = λ m i frame begun.
+returns-clause-tabled c = λ m frame begun.
     let p = content c.args.program.now in
+    let i = c.args.program.now.keeps in
     let s : State = record c.args.self.now { counts = c.raise.new.self } in
     let b = begun_counted p c.args.self.now m c.args.node c.raise.new.self begun in
     let n = c.args.node in
@@ -60,19 +61,21 @@ returns-clause-tabled c = λ m i frame begun.
     (answer_about c.in-Some.begun.task n c.in_ok-solved.solved node c.in_ok-solved.ensures.answer))
 
 pub returns-in_default-clause-solves : goal.returns-in_default-clause-solves
-returns-in_default-clause-solves c = λ m i walk frame b stand.
+returns-in_default-clause-solves c = λ m walk frame b stand.
     let p = content c.args.program.now in
+    let i = c.args.program.now.keeps in
     let s = c.args.self.now in
     let n = c.args.node in
-    absurd (subst (λ (o : Option Begun). IsSomeAnd o (λ (x : Begun). IsTaskOf p s n x.task)) c.in_default.is (c.in_ok-begun.ensures.stated i walk frame (lives p s m n i frame b)))
+    absurd (subst (λ (o : Option Begun). IsSomeAnd o (λ (x : Begun). IsTaskOf p s n x.task)) c.in_default.is (c.in_ok-begun.ensures.stated walk frame (lives p s m n i frame b)))
 
 pub returns-then-not-fits-clause-solves : goal.returns-then-not-fits-clause-solves
-returns-then-not-fits-clause-solves c = λ m i walk frame b stand.
+returns-then-not-fits-clause-solves c = λ m walk frame b stand.
     let p = content c.args.program.now in
+    let i = c.args.program.now.keeps in
     let s = c.args.self.now in
     let n = c.args.node in
     let task : IsTaskOf p s n c.in-Some.begun.task =
-    subst (λ (o : Option Begun). IsSomeAnd o (λ (x : Begun). IsTaskOf p s n x.task)) c.in-Some.is (c.in_ok-begun.ensures.stated i walk frame (lives p s m n i frame b)) in
+    subst (λ (o : Option Begun). IsSomeAnd o (λ (x : Begun). IsTaskOf p s n x.task)) c.in-Some.is (c.in_ok-begun.ensures.stated walk frame (lives p s m n i frame b)) in
     let datum : IsDatumOf c.in-Some.begun.task.kind p s.frame c.args.tree.now c.in-Some.begun.task.datum =
     subst (λ (o : Option Begun). IfSome o (λ (x : Begun). IsDatumOf x.task.kind p s.frame c.args.tree.now x.task.datum)) c.in-Some.is c.in_ok-begun.ensures.datum in
     let node : c.in-Some.begun.task.datum.node ≡ n =
@@ -83,8 +86,9 @@ returns-then-not-fits-clause-solves c = λ m i walk frame b stand.
     absurd (let no : false ≡ true = c.if-not-fits.ensures.exact.1 problem in cc)
 
 pub returns-clause-solves : goal.returns-clause-solves
-returns-clause-solves c = λ m i walk frame begun stand.
+returns-clause-solves c = λ m walk frame begun stand.
     let p = content c.args.program.now in
+    let i = c.args.program.now.keeps in
     let old = c.args.self.now in
     let s : State = record old { counts = c.raise.new.self } in
     let n = c.args.node in
@@ -92,7 +96,7 @@ returns-clause-solves c = λ m i walk frame begun stand.
     let t : Task = c.in-Some.begun.task in
     let all : Solved = c.in_ok-solved.solved in
     let task : IsTaskOf p old n t =
-    subst (λ (o : Option Begun). IsSomeAnd o (λ (x : Begun). IsTaskOf p old n x.task)) c.in-Some.is (c.in_ok-begun.ensures.stated i walk frame (lives p old m n i frame begun)) in
+    subst (λ (o : Option Begun). IsSomeAnd o (λ (x : Begun). IsTaskOf p old n x.task)) c.in-Some.is (c.in_ok-begun.ensures.stated walk frame (lives p old m n i frame begun)) in
     let node : t.datum.node ≡ n =
     subst (λ (o : Option Begun). IfSome o (λ (x : Begun). x.task.datum.node ≡ c.args.node)) c.in-Some.is c.in_ok-begun.ensures.node in
     let rs : c.in-Some.begun.readings.items ≡ numbers_read (pools_of s.kind s.banks) (children_in s.frame n) =
@@ -114,18 +118,19 @@ returns-clause-solves c = λ m i walk frame begun stand.
     c.commit.ensures.anyhow
 
 pub returns-in_default-clause-made : goal.returns-in_default-clause-made
-returns-in_default-clause-made c = λ b i walk frame right h.
+returns-in_default-clause-made c = λ b walk frame right h.
     let e = c.left_stuck.ensures.others in
     (same_made b c.args.self.now c.left_stuck.new.self (ap (λ (x : State). x.banks) e) (ap (λ (x : State). x.kind) e) (ap (λ (x : State). x.ends) e)).1 h
 
 pub returns-then-not-fits-clause-made : goal.returns-then-not-fits-clause-made
-returns-then-not-fits-clause-made c = λ b i walk frame right h.
+returns-then-not-fits-clause-made c = λ b walk frame right h.
     let e = c.left_stuck-then-not-fits.ensures.others in
     (same_made b c.args.self.now c.left_stuck-then-not-fits.new.self (ap (λ (x : State). x.banks) e) (ap (λ (x : State). x.kind) e) (ap (λ (x : State). x.ends) e)).1 h
 
 pub returns-clause-made : goal.returns-clause-made
-returns-clause-made c = λ b i walk frame right h.
+returns-clause-made c = λ b walk frame right h.
     let p = content c.args.program.now in
+    let i = c.args.program.now.keeps in
     let s = c.args.self.now in
     let n = c.args.node in
     let t : Task = c.in-Some.begun.task in
@@ -135,7 +140,7 @@ returns-clause-made c = λ b i walk frame right h.
     subst (λ (o : Option Begun). IfSome o (λ (x : Begun). x.task.datum.node ≡ c.args.node)) c.in-Some.is c.in_ok-begun.ensures.node in
     let lives : Lives p n = subst (Lives p) node datum.lives in
     let task : IsTaskOf p s n t =
-    subst (λ (o : Option Begun). IsSomeAnd o (λ (x : Begun). IsTaskOf p s n x.task)) c.in-Some.is (c.in_ok-begun.ensures.stated i walk frame lives) in
+    subst (λ (o : Option Begun). IsSomeAnd o (λ (x : Begun). IsTaskOf p s n x.task)) c.in-Some.is (c.in_ok-begun.ensures.stated walk frame lives) in
     on_ok c.commit.result (KeepsMade b s c.commit.new.self) (CutsAreMade b c.commit.new.self) (λ k. k.1 h)
     (c.commit.ensures.made b
     (answer_made p s n t b i lives right task

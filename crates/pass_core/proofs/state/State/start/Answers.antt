@@ -11,7 +11,8 @@ use Rattle.pass_core.proofs.MadeAfterEdits.{all_made_at_start, never_touched}
 use Rattle.pass_core.proofs.state.State.start.Goals as goal
 
 pub returns-clause-tabled : goal.returns-clause-tabled
-returns-clause-tabled c = λ i.
+returns-clause-tabled c =
+    let i = c.args.program.now.keeps in
     started (content c.args.program.now) _ c.in_ok-frame.frame c.parents.result.now c.nodes.result c.in_ok-table.field-0 i refl
     (c.in_ok-frame.ensures i.small) c.parents.ensures c.in-Some.is c.in_ok-table.ensures.fits c.in_ok-banks.ensures.banks c.nodes.ensures
 
@@ -33,7 +34,8 @@ returns-clause-beginning c = λ small.
     }
 
 pub returns-in_default-clause-some : goal.returns-in_default-clause-some
-returns-in_default-clause-some c = λ i few.
+returns-in_default-clause-some c = λ few.
+    let i = c.args.program.now.keeps in
     made_one c.in_ok-table.field-0 c.parents.result.now _ c.in_ok-table.ensures.some
     (c.parents.ensures ∙ ap (λ (f : Frame). f.parents) (c.in_ok-frame.ensures i.small)) c.in_default.is (are_parents (content c.args.program.now) i few)
 

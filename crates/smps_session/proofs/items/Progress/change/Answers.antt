@@ -9,8 +9,8 @@ returns-clause-stands c = λ budget stands. c.edit.ensures.stands budget (c.in_o
 pub returns-clause-takes : goal.returns-clause-takes
 returns-clause-takes c = λ budget stands.
     takes_edit c.edit.result (content c.args.program.now) c.args.work c.args.edit.now c.args.self.now.method c.work.new.self c.edit.new.self
-    (λ few. c.in_ok-work.ensures.solves budget c.requires.program few stands)
-    (λ few. c.in_ok-work.ensures.amount budget c.requires.program few stands) c.edit.ensures.method
+    (λ few. c.in_ok-work.ensures.solves budget few stands)
+    (λ few. c.in_ok-work.ensures.amount budget few stands) c.edit.ensures.method
 
 pub returns-clause-cleared : goal.returns-clause-cleared
 returns-clause-cleared c = λ few.
@@ -21,6 +21,6 @@ pub returns-clause-way : goal.returns-clause-way
 returns-clause-way c = λ budget start came stands way.
     let works = c.in_ok-work.ensures.stays budget stands in
     changed_way c.edit.result budget start came (content c.args.program.now) (content c.edit.new.program) c.args.edit.now c.args.self.now.method
-    c.work.new.self c.edit.new.self c.requires.program c.requires.allowed c.edit.ensures.keeps stands works (c.edit.ensures.stands budget works)
-    (λ few. c.in_ok-work.ensures.solves budget c.requires.program few stands) c.edit.ensures.after
+    c.work.new.self c.edit.new.self c.args.program.now.keeps c.requires.allowed c.edit.new.program.keeps stands works (c.edit.ensures.stands budget works)
+    (λ few. c.in_ok-work.ensures.solves budget few stands) c.edit.ensures.after
     c.edit.ensures.method way

@@ -10,7 +10,6 @@ pub loop-rest-init : goal.loop-rest-init
 loop-rest-init c =
     let p = content c.args.program.now in
     record {
-      program = c.requires.program;
       counted = c.requires.counted;
       stands = c.requires.stands;
       cleared = λ few. first_cleared p c.args.budget c.args.self.now.method (c.requires.begins few);
@@ -18,7 +17,7 @@ loop-rest-init c =
         first = c.args.self.now.method;
         begins = c.requires.begins;
         came = 0;
-        way = begins_way c.args.budget 0 p c.args.self.now.method c.requires.program c.requires.begins;
+        way = begins_way c.args.budget 0 p c.args.self.now.method c.args.program.now.keeps c.requires.begins;
         course = subst (λ (n : ℕ). IsOnCourse c.args.budget p c.args.self.now.method c.args.items.now c.args.items.now
             (course_at p c.args.self.now.method 0 n c.new-tolds.result.items)) (sym c.requires.number)
             (begins_course c.args.budget p c.args.self.now.method c.args.items.now c.args.items.now c.new-tolds.result.items refl
@@ -38,7 +37,6 @@ take-requires-clause-cleared c = c.loop-rest.invariant.cleared
 
 pub loop-rest-preserved : goal.loop-rest-preserved
 loop-rest-preserved c = record {
-  program = c.in_ok-take.ensures.keeps;
   counted = c.in_ok-take.ensures.counted;
   stands = c.in_ok-take.ensures.stands;
   cleared = c.in_ok-take.ensures.cleared;

@@ -1,6 +1,5 @@
 use Rattle.std.proofs.Common.{◌≡◌, length}
 use Rattle.scen_defs.specs.Program.{content}
-use Rattle.scen_defs.specs.Valid.{IsProgram}
 use Rattle.edit_defs.specs.Limits.{counts}
 use Rattle.smps_session.proofs.ToldLemmas.{HasCome}
 use Rattle.tree_method.specs.Stands.{HasFewNodes, StandsOn, StandsCleared}
@@ -8,7 +7,6 @@ use Rattle.smps_session.proofs.items.Progress.reports.Given as goal
 
 abbrev pub invariant-loop-rest : goal.invariant-loop-rest
 invariant-loop-rest l = record {
-  program : IsProgram (content l.program);
   counted : l.self.counted ≡ counts (content l.program).nodes;
   stands : StandsOn (content l.program) l.budget l.self.method;
   cleared : HasFewNodes (content l.program) → StandsCleared l.self.method;

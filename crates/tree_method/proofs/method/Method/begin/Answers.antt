@@ -20,13 +20,13 @@ returns-in-Err-clause-stands c = λ small. (
 )
 
 pub returns-in-Err-clause-begins : goal.returns-in-Err-clause-begins
-returns-in-Err-clause-begins c = λ i few. (
+returns-in-Err-clause-begins c = λ few. (
   refl,
   no_tree (content c.args.program.now) c.in-Err.fault c.in_ok-treeless-in-Err.field-0 c.in-Err.ensures c.in_ok-treeless-in-Err.ensures,
 )
 
 pub returns-then-len-ge-MANY-clause-begins : goal.returns-then-len-ge-MANY-clause-begins
-returns-then-len-ge-MANY-clause-begins c = λ i few. absurd (omega (arith, few, c.if-len-ge-MANY.true, c.len.ensures, nodes_long c.args.program.now.nodes.items))
+returns-then-len-ge-MANY-clause-begins c = λ few. absurd (omega (arith, few, c.if-len-ge-MANY.true, c.len.ensures, nodes_long c.args.program.now.nodes.items))
 
 pub returns-in-Some-clause-stands : goal.returns-in-Some-clause-stands
 returns-in-Some-clause-stands c = λ small.
@@ -36,7 +36,7 @@ returns-in-Some-clause-stands c = λ small.
     let counts : c.in-Some.state.counts ≡ no_commits =
     subst (λ (o : Option State). IfSome o (λ s. s.counts ≡ no_commits)) c.in-Some.is c.in_ok-state.ensures.counts in
     begins_on p c.args.budget (record { state = c.in-Some.state; tree = c.in-Ok.tree }) beginning c.in-Ok.ensures
-    (λ i few. subst (λ (o : Option State). IfSome o (IsTabled p)) c.in-Some.is (c.in_ok-state.ensures.tabled i))
+    (λ i few. subst (λ (o : Option State). IfSome o (IsTabled p)) c.in-Some.is c.in_ok-state.ensures.tabled)
     (λ i few. none_counted c.in-Some.state counts)
 
 pub returns-in-Some-clause-made : goal.returns-in-Some-clause-made
@@ -44,3 +44,11 @@ returns-in-Some-clause-made c = λ rest h.
     history_begins (content c.args.program.now) rest c.in-Some.state h
     (λ n. subst (λ (o : Option State). IfSome o (λ s. version_of s.versions n ≡ untouched)) c.in-Some.is (c.in_ok-state.ensures.untouched n))
     (λ b. subst (λ (o : Option State). IfSome o (CutsAreMade b)) c.in-Some.is (c.in_ok-state.ensures.made b))
+
+pub returns-in-Some-clause-begins : goal.returns-in-Some-clause-begins
+returns-in-Some-clause-begins c = λ few.
+    let p = content c.args.program.now in (
+      c.in-Ok.ensures,
+      subst (λ (o : Option State). IfSome o (IsBeginning p c.args.budget)) c.in-Some.is (c.in_ok-state.ensures.beginning c.args.program.now.keeps.small),
+      subst (λ (o : Option State). IfSome o (λ s. s.counts ≡ no_commits)) c.in-Some.is c.in_ok-state.ensures.counts,
+    )

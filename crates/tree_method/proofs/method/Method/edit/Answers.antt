@@ -18,7 +18,7 @@ returns-in_default-clause-stands c =
     let tabled : KeepsTabled (after (content c.args.program.now) c.args.edit.now) (is_grown c.args.edit.now) c.in-Working.working.state c.edit.new.self.state =
     search rules in
     works_on (content c.args.program.now) (content c.edit.new.program) c.args.edit.now c.args.self.now c.in-Working.working c.edit.new.self
-    c.requires.program c.in-Working.is c.in_ok-why-in-Working.ensures.after edited tabled
+    c.args.program.now.keeps c.in-Working.is c.in_ok-why-in-Working.ensures.after edited tabled
 
 pub returns-in_default-clause-touches : goal.returns-in_default-clause-touches
 returns-in_default-clause-touches c = λ budget s.
@@ -26,7 +26,7 @@ returns-in_default-clause-touches c = λ budget s.
     let e = c.args.edit.now in
     let edited : IsEdited p e c.in-Working.working c.edit.new.self = search rules in
     subst (λ (m : Method). CarriesVersions p e m (AtWork c.edit.new.self)) (sym c.in-Working.is)
-    (touches_carry p e budget c.in-Working.working c.edit.new.self c.requires.program (edit_applies p e c.requires.allowed)
+    (touches_carry p e budget c.in-Working.working c.edit.new.self c.args.program.now.keeps (edit_applies p e c.requires.allowed)
     (subst (StandsOn p budget) c.in-Working.is s) edited)
 
 pub returns-in_default-clause-made : goal.returns-in_default-clause-made

@@ -14,11 +14,11 @@ returns-in-Working-clause-stays c = λ budget small left s.
     (subst (StandsOn (content c.args.program.now) budget) c.in-Working.is s)
 
 pub returns-in-Working-clause-solves : goal.returns-in-Working-clause-solves
-returns-in-Working-clause-solves c = λ budget i few s.
+returns-in-Working-clause-solves c = λ budget few s.
     let p : Program = content c.args.program.now in
     subst (λ (m : Method). OnOk c.start_over.result (WorksAnew p m (AtWork c.start_over.new.self))) (sym c.in-Working.is)
     (on_ok_if c.start_over.result _ _ (λ left. on_ok_if c.start_over.result _ _
-    (λ ends. c.start_over.ensures.solves budget i few left ends (subst (StandsOn p budget) c.in-Working.is s))))
+    (λ ends. c.start_over.ensures.solves budget few left ends (subst (StandsOn p budget) c.in-Working.is s))))
 
 pub returns-in-Working-clause-made : goal.returns-in-Working-clause-made
 returns-in-Working-clause-made c = λ budget first edits rest came s h.

@@ -7,14 +7,14 @@ use Rattle.script_steps.proofs.StepLemmas.{edit_applies, no-passing}
 use Rattle.tree_method.proofs.EditLemmas.{dues_are}
 use Rattle.tree_method.proofs.method.Working.dues.Goals as goal
 
-pub touches-requires-clause-applies : goal.touches-requires-clause-applies
-touches-requires-clause-applies c = edit_applies (content c.args.program.now) c.args.edit.now c.requires.allowed
+pub touches-requires : goal.touches-requires
+touches-requires c = record { applies = edit_applies (content c.args.program.now) c.args.edit.now c.requires }
 
 pub shift-moved-requires-clause-applies : goal.shift-moved-requires-clause-applies
-shift-moved-requires-clause-applies c = edit_applies (content c.args.program.now) c.args.edit.now c.requires.allowed
+shift-moved-requires-clause-applies c = edit_applies (content c.args.program.now) c.args.edit.now c.requires
 
 pub shift-moved-requires-clause-passes : goal.shift-moved-requires-clause-passes
-shift-moved-requires-clause-passes c = no-passing (content c.args.program.now) c.args.edit.now c.requires.allowed.no_cause
+shift-moved-requires-clause-passes c = no-passing (content c.args.program.now) c.args.edit.now c.requires.no_cause
 
 pub returns-clause-dues : goal.returns-clause-dues
 returns-clause-dues c =

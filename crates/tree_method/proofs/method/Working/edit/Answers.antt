@@ -8,7 +8,7 @@ use Rattle.tree_method.proofs.StandLemmas.{tabled_behind, cleared_behind}
 use Rattle.tree_method.proofs.method.Working.edit.Goals as goal
 
 pub of-requires : goal.of-requires
-of-requires c = few_places c.applied.new.program c.in_ok-applied.ensures.keeps
+of-requires c = few_places c.applied.new.program
 
 pub returns-clause-method : goal.returns-clause-method
 returns-clause-method c = subst (λ (p : Program). HasNoTree p c.in_ok-treeless-in-Err.field-0) c.in_ok-applied.ensures.after

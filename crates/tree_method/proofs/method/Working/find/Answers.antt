@@ -12,8 +12,8 @@ returns-clause-why c = λ budget w.
     (c.in_ok-closed.ensures.explained (content c.args.program.now) c.run.new.self.tree works.explained) refl
 
 pub returns-clause-solves : goal.returns-clause-solves
-returns-clause-solves c = λ budget i few w. record {
-  solves = c.in_ok-run.ensures.solves budget i few w;
+returns-clause-solves c = λ budget few w. record {
+  solves = c.in_ok-run.ensures.solves budget few w;
   claim = ap (λ (x : Closed). x.claim) c.in_ok-closed.ensures.claim;
   why = ap (λ (x : Closed). x.why) c.in_ok-closed.ensures.claim;
   place = ap Cost c.commits.ensures;
@@ -27,4 +27,4 @@ returns-clause-claims c = λ budget first edits rest came w h. record {
 }
 
 pub returns-clause-ends : goal.returns-clause-ends
-returns-clause-ends c = λ budget i few w. c.in_ok-run.ensures.endless refl budget i few w
+returns-clause-ends c = λ budget few w. c.in_ok-run.ensures.endless refl budget few w

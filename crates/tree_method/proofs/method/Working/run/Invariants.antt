@@ -2,7 +2,6 @@ use Rattle.std.proofs.Common.{◌≡◌, ℕ, ◌<◌, ◌≤◌, max, List, len
 use Rattle.edit_defs.specs.declared.edit.Edit.{Edit}
 use Rattle.tree_method.specs.Scripted.{IsInHistory}
 use Rattle.scen_defs.specs.Program.{Program, content}
-use Rattle.scen_defs.specs.Valid.{IsProgram}
 use Rattle.run_data.specs.Frames.{frame_of}
 use Rattle.pass_table.specs.Machine.{Machine}
 use Rattle.pass_table.specs.Marks.{nothing}
@@ -14,10 +13,10 @@ use Rattle.tree_method.proofs.method.Working.run.Given as goal
 
 abbrev pub invariant-steps : goal.invariant-steps
 invariant-steps l = ((budget : Budget) → WorksOn (content l.program) budget l.fn.self → WorksOn (content l.program) budget l.self)
-    × ((m : Machine) → IsProgram (content l.program) → l.fn.self.state.frame ≡ frame_of (content l.program)
+    × ((m : Machine) → l.fn.self.state.frame ≡ frame_of (content l.program)
     → IsTabledBy (content l.program) l.fn.self.state m
     → GoesBySteps (content l.program) m l.self.state × (l.self.state.frame ≡ frame_of (content l.program)))
-    × ((budget : Budget) → IsProgram (content l.program) → length (content l.program).nodes < nothing → WorksOn (content l.program) budget l.fn.self
+    × ((budget : Budget) → length (content l.program).nodes < nothing → WorksOn (content l.program) budget l.fn.self
     → SolvesOnce (content l.program) l.fn.self.state l.self.state)
     × ((budget : Budget) (first : Program) (edits rest : List Edit) (came : ℕ) → WorksOn (content l.program) budget l.fn.self
     → IsInHistory first edits came (content l.program) rest l.fn.self.state → IsInHistory first edits came (content l.program) rest l.self.state)

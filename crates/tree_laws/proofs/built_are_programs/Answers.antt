@@ -1,5 +1,0 @@
-use Rattle.tree_laws.proofs.Programs.{built_are_programs}
-use Rattle.tree_laws.proofs.built_are_programs.Goals as goal
-
-pub returns : goal.returns
-returns c = built_are_programs
