@@ -1,5 +1,4 @@
 //! The check of a report.
-ghost use Rattle.scen_defs.specs.Program.{IsTree};
 ghost use Rattle.scen_model.specs.Answers.{Answers};
 ghost use Rattle.report_defs.specs.Seen.{seen};
 ghost use Rattle.certificate_check.specs.Verdicts.{late_verdict, end_verdict, bound_verdict, list_verdict, verdict_of};
@@ -18,7 +17,7 @@ use std::alloc::Global;
 /// place `Check`.
 pub fn check(alloc: Global, program: &Program, report: &Report) -> Result<Verdict, Halt>
     ensures exact { Answers (verdict_of program.now report.now) result }
-    ensures shown { IsTree (seen program.now) → IfHolds result (IsShown (seen program.now) report.now) }
+    ensures shown { IfHolds result (IsShown (seen program.now) report.now) }
 {
     verdict(alloc, program, report)
 }

@@ -1,7 +1,7 @@
 -- Points of the recession are feasible where each finite end is 0.
 use Rattle.std.proofs.Common.{Option, Some, None}
 use Rattle.rationals.specs.Rational.{ℚ, zero_ℚ, one_ℚ, neg_ℚ}
-use Rattle.scen_defs.specs.Ends.{AtLeast, AtMost, Between}
+use Rattle.rationals.specs.Intervals.{AtLeast, AtMost, Between}
 use Rattle.scen_defs.specs.Flat.{FeasibleAt, zero_end, with_zero_ends, recession}
 use Rattle.scen_defs.proofs.SumLaws.{each-map}
 use Rattle.claim_laws.specs.Laws.{RecessionPointsAreDirections}

@@ -4,8 +4,6 @@
 mod command;
 mod flag;
 mod settings;
-#[cfg(test)]
-mod tests;
 mod value;
 
 pub use command::{Budget, Command, Page, Plan, Sources, Task, Verb, read_words};

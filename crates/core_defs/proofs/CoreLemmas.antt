@@ -19,7 +19,9 @@ use Rattle.core_defs.specs.declared.parts.ColumnDef.{ColumnDef}
 use Rattle.core_defs.specs.declared.parts.ColumnPart.{ColumnPart}
 use Rattle.core_defs.specs.declared.parts.RowDef.{RowDef}
 use Rattle.core_defs.specs.Bounds.{first_bounds, bounds_by, crossed}
-use Rattle.core_defs.specs.Core.{row_names, column_names, IsField, InOrder, IsCore}
+use Rattle.smps_words.specs.Field.{IsField}
+use Rattle.rationals.specs.Intervals.{InOrder}
+use Rattle.core_defs.specs.Core.{row_names, column_names, IsCore}
 use Rattle.core_defs.specs.Filed.{Filed, closed}
 use Rattle.core_defs.specs.Finished.{row_def, row_defs, column_def, column_defs}
 use Rattle.core_defs.specs.Stated.{use_of, constraint_with, kind_with, constraint_name, constraint_kind, value_on}

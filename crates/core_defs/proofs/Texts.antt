@@ -1,6 +1,8 @@
 -- What reading a text gives, and that it gives nothing else.
 use Rattle.std.proofs.Common.{inl, inr, ◌≡◌, ◌∙◌, ◌++◌, ap, ℕ, Bool, true, false, List, [], ◌∷◌, None, Result, Ok, Err, refl, sym, subst, append_assoc, append-nil, if◌then◌else◌}
+use Rattle.std.specs.List.{AllByRecursion}
 use Rattle.smps_words.specs.Line.{TextLine, reading_of}
+use Rattle.smps_words.proofs.FieldLemmas.{HasFields, text_fields}
 use Rattle.core_defs.specs.declared.cause.Cause.TheVariants as cause
 use Rattle.core_defs.specs.declared.cause.Refusal.{Refusal}
 use Rattle.core_defs.specs.declared.section.Section.TheVariants as sections
@@ -11,7 +13,7 @@ use Rattle.core_defs.specs.Lines.{last_section, has_section}
 use Rattle.core_defs.specs.Section.{is_end}
 use Rattle.core_defs.specs.Step.{on_line, finish, read_from, filed_text}
 use Rattle.core_defs.proofs.CoreLemmas.{column_names_are, core_is}
-use Rattle.core_defs.proofs.FieldLemmas.{AreFields, text_fields, row_fields, column_fields}
+use Rattle.core_defs.proofs.FieldLemmas.{row_fields, column_fields}
 use Rattle.core_defs.proofs.Gathered.{data_on, filed_of, Sound, judged}
 use Rattle.core_defs.proofs.Judged.{no_fault_snoc, end_more, has_more, data_behind, IsFiled, Judged, Behind, judged_text}
 use Rattle.core_defs.proofs.MeansLemmas.{means}
@@ -130,7 +132,7 @@ no_fault lines end_line refusal file fault =
     absurd (cc)
 
 -- what is filed is filed of all lines
-all_filed : (lines : List TextLine) (f : Filed) → AreFields lines → IsFiled lines f → IsFiledCore lines f
+all_filed : (lines : List TextLine) (f : Filed) → AllByRecursion HasFields lines → IsFiled lines f → IsFiledCore lines f
 all_filed lines f fields filed =
     let same : data_on lines ≡ data_on filed.read = ap data_on filed.split ∙ data_behind filed.read filed.rest filed.end in
     let sound : Sound (data_on lines) = subst Sound (sym same) filed.sound in
@@ -144,7 +146,7 @@ all_filed lines f fields filed =
       named = column_names_are (data_on lines);
     })
 
-reading_by : (lines : List TextLine) (end_line : ℕ) (given : Result Filed Refusal) → AreFields lines → Judged lines end_line given → IsReading lines end_line given
+reading_by : (lines : List TextLine) (end_line : ℕ) (given : Result Filed Refusal) → AllByRecursion HasFields lines → Judged lines end_line given → IsReading lines end_line given
 reading_by lines end_line (Ok f) fields judged = all_filed lines f fields judged
 reading_by lines end_line (Err refusal) fields judged = ((λ file. no_fault lines end_line refusal file judged), judged)
 

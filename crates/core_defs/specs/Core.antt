@@ -1,8 +1,8 @@
 -- What holds of every core.
-use Rattle.std.specs.Prelude.{◌≡◌, ℕ, ◌<◌, ◌^◌, false, List, Option, Some, None, ◌||◌, nat_eq, map, length, All}
-use Rattle.rationals.specs.Rational.{ℚ, ◌≤ℚ◌}
+use Rattle.std.specs.Prelude.{ℕ, ◌<◌, ◌^◌, List, map, length, All}
+use Rattle.rationals.specs.Intervals.{InOrder}
 use Rattle.rationals.specs.Forms.{IsForm, EndsBelow}
-use Rattle.smps_words.specs.Line.{is_blank}
+use Rattle.smps_words.specs.Field.{IsField}
 use Rattle.smps_words.specs.Names.{IsNumbered}
 use Rattle.core_defs.specs.declared.parts.RowDef.{RowDef}
 use Rattle.core_defs.specs.declared.parts.ColumnDef.{ColumnDef}
@@ -14,17 +14,6 @@ row_names rows = map (λ row. row.name) rows
 -- the names of the columns, in their order
 abbrev pub column_names : List ColumnDef → List (List ℕ)
 column_names columns = map (λ column. column.name) columns
-
--- a name is a field: at least one byte, none of them a blank or a line feed
-pub record IsField (name : List ℕ) : Type 0 where
-  pub some : 0 < length name
-  pub unbroken : All (λ byte. (is_blank byte || nat_eq byte 10) ≡ false) name
-
--- the lower bound isn't above the upper
-abbrev pub InOrder : Option ℚ → Option ℚ → Type 0
-InOrder None upper = Unit {0}
-InOrder (Some lower) None = Unit {0}
-InOrder (Some lower) (Some upper) = lower ≤ℚ upper
 
 -- of the constraints and the columns of a core
 pub record IsCore (rows : List RowDef) (columns : List ColumnDef) : Type 0 where

@@ -1,18 +1,13 @@
 -- That a core keeps its laws has one proof at most, so a field of its type can hold it.
-use Rattle.std.specs.Prelude.{ℕ, List, [], ◌∷◌, Option, Some, None}
+use Rattle.std.specs.Prelude.{ℕ, List, [], ◌∷◌}
 use Rattle.std.specs.Coded.{×_prop, Unit-prop}
 use Rattle.std.proofs.Props.{props}
-use Rattle.rationals.specs.Rational.{ℚ}
 use Rattle.rationals.specs.Sparse.{Entry, Ascending}
 use Rattle.rationals.specs.Forms.{AllNonzero, EndsBelow}
 use Rattle.core_defs.specs.declared.parts.RowDef.{RowDef}
 use Rattle.core_defs.specs.declared.parts.ColumnDef.{ColumnDef}
-use Rattle.core_defs.specs.Core.{InOrder, IsCore}
-
-in_order_prop : (lower upper : Option ℚ) → IsProp (InOrder lower upper)
-in_order_prop None upper = Unit-prop
-in_order_prop (Some lower) None = Unit-prop
-in_order_prop (Some lower) (Some upper) = hlevel props
+use Rattle.rationals.specs.IntervalProofs.{in_order_prop}
+use Rattle.core_defs.specs.Core.{IsCore}
 
 ascending_prop : (low : ℕ) (form : List Entry) → IsProp (Ascending low form)
 ascending_prop low [] = Unit-prop

@@ -24,16 +24,16 @@ before_stamp a b = ltb a.node b.node
     && (ltb (rank a.part) (rank b.part) || (eqb (rank a.part) (rank b.part) && ltb a.version b.version)))
 
 -- the stamps of two lists that rise, each once, in rising order
-abbrev pub merge_at : Stamp → (List Stamp → List Stamp) → List Stamp → List Stamp
-merge_at a rest [] = a ∷ rest []
-merge_at a rest (b ∷ ys) = elim (before_stamp a b) [
+abbrev pub with_stamp : Stamp → (List Stamp → List Stamp) → List Stamp → List Stamp
+with_stamp a rest [] = a ∷ rest []
+with_stamp a rest (b ∷ ys) = elim (before_stamp a b) [
   | true ↦ a ∷ rest (b ∷ ys)
-  | false ↦ elim (before_stamp b a) [ true ↦ b ∷ merge_at a rest ys | false ↦ a ∷ rest ys ]
+  | false ↦ elim (before_stamp b a) [ true ↦ b ∷ with_stamp a rest ys | false ↦ a ∷ rest ys ]
 ]
 
 abbrev pub merge : List Stamp → List Stamp → List Stamp
 merge [] ys = ys
-merge (a ∷ xs) ys = merge_at a (merge xs) ys
+merge (a ∷ xs) ys = with_stamp a (merge xs) ys
 
 -- ---- the support
 abbrev pub rows_stamp : Source → Stamp

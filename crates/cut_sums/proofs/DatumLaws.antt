@@ -6,7 +6,7 @@ use Rattle.rationals.specs.Sparse.{Entry}
 use Rattle.rationals.specs.Forms.{IsForm}
 use Rattle.scen_defs.specs.declared.program.NodeRow.{NodeRow}
 use Rattle.scen_defs.specs.Lists.{Each}
-use Rattle.scen_defs.specs.Ends.{InOrder}
+use Rattle.rationals.specs.Intervals.{InOrder}
 use Rattle.cut_defs.specs.declared.datum.ColumnBounds.{ColumnBounds}
 use Rattle.cut_defs.specs.declared.datum.Share.{Share}
 use Rattle.cut_defs.specs.Data.{RowsRise, BoundsRise, SharesRise, is_own, IsDatum}

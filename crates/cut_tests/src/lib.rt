@@ -1,9 +1,13 @@
-//! Tests of cuts, pools and assemblies on a node with one row, by hand.
+//! Tests by hand of cuts, pools and assemblies on a node with one row, of the solve of a node, and of the table of a run.
 #![tactic(auto)]
 
 #[cfg(test)]
+mod cuts;
+#[cfg(test)]
 mod fixtures;
+#[cfg(test)]
+mod node;
 #[cfg(test)]
 mod pools;
 #[cfg(test)]
-mod tests;
+mod table;

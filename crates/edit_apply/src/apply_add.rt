@@ -1,7 +1,8 @@
 // An ADD in place.
 ghost use Rattle.std.specs.Prelude.{◌≡◌, ◌+◌, ◌<◌, ◌^◌, ◌++◌, ◌&&◌, ltb, false, None, Some, OnOk, OnErr, IfOk, MatchResult, Ok, length};
 ghost use Rattle.scen_defs.specs.Program.{content, nodes_content, scenario_content, scenarios_content};
-ghost use Rattle.scen_defs.specs.Valid.{IsField, IsProgram};
+ghost use Rattle.smps_words.specs.Field.{IsField};
+ghost use Rattle.scen_defs.specs.Valid.{IsProgram};
 ghost use Rattle.edit_defs.specs.declared.edit.Edit.TheVariants.{Add};
 ghost use Rattle.edit_defs.specs.After.{after, is_known, new_scenario};
 ghost use Rattle.edit_defs.specs.Causes.{refused};

@@ -1,7 +1,7 @@
 // An edit in place.
 ghost use Rattle.std.specs.Prelude.{◌≡◌, None, OnOk, OnErr, MatchResult};
 ghost use Rattle.scen_defs.specs.Program.{content};
-ghost use Rattle.scen_defs.specs.Valid.{IsField};
+ghost use Rattle.smps_words.specs.Field.{IsField};
 ghost use Rattle.edit_defs.specs.declared.edit.Edit.TheVariants.{Prob, Drop, Add};
 ghost use Rattle.edit_defs.specs.After.{after};
 ghost use Rattle.edit_defs.specs.Causes.{Asks, refused};

@@ -6,7 +6,8 @@ use Rattle.rationals.specs.Rational.{ℚ, zero_ℚ, one_ℚ, ◌-ℚ◌, ◌<ℚ
 use Rattle.smps_words.specs.declared.entry.Entry.{Entry}
 use Rattle.smps_words.specs.declared.entry.Entry.TheVariants.{Cost, Matrix, Rhs}
 use Rattle.scen_defs.specs.Program.{Scenario, Program, column_at}
-use Rattle.scen_defs.specs.Valid.{row_at, IsField}
+use Rattle.smps_words.specs.Field.{IsField}
+use Rattle.scen_defs.specs.Valid.{row_at}
 use Rattle.edit_defs.specs.declared.edit.Edit.TheVariants.{Set, Prob, Drop, Add}
 use Rattle.core_defs.specs.declared.cause.Cause.{Cause}
 use Rattle.edit_defs.specs.After.{is_known, times, new_path, after}

@@ -8,7 +8,8 @@ use Rattle.core_defs.specs.declared.cause.Cause.{Cause}
 use Rattle.core_defs.specs.declared.cause.Cause.TheVariants as cause
 use Rattle.scen_defs.specs.Lists.{pick}
 use Rattle.scen_defs.specs.Program.{Program, column_at}
-use Rattle.scen_defs.specs.Valid.{row_at, IsField}
+use Rattle.smps_words.specs.Field.{IsField}
+use Rattle.scen_defs.specs.Valid.{row_at}
 use Rattle.edit_defs.specs.declared.edit.Edit.{Edit}
 use Rattle.edit_defs.specs.declared.edit.Edit.TheVariants.{Set, Prob, Drop, Add}
 use Rattle.edit_defs.specs.After.{is_known, after}

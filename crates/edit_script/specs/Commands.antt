@@ -11,7 +11,7 @@ use Rattle.core_defs.specs.Step.{◌>>=◌, needs}
 use Rattle.scen_defs.specs.declared.program.Column.{Column}
 use Rattle.scen_defs.specs.declared.program.Row.{Row}
 use Rattle.scen_defs.specs.Program.{Program}
-use Rattle.scen_defs.specs.Valid.{IsField}
+use Rattle.smps_words.specs.Field.{IsField}
 use Rattle.edit_defs.specs.declared.edit.Edit.{Edit}
 use Rattle.edit_defs.specs.declared.edit.Edit.TheVariants as edit
 use Rattle.edit_defs.specs.After.{is_known}

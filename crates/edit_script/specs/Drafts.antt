@@ -1,18 +1,15 @@
 -- The reader's draft as definitions see it, and what its steps give.
 use Rattle.std.specs.Prelude.{◌≡◌, ℕ, ◌≤◌, ◌*◌, List, length, Result, Ok, Err}
-use Rattle.rationals.specs.Replies.{Reply, IsReply, reply_by}
-use Rattle.rationals.specs.Replies.Reply.{Says, Silent}
 use Rattle.core_defs.specs.declared.cause.Cause.{Cause}
 use Rattle.core_defs.specs.declared.cause.Refusal.{Refusal}
 use Rattle.core_defs.specs.declared.cause.ReadFail.{ReadFail}
-use Rattle.core_defs.specs.declared.cause.ReadFail.TheVariants as fail
+use Rattle.reader_defs.specs.declared.stop.Stop.{Stop}
+use Rattle.reader_defs.specs.Stops.{Gives, ReadsAs}
 use Rattle.scen_defs.specs.Program.{Program, content}
 use Rattle.edit_defs.specs.declared.edit.Item.{Item}
 use Rattle.edit_defs.specs.declared.edit.Script.{Script}
 use Rattle.edit_defs.specs.Limits.{counts}
 use Rattle.edit_script.specs.declared.draft.Draft.{Draft}
-use Rattle.edit_script.specs.declared.stop.Stop.{Stop}
-use Rattle.edit_script.specs.declared.stop.Stop.TheVariants as stop
 use Rattle.edit_script.specs.Script.{Stand}
 use Rattle.edit_script.specs.Tables.{HasTables}
 use Rattle.edit_script.specs.Allowed.{AreAllowed, program_after}
@@ -49,28 +46,10 @@ abbrev pub IsAllowedFrom : Draft → Script → Type 0
 IsAllowedFrom draft script = (start : Program) → Leads start draft.items.items (content draft.program)
     → AreAllowed start script.items.items
 
--- what a stop says: the cause
-abbrev pub stop_says : {B : Type 0} → Stop → Reply (Result B Cause)
-stop_says stop.Memory = Silent
-stop_says (stop.Fault cause) = Says (Err cause)
-
--- The value is the definition's, or the cause is, unless memory ran out.
-abbrev pub Gives : {A : Type 0} → Result A Stop → Result A Cause → Type 0
-Gives result given = IsReply given (reply_by (λ x. x) stop_says result)
-
 -- The draft stands now where the definition has it, or the cause is the definition's, unless memory ran out.
 abbrev pub Stands : Draft → Result (Unit {0}) Stop → Result Stand Cause → Type 0
-Stands new result given = IsReply given (reply_by (λ _. stand new) stop_says result)
-
-abbrev pub refused_at : ℕ → Stop → ReadFail
-refused_at line stop.Memory = fail.Memory
-refused_at line (stop.Fault cause) = fail.Refused (record { line = line; cause = cause })
-
--- what a failed reading says: the refusal
-abbrev pub fail_says : {B : Type 0} → ReadFail → Reply (Result B Refusal)
-fail_says fail.Memory = Silent
-fail_says (fail.Refused refusal) = Says (Err refusal)
+Stands new result given = Gives (λ _. stand new) result given
 
 -- The script is the definition's, or the refusal is, unless memory ran out.
 abbrev pub Means : Result Script ReadFail → Result (List Item) Refusal → Type 0
-Means result given = IsReply given (reply_by (λ script. script.items.items) fail_says result)
+Means result given = ReadsAs (λ script. script.items.items) result given

@@ -5,15 +5,15 @@ ghost use Rattle.scen_defs.specs.Program.{content};
 ghost use Rattle.edit_script.specs.Commands.{HasName, word_of, first_word, work_line, solve_line, worded, command_of};
 ghost use Rattle.edit_script.specs.declared.command.Command.TheVariants.{Report};
 ghost use Rattle.edit_script.specs.Asked.{AsksOf};
-ghost use Rattle.edit_script.specs.Drafts.{Gives};
+ghost use Rattle.reader_defs.specs.Stops.{Gives};
 ghost use Rattle.edit_script.specs.Tables.{HasTables};
 
 use crate::edits::{add_line, drop_line, prob_line, set_line};
 use crate::numbers::count_of;
-use crate::stop::Stop;
 use crate::tables::Tables;
 use core_defs::Cause;
 use edit_defs::Edit;
+use reader_defs::Stop;
 use scen_defs::Program;
 use smps_words::Line;
 use std::alloc::Global;
@@ -109,7 +109,7 @@ fn worded(
 ) -> Result<Command, Stop>
     requires tables { HasTables (content program.now) tables.now }
     requires named { HasName (seen line.now).fields }
-    ensures gives { Gives result (worded (content program.now) (seen line.now).fields word) }
+    ensures gives { Gives (λ x. x) result (worded (content program.now) (seen line.now).fields word) }
     ensures asks { IfOk result (AsksOf (content program.now)) }
 {
     match word {
@@ -133,7 +133,7 @@ pub(crate) fn command_of(
 ) -> Result<Command, Stop>
     requires tables { HasTables (content program.now) tables.now }
     requires named { HasName (seen line.now).fields }
-    ensures gives { Gives result (command_of (content program.now) (seen line.now).fields) }
+    ensures gives { Gives (λ x. x) result (command_of (content program.now) (seen line.now).fields) }
     ensures asks { IfOk result (AsksOf (content program.now)) }
 {
     let Some(word) = first_word(line) else {

@@ -1,11 +1,11 @@
 // What the commands so far come to.
 use crate::command::{Command, command_of};
-use crate::stop::Stop;
 use crate::tables::Tables;
 use core_defs::Cause;
 use edit_apply::{ApplyFault, apply_near, count};
 use edit_defs::{Act, Counts, Edit, Item, Script};
 use frac128::Memory;
+use reader_defs::Stop;
 use scen_defs::{Kind, Program};
 use scen_model::derive;
 use smps_words::Line;

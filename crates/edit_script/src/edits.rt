@@ -2,20 +2,20 @@
 ghost use Rattle.std.specs.Prelude.{◌≡◌, IfOk};
 ghost use Rattle.smps_words.specs.Seen.{seen};
 ghost use Rattle.scen_defs.specs.Program.{content};
-ghost use Rattle.scen_defs.specs.Valid.{IsField};
+ghost use Rattle.smps_words.specs.Field.{IsField};
 ghost use Rattle.edit_defs.specs.Causes.{Asks};
 ghost use Rattle.edit_script.specs.Commands.{HasName, set_edit, prob_edit, drop_edit, add_edit};
 ghost use Rattle.edit_script.specs.Commands.{set_line, prob_line, drop_line, add_line};
-ghost use Rattle.edit_script.specs.Drafts.{Gives};
+ghost use Rattle.reader_defs.specs.Stops.{Gives};
 ghost use Rattle.edit_script.specs.Tables.{HasTables};
 
 use crate::entries::{known_entry, later_period};
 use crate::numbers::{inner_number, number_of};
-use crate::stop::Stop;
 use crate::tables::Tables;
 use core_defs::Cause;
 use edit_apply::is_known;
 use edit_defs::{Edit, place_near};
+use reader_defs::Stop;
 use scen_defs::Program;
 use smps_words::{Line, Name};
 use std::alloc::Global;
@@ -33,7 +33,7 @@ fn set_edit(
     word: &[u8],
 ) -> Result<Edit, Stop>
     requires tables { HasTables (content program.now) tables.now }
-    ensures gives { Gives result (set_edit (content program.now) name.now column.now row.now word.now) }
+    ensures gives { Gives (λ x. x) result (set_edit (content program.now) name.now column.now row.now word.now) }
     ensures asks { IfOk result (Asks (content program.now)) }
 {
     let Some(_) = place_near(&program.scenarios, place, name) else {
@@ -58,7 +58,7 @@ fn prob_edit(
     name: &[u8],
     word: &[u8],
 ) -> Result<Edit, Stop>
-    ensures gives { Gives result (prob_edit (content program.now) name.now word.now) }
+    ensures gives { Gives (λ x. x) result (prob_edit (content program.now) name.now word.now) }
     ensures asks { IfOk result (Asks (content program.now)) }
 {
     let Some(_) = place_near(&program.scenarios, place, name) else {
@@ -75,7 +75,7 @@ fn prob_edit(
 /// A DROP of its field.
 #[tactic(auto, unfolding(crate::specs::Commands::drop_edit))]
 fn drop_edit(alloc: Global, program: &Program, place: usize, name: &[u8]) -> Result<Edit, Stop>
-    ensures gives { Gives result (drop_edit (content program.now) name.now) }
+    ensures gives { Gives (λ x. x) result (drop_edit (content program.now) name.now) }
     ensures asks { IfOk result (Asks (content program.now)) }
 {
     let Some(_) = place_near(&program.scenarios, place, name) else {
@@ -96,7 +96,7 @@ fn add_edit(
     period: &[u8],
 ) -> Result<Edit, Stop>
     requires field { IsField name.now }
-    ensures gives { Gives result (add_edit (content program.now) name.now parent.now word.now period.now) }
+    ensures gives { Gives (λ x. x) result (add_edit (content program.now) name.now parent.now word.now period.now) }
     ensures asks { IfOk result (Asks (content program.now)) }
 {
     let name = Name::new(alloc, name)?;
@@ -129,7 +129,7 @@ pub(crate) fn set_line(
     line: &Line,
 ) -> Result<Edit, Stop>
     requires tables { HasTables (content program.now) tables.now }
-    ensures gives { Gives result (set_line (content program.now) (seen line.now).fields) }
+    ensures gives { Gives (λ x. x) result (set_line (content program.now) (seen line.now).fields) }
     ensures asks { IfOk result (Asks (content program.now)) }
 {
     let Some([_, name, column, row, word]) = line.fields() else {
@@ -146,7 +146,7 @@ pub(crate) fn prob_line(
     place: usize,
     line: &Line,
 ) -> Result<Edit, Stop>
-    ensures gives { Gives result (prob_line (content program.now) (seen line.now).fields) }
+    ensures gives { Gives (λ x. x) result (prob_line (content program.now) (seen line.now).fields) }
     ensures asks { IfOk result (Asks (content program.now)) }
 {
     let Some([_, name, word]) = line.fields() else {
@@ -163,7 +163,7 @@ pub(crate) fn drop_line(
     place: usize,
     line: &Line,
 ) -> Result<Edit, Stop>
-    ensures gives { Gives result (drop_line (content program.now) (seen line.now).fields) }
+    ensures gives { Gives (λ x. x) result (drop_line (content program.now) (seen line.now).fields) }
     ensures asks { IfOk result (Asks (content program.now)) }
 {
     let Some([_, name]) = line.fields() else {
@@ -176,7 +176,7 @@ pub(crate) fn drop_line(
 #[tactic(auto, using(crate::proofs::Long::long_add), unfolding(crate::specs::Commands::add_line))]
 pub(crate) fn add_line(alloc: Global, program: &Program, line: &Line) -> Result<Edit, Stop>
     requires named { HasName (seen line.now).fields }
-    ensures gives { Gives result (add_line (content program.now) (seen line.now).fields) }
+    ensures gives { Gives (λ x. x) result (add_line (content program.now) (seen line.now).fields) }
     ensures asks { IfOk result (Asks (content program.now)) }
 {
     let Some([_, name, parent, word, period]) = line.fields() else {

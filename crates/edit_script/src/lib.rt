@@ -7,7 +7,6 @@ mod edits;
 mod entries;
 mod numbers;
 mod reading;
-mod stop;
 mod tables;
 
 pub use reading::read_script;

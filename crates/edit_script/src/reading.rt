@@ -3,24 +3,15 @@ ghost use Rattle.std.specs.Prelude.{◌≡◌, ◌<◌, ◌≤◌, ◌-◌, ◌^
 ghost use Rattle.scen_defs.specs.Program.{content};
 ghost use Rattle.edit_script.specs.Script.{script_of};
 ghost use Rattle.edit_script.specs.Allowed.{AreAllowed};
-ghost use Rattle.edit_script.specs.Drafts.{refused_at, Means};
+ghost use Rattle.edit_script.specs.Drafts.{Means};
 
 use crate::draft::Draft;
-use crate::stop::Stop;
-use core_defs::{ReadFail, Refusal};
+use core_defs::ReadFail;
 use edit_defs::Script;
+use reader_defs::refused;
 use scen_defs::Program;
 use smps_words::Lines;
 use std::alloc::Global;
-
-fn refused_at(line: u32, stop: Stop) -> ReadFail
-    ensures { result ≡ refused_at line stop }
-{
-    match stop {
-        Stop::Memory => ReadFail::Memory,
-        Stop::Fault(cause) => ReadFail::Refused(Refusal { line, cause }),
-    }
-}
 
 /// The script that an edit list means for a program.
 ///
@@ -46,7 +37,7 @@ pub fn read_script(alloc: Global, text: &[u8], program: &Program) -> Result<Scri
     while let Some(line) = lines.next() {
         match draft.step(&line) {
             Ok(()) => {}
-            Err(stop) => return Err(refused_at(line.number, stop)),
+            Err(stop) => return Err(refused(line.number, stop)),
         }
     }
     match draft.finish() {

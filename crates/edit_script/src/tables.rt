@@ -10,7 +10,7 @@ use frac128::Memory;
 use indexmap::IndexMap;
 use scen_defs::{Column, Program, Row, Scenario};
 use smps_words::{Line, Names};
-use std::alloc::Global;
+use std::alloc::{AllocError, Global};
 
 /// The names of a program's columns and rows by their numbers, and where its scenarios may stand.
 #[derive(Drop)]
@@ -84,7 +84,7 @@ impl Tables {
     }
 
     /// Notes where the new scenario of an edit stands behind it: it is the last one.
-    pub(crate) fn note(&mut self, edit: &Edit, scenarios: &[Scenario]) -> Result<(), Memory>
+    pub(crate) fn note(&mut self, edit: &Edit, scenarios: &[Scenario]) -> Result<(), AllocError>
         ensures columns { self.new.columns ≡ self.old.columns }
         ensures rows { self.new.rows ≡ self.old.rows }
     {

@@ -4,6 +4,3 @@
 mod multipliers;
 
 pub use multipliers::is_ray;
-
-#[cfg(test)]
-mod tests;

@@ -74,36 +74,50 @@ fn claimed(alloc: Global, program: &Program, claim: Claim, why: Open) -> Result<
     Ok(report)
 }
 
+/// Whether a row of `ENDS` is so.
+fn ends_so(alloc: Global, cover: &Program, line: &str) -> Result<bool, Fail> {
+    let (first, rest) = line.split_once('|').ok_or("no dual")?;
+    let (second, expected) = rest.split_once('|').ok_or("no answer")?;
+    let policy = listed(alloc, first)?;
+    let dual = listed(alloc, second)?;
+    let report = claimed(alloc, cover, Claim::Ends { policy, dual }, Open::Solves(3))?;
+    agrees(alloc, &report, expected)
+}
+
+/// Whether a row of `RAYS` is so.
+fn ray_ends_so(alloc: Global, cover: &Program, line: &str) -> Result<bool, Fail> {
+    let (first, expected) = line.split_once('|').ok_or("no answer")?;
+    let ray = values(alloc, first)?;
+    let report = claimed(alloc, cover, Claim::Nowhere { ray }, Open::Solves(3))?;
+    agrees(alloc, &report, expected)
+}
+
+/// Whether a row of `DIRECTIONS` is so.
+fn direction_ends_so(alloc: Global, cover: &Program, line: &str) -> Result<bool, Fail> {
+    let (first, rest) = line.split_once('|').ok_or("no direction")?;
+    let (second, expected) = rest.split_once('|').ok_or("no answer")?;
+    let policy = values(alloc, first)?;
+    let direction = values(alloc, second)?;
+    let report = claimed(
+        alloc,
+        cover,
+        Claim::Endless { policy, direction },
+        Open::Solves(3),
+    )?;
+    agrees(alloc, &report, expected)
+}
+
 #[test]
 fn claims_on_a_tree(rt: HostRuntime) -> Result<(), Fail> {
     let cover = cover(rt.alloc())?;
     for line in ENDS.lines() {
-        let (first, rest) = line.split_once('|').ok_or("no dual")?;
-        let (second, expected) = rest.split_once('|').ok_or("no answer")?;
-        let policy = listed(rt.alloc(), first)?;
-        let dual = listed(rt.alloc(), second)?;
-        let report = claimed(
-            rt.alloc(),
-            &cover,
-            Claim::Ends { policy, dual },
-            Open::Solves(3),
-        )?;
-        assert!(rt; agrees(rt.alloc(), &report, expected)?, "{line}");
+        assert!(rt; ends_so(rt.alloc(), &cover, line)?, "{line}");
     }
     for line in RAYS.lines() {
-        let (first, expected) = line.split_once('|').ok_or("no answer")?;
-        let ray = values(rt.alloc(), first)?;
-        let report = claimed(rt.alloc(), &cover, Claim::Nowhere { ray }, Open::Solves(3))?;
-        assert!(rt; agrees(rt.alloc(), &report, expected)?, "{line}");
+        assert!(rt; ray_ends_so(rt.alloc(), &cover, line)?, "{line}");
     }
     for line in DIRECTIONS.lines() {
-        let (first, rest) = line.split_once('|').ok_or("no direction")?;
-        let (second, expected) = rest.split_once('|').ok_or("no answer")?;
-        let policy = values(rt.alloc(), first)?;
-        let direction = values(rt.alloc(), second)?;
-        let claim = Claim::Endless { policy, direction };
-        let report = claimed(rt.alloc(), &cover, claim, Open::Solves(3))?;
-        assert!(rt; agrees(rt.alloc(), &report, expected)?, "{line}");
+        assert!(rt; direction_ends_so(rt.alloc(), &cover, line)?, "{line}");
     }
     Ok(())
 }

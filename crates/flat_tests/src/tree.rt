@@ -64,6 +64,35 @@ pub(crate) fn values(alloc: Global, text: &str) -> Result<Values, Fail> {
     Ok(values)
 }
 
+/// Whether a point is feasible where finite ends are 0 and absent bounds are -1 and 1.
+fn stays_feasible(alloc: Global, cover: &Program, point: &Values) -> Result<bool, Fail> {
+    let recession = derive(alloc, cover, Kind::Recession)?;
+    Ok(feasible(alloc, &recession, point)?)
+}
+
+/// Whether a point costs nothing in the run without costs.
+fn is_free(alloc: Global, cover: &Program, point: &Values) -> Result<bool, Fail> {
+    let free = derive(alloc, cover, Kind::Feasible)?;
+    Ok(cost(alloc, &free, point)?.is_zero())
+}
+
+/// What the calls say of a point that fits.
+fn described(alloc: Global, cover: &Program, point: &Values) -> Result<Vec<u8>, Fail> {
+    let mut line = b"fit ".to_vec(alloc)?;
+    line.extend_from_slice(if feasible(alloc, cover, point)? {
+        b"feasible "
+    } else {
+        b"short "
+    })?;
+    frac128::print(alloc, cost(alloc, cover, point)?, &mut line)?;
+    line.extend_from_slice(if stays_feasible(alloc, cover, point)? {
+        b" yes"
+    } else {
+        b" no"
+    })?;
+    Ok(line)
+}
+
 /// Whether the calls answer so of a point.
 fn agrees_at_point(
     alloc: Global,
@@ -75,27 +104,10 @@ fn agrees_at_point(
     if !fits(cover, &point, false) {
         return Ok(expected == "stray");
     }
-    let meets = if feasible(alloc, cover, &point)? {
-        "feasible"
-    } else {
-        "short"
-    };
-    let recession = derive(alloc, cover, Kind::Recession)?;
-    let stays = if feasible(alloc, &recession, &point)? {
-        "yes"
-    } else {
-        "no"
-    };
-    let free = derive(alloc, cover, Kind::Feasible)?;
-    let mut line = b"fit ".to_vec(alloc)?;
-    line.extend_from_slice(meets.as_bytes())?;
-    line.extend_from_slice(b" ")?;
-    frac128::print(alloc, cost(alloc, cover, &point)?, &mut line)?;
-    line.extend_from_slice(b" ")?;
-    line.extend_from_slice(stays.as_bytes())?;
+    let line = described(alloc, cover, &point)?;
     Ok(
         line.as_slice() == expected.as_bytes()
-            && cost(alloc, &free, &point)?.is_zero()
+            && is_free(alloc, cover, &point)?
             && !is_direction(alloc, cover, &point)?,
     )
 }

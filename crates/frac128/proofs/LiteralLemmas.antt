@@ -11,7 +11,7 @@ use Rattle.frac128.specs.declared.text.NumFault.TheVariants.{Wide}
 use Rattle.frac128.specs.Numbers.{choose, number, number_from, is_nothing, exponent, with_exponent, decimal_literal, literal_value, decimal_value, power_value, trim}
 use Rattle.frac128.specs.Numbers.Literal.{no_number}
 use Rattle.ratio128.specs.Ratio.{signed}
-use Rattle.frac128.specs.Significand.{IsTrimmed, IsTooLong, AllDigits}
+use Rattle.frac128.specs.Significand.{IsTrimmed, HasWideSignificand, AllDigits}
 use Rattle.frac128.proofs.ParseLemmas.{wide_where}
 use Rattle.frac128.proofs.SignificandLemmas.{long_on, one_zero, ten_times}
 
@@ -21,8 +21,8 @@ number_from-append n (d ∷ ds) ps = number_from-append (n * 10 + (d - 48)) ds p
 
 -- ---- digits after digits
 
-pub long_first : (ds ps : List ℕ) → AllDigits ps → IsTooLong (number ds) → IsTooLong (number (ds ++ ps))
-long_first ds ps a t = subst IsTooLong (sym (number_from-append 0 ds ps)) (long_on ps (number ds) t.m t.z a t.trimmed t.long)
+pub long_first : (ds ps : List ℕ) → AllDigits ps → HasWideSignificand (number ds) → HasWideSignificand (number (ds ++ ps))
+long_first ds ps a t = subst HasWideSignificand (sym (number_from-append 0 ds ps)) (long_on ps (number ds) t.m t.z a t.trimmed t.long)
 
 pub number-append : (ds ps : List ℕ) (m z : ℕ) → IsTrimmed (number ds) m z → number_from (m * 10 ^ z) ps ≡ number (ds ++ ps)
 number-append ds ps m z t = ap (λ n. number_from n ps) (sym t.value) ∙ sym (number_from-append 0 ds ps)
@@ -82,7 +82,7 @@ module _ (s : Bool) (e : ℤ) where
   wide_power m (pos k) w = ap (λ b. choose (b || (wide (10 ^ k) || wide (m * 10 ^ k))) (Err Wide) (Ok (signed s (m * 10 ^ k) ÷ 1))) w
   wide_power m (negsuc k) w = ap (λ b. choose (b || wide (10 ^ suc k)) (Err Wide) (Ok (signed s m ÷ (10 ^ suc k)))) w
 
-  decimal_long : (n : ℕ) → IsTooLong n → decimal_value s n e ≡ Err Wide
+  decimal_long : (n : ℕ) → HasWideSignificand n → decimal_value s n e ≡ Err Wide
   decimal_long n t =
       let long : 2 ^ 127 ≤ t.m = t.long in
       let most : 0 < 2 ^ 127 = lit< tt in
@@ -98,7 +98,7 @@ with_digits_value s ds ps rest e h f =
     ap (λ b. literal_value s (choose b no_number (with_exponent (number (ds ++ ps)) (length ps) (exponent rest)))) h
     ∙ ap (λ x. literal_value s (with_exponent (number (ds ++ ps)) (length ps) x)) (sym f)
 
-pub long_value : (s : Bool) (ds ps rest : List ℕ) (e : ℤ) → Some e ≡ exponent rest → IsTooLong (number (ds ++ ps)) → Err Wide ≡ literal_value s (decimal_literal ds ps rest)
+pub long_value : (s : Bool) (ds ps rest : List ℕ) (e : ℤ) → Some e ≡ exponent rest → HasWideSignificand (number (ds ++ ps)) → Err Wide ≡ literal_value s (decimal_literal ds ps rest)
 long_value s ds ps rest e f t =
     let long : 2 ^ 127 ≤ t.m = t.long in
     let most : 0 < 2 ^ 127 = lit< tt in

@@ -2,8 +2,6 @@
 #![tactic(auto)]
 
 mod digits;
-#[cfg(test)]
-mod edge_tests;
 mod form;
 mod frac_step;
 mod fraction;
@@ -12,8 +10,6 @@ mod memory;
 mod passed;
 mod significand;
 mod term;
-#[cfg(test)]
-mod tests;
 mod text;
 
 pub use form::{Form, FormFault, value_in};

@@ -9,7 +9,8 @@ use Rattle.smps_words.specs.declared.row_kind.RowKind.TheVariants.{Less, Greater
 use Rattle.lp_defs.specs.Program.{IsFormBelow}
 use Rattle.slack_form.specs.declared.limits.Limit.{Limit}
 use Rattle.scen_defs.specs.Lists.{Each, pick}
-use Rattle.scen_defs.specs.Ends.{InOrder, IsGoodAt, worth}
+use Rattle.rationals.specs.Intervals.{InOrder}
+use Rattle.scen_defs.specs.Ends.{IsGoodAt, worth}
 use Rattle.cut_defs.specs.declared.datum.ColumnBounds.{ColumnBounds}
 use Rattle.interval_form.specs.declared.part.Part.{Part}
 use Rattle.interval_form.specs.Parts.{part_of, behind, part_at, shift, entry, spread_form}

@@ -15,7 +15,8 @@ use Rattle.time_defs.specs.Means.{Stages}
 use Rattle.stoch_defs.specs.declared.section.StochSection.{StochSection}
 use Rattle.stoch_defs.specs.declared.section.StochSection.TheVariants as sections
 use Rattle.stoch_defs.specs.Entries.{stage_of, is_late}
-use Rattle.stoch_defs.specs.File.{at_line, stoch_file, read_random}
+use Rattle.time_defs.specs.Step.{at_line}
+use Rattle.stoch_defs.specs.File.{stoch_file, read_random}
 use Rattle.stoch_defs.specs.Finish.{random_of}
 use Rattle.stoch_defs.specs.Section.{is_end}
 use Rattle.stoch_defs.specs.Stated.{Stated, nothing_stated, place_of_entry, no_case, no_branch, path_among, paths_of}

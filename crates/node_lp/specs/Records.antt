@@ -5,7 +5,8 @@ use Rattle.rationals.specs.Rational.{ℚ, zero_ℚ, ◌+ℚ◌, ◌-ℚ◌, ◌*
 use Rattle.rationals.specs.Sums.{sum_ℚ}
 use Rattle.rationals.specs.Sparse.{Entry, coefficient, product, value_if}
 use Rattle.scen_defs.specs.Lists.{Each}
-use Rattle.scen_defs.specs.Ends.{Between, IsGoodAt, worth}
+use Rattle.rationals.specs.Intervals.{Between}
+use Rattle.scen_defs.specs.Ends.{IsGoodAt, worth}
 use Rattle.scen_defs.specs.declared.program.NodeRow.{NodeRow}
 use Rattle.cut_defs.specs.declared.datum.ColumnBounds.{ColumnBounds}
 use Rattle.cut_defs.specs.declared.datum.Share.{Share}

@@ -2,7 +2,7 @@
 ghost use Rattle.std.specs.Prelude.{◌≡◌, ◌⊎◌, ◌<◌, ℕ, Ok, [], length, replicate, true, false, IfOk, IfSome, IsSome, IsSomeAnd, OnOk};
 ghost use Rattle.scen_defs.specs.Program.{content, Program as ProgramOf};
 ghost use Rattle.scen_tree.specs.Trees.{Tree as TreeOf, tree_walk};
-ghost use Rattle.scen_defs.specs.Valid.{IsSmall, Lives};
+ghost use Rattle.scen_defs.specs.Valid.{Lives};
 ghost use Rattle.run_data.specs.Counts.{untouched, version_of};
 ghost use Rattle.run_data.specs.Frames.{frame_of, children_in};
 ghost use Rattle.cut_banks.specs.Banks.{empty_banks, pools_of};
@@ -113,7 +113,7 @@ pub(crate) struct Begun {
 impl State {
     /// The state before any solve. None where the program's nodes aren't numbered from the root on.
     pub fn start(alloc: Global, program: &Program, budget: Budget) -> Result<Option<State>, Memory>
-        ensures beginning { let p = content program.now in IsSmall p → IfOk result (λ all. IfSome all (IsBeginning p budget)) }
+        ensures beginning { IfOk result (λ all. IfSome all (IsBeginning (content program.now) budget)) }
         ensures counts { IfOk result (λ all. IfSome all (λ s. s.counts ≡ no_commits)) }
         ensures tabled { IfOk result (λ all. IfSome all (IsTabled (content program.now))) }
         ensures some { length (content program.now).nodes < nothing → IfOk result (λ all. IsSome all) }
@@ -145,7 +145,7 @@ impl State {
     /// Forgets all that was found, the cuts too, so that the program is begun anew. The solves stay counted.
     pub fn start_over(&mut self, alloc: Global, program: &Program) -> Result<(), Memory>
         // or it does nothing, where the program's nodes aren't numbered from the root on
-        ensures over { let p = content program.now in IsSmall p → OnOk result ((self.new ≡ self.old) ⊎ StartsOver p self.old self.new) }
+        ensures over { OnOk result ((self.new ≡ self.old) ⊎ StartsOver (content program.now) self.old self.new) }
         ensures starts { let p = content program.now in length p.nodes < nothing
             → OnOk result (StartsOver p self.old self.new) }
         ensures tabled { let p = content program.now in length p.nodes < nothing → OnOk result (IsTabled p self.new) }

@@ -6,7 +6,7 @@ use Rattle.rationals.specs.Ring.Given.{nothing, fact, equal}
 use Rattle.rationals.specs.Sums.{sum_ℚ}
 use Rattle.rationals.specs.Sparse.{Entry, product, coefficient, value_if}
 use Rattle.scen_defs.specs.Lists.{Each, Once}
-use Rattle.scen_defs.specs.Ends.{Between}
+use Rattle.rationals.specs.Intervals.{Between}
 use Rattle.scen_defs.specs.declared.program.NodeRow.{NodeRow}
 use Rattle.scen_defs.specs.Program.{View, IsLive, IsColumn, HasPlace, IsEntry, IsColumnOf, IsTree}
 use Rattle.scen_defs.specs.Trees.HasPlace.{is_first, is_below}

@@ -6,7 +6,7 @@ use Rattle.rationals.specs.Forms.{IsForm}
 use Rattle.scen_defs.specs.declared.program.NodeRow.{NodeRow}
 use Rattle.scen_defs.specs.declared.report.Kind.{Kind}
 use Rattle.scen_defs.specs.Lists.{Each, Once}
-use Rattle.scen_defs.specs.Ends.{Between}
+use Rattle.rationals.specs.Intervals.{Between}
 use Rattle.scen_defs.specs.Values.{at}
 use Rattle.scen_defs.specs.Program.{Program, View, IsLive, IsTree}
 use Rattle.scen_defs.specs.Flat.{Feasible, cost, IsRoot}

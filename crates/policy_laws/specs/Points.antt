@@ -7,7 +7,7 @@ use Rattle.rationals.specs.Forms.{IsForm}
 use Rattle.scen_defs.specs.declared.program.NodeRow.{NodeRow}
 use Rattle.scen_defs.specs.declared.report.Kind.{Kind}
 use Rattle.scen_defs.specs.Lists.{Each, Once}
-use Rattle.scen_defs.specs.Ends.{Between}
+use Rattle.rationals.specs.Intervals.{Between}
 use Rattle.scen_defs.specs.Program.{Program}
 use Rattle.scen_defs.specs.Flat.{children, share}
 use Rattle.scen_defs.specs.Valid.{Lives}

@@ -4,7 +4,7 @@ use Rattle.std.proofs.lemmas.List.{length-replicate}
 use Rattle.rationals.specs.Sparse.{Entry}
 use Rattle.core_defs.specs.declared.program.Core.{Core}
 use Rattle.scen_defs.specs.Lists.{Each}
-use Rattle.scen_defs.specs.Valid.{IsField}
+use Rattle.smps_words.specs.Field.{IsField}
 use Rattle.smps_words.proofs.NumberedNames.{numbered_snoc, none_numbered}
 use Rattle.time_defs.specs.Periods.{ArePeriods}
 use Rattle.time_defs.specs.Means.{Stages, IsReached, entries_at}

@@ -11,7 +11,7 @@ use Rattle.core_defs.specs.declared.program.Core.{Core}
 use Rattle.time_defs.specs.declared.periods.Periods.{Periods}
 use Rattle.time_defs.specs.Means.{Stages}
 use Rattle.time_defs.specs.Laws.{IsTimeReading}
-use Rattle.smps_time.specs.View.{stages_view}
+use Rattle.time_defs.specs.Periods.{stages}
 use Rattle.stoch_defs.specs.declared.stoch.Stoch.{Stoch}
 use Rattle.stoch_defs.specs.Random.{content as content_of}
 use Rattle.stoch_defs.specs.File.{IsStochReading}
@@ -28,7 +28,7 @@ use Rattle.program_files.specs.Edited.{MeansScript, MeansReports, RefusesEdits, 
 
 -- the periods that the time file means, or its first fault, or memory was wanting
 abbrev pub GivesPeriods : Core → Option (List ℕ) → Result Periods ReadFail → Type 0
-GivesPeriods core text (Ok periods) = MeansPeriods core text (stages_view periods)
+GivesPeriods core text (Ok periods) = MeansPeriods core text (stages periods)
 GivesPeriods core text (Err fail.Memory) = ⊤
 GivesPeriods core None (Err (fail.Refused refusal)) = ⊥
 GivesPeriods core (Some text) (Err (fail.Refused refusal)) = IsTimeReading core text (Err refusal)

@@ -1,9 +1,8 @@
 //! Reads the three texts of a program.
-ghost use Rattle.std.specs.Prelude.{◌≡◌, ◌≤◌, Some, IfOk, IfSome, length};
+ghost use Rattle.std.specs.Prelude.{◌≡◌, ◌≤◌, Some, IfSome, length};
 ghost use Rattle.core_defs.specs.declared.cause.Cause.{Cause};
-ghost use Rattle.scen_defs.specs.Program.{content, view_of, IsTree};
 ghost use Rattle.stoch_defs.specs.Random.{content as content_of};
-ghost use Rattle.smps_time.specs.View.{stages_view};
+ghost use Rattle.time_defs.specs.Periods.{stages};
 ghost use Rattle.input_files.specs.Fetched.{file_limit};
 ghost use Rattle.input_files.specs.Unfetched.{texts_view, given_bytes};
 ghost use Rattle.program_files.specs.Meant.{AreWithin, MeansCore, MeansPeriods, MeansRandom};
@@ -54,7 +53,7 @@ fn read_cases(
     periods: &Periods,
 ) -> Result<Stoch, ReadFail>
     requires { IfSome (given_bytes text.now) (λ bytes. length bytes ≤ file_limit) }
-    ensures { GivesRandom core.now (stages_view periods.now) (given_bytes text.now) result }
+    ensures { GivesRandom core.now (stages periods.now) (given_bytes text.now) result }
 {
     match text {
         Some(text) => read_stoch(alloc, text, core, periods),
@@ -108,10 +107,9 @@ fn with_cases(
     stoch: &Stoch,
 ) -> Result<Program, Unread>
     requires core { MeansCore texts.now.core.items core }
-    requires periods { MeansPeriods core (given_bytes texts.now.time) (stages_view periods.now) }
-    requires cases { MeansRandom core (stages_view periods.now) (given_bytes texts.now.stoch) (content_of stoch.now) }
-    ensures means { MeansOrRefused (texts_view texts.now) result }
-    ensures tree { IfOk result (λ program. IsTree (view_of (content program))) }
+    requires periods { MeansPeriods core (given_bytes texts.now.time) (stages periods.now) }
+    requires cases { MeansRandom core (stages periods.now) (given_bytes texts.now.stoch) (content_of stoch.now) }
+    ensures { MeansOrRefused (texts_view texts.now) result }
 {
     match build(alloc, &core, periods, stoch) {
         Ok(program) => Ok(program),
@@ -128,9 +126,8 @@ fn with_periods(
 ) -> Result<Program, Unread>
     requires within { AreWithin (texts_view texts.now) }
     requires core { MeansCore texts.now.core.items core }
-    requires periods { MeansPeriods core (given_bytes texts.now.time) (stages_view periods.now) }
-    ensures means { MeansOrRefused (texts_view texts.now) result }
-    ensures tree { IfOk result (λ program. IsTree (view_of (content program))) }
+    requires periods { MeansPeriods core (given_bytes texts.now.time) (stages periods.now) }
+    ensures { MeansOrRefused (texts_view texts.now) result }
 {
     match read_cases(alloc, &texts.stoch, &core, periods) {
         Ok(stoch) => with_cases(alloc, texts, core, periods, &stoch),
@@ -142,8 +139,7 @@ fn with_periods(
 fn with_core(alloc: Global, texts: &Texts, core: Core) -> Result<Program, Unread>
     requires within { AreWithin (texts_view texts.now) }
     requires core { MeansCore texts.now.core.items core }
-    ensures means { MeansOrRefused (texts_view texts.now) result }
-    ensures tree { IfOk result (λ program. IsTree (view_of (content program))) }
+    ensures { MeansOrRefused (texts_view texts.now) result }
 {
     match read_periods(alloc, &texts.time, &core) {
         Ok(periods) => with_periods(alloc, texts, core, &periods),
@@ -156,8 +152,7 @@ fn with_core(alloc: Global, texts: &Texts, core: Core) -> Result<Program, Unread
 /// keeps all that programs keep (names, nodes, paths, probabilities that add up to 1), and so is a tree.
 pub fn read_program(alloc: Global, texts: &Texts) -> Result<Program, Unread>
     requires { AreWithin (texts_view texts.now) }
-    ensures means { MeansOrRefused (texts_view texts.now) result }
-    ensures tree { IfOk result (λ program. IsTree (view_of (content program))) }
+    ensures { MeansOrRefused (texts_view texts.now) result }
 {
     match read_core(alloc, &texts.core) {
         Ok(core) => with_core(alloc, texts, core),

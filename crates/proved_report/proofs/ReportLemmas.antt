@@ -8,7 +8,6 @@ use Rattle.scen_defs.specs.Lists.{pick}
 use Rattle.scen_defs.specs.Values.{At, at}
 use Rattle.scen_defs.specs.Fits.{ListsHaveNames}
 use Rattle.scen_defs.specs.Program.{View, IsTree, content}
-use Rattle.scen_defs.specs.Valid.{IsSmall}
 use Rattle.scen_defs.specs.declared.program.Program.{Program}
 use Rattle.scen_defs.specs.declared.report.Place.{Place}
 use Rattle.scen_defs.specs.declared.report.Finding.{Finding}
@@ -199,8 +198,8 @@ module _ (program : Program) (number : ℕ) (blank : Report) (h : IsFilled progr
   endless_filled Fails slope = h
   endless_filled (Passes p) slope = h
 
-pub counted : (program : Program) (number : ℕ) (report : Report) → IsSmall (content program) → IsFilled program number report → HasCounts (seen program) report
-counted program number report small h = record {
-  nodes = h.nodes (subst (λ (n : ℕ). n < 2 ^ 32) (node_places program.nodes.items) small.nodes);
-  scenarios = h.scenarios (subst (λ (n : ℕ). n < 2 ^ 32) (scenario_places program.scenarios.items) small.scenarios) ∙ sym (scenario_places program.scenarios.items);
+pub counted : (program : Program) (number : ℕ) (report : Report) → IsFilled program number report → HasCounts (seen program) report
+counted program number report h = record {
+  nodes = h.nodes (subst (λ (n : ℕ). n < 2 ^ 32) (node_places program.nodes.items) program.keeps.small.nodes);
+  scenarios = h.scenarios (subst (λ (n : ℕ). n < 2 ^ 32) (scenario_places program.scenarios.items) program.keeps.small.scenarios) ∙ sym (scenario_places program.scenarios.items);
 }

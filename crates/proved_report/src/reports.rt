@@ -2,8 +2,6 @@
 ghost use Rattle.std.specs.Prelude.{◌≡◌, IfOk};
 ghost use Rattle.scen_defs.specs.Lists.{pick};
 ghost use Rattle.scen_defs.specs.Fits.{ListsHaveNames};
-ghost use Rattle.scen_defs.specs.Program.{IsTree, content};
-ghost use Rattle.scen_defs.specs.Valid.{IsSmall};
 ghost use Rattle.report_defs.specs.Truth.{IsTrue, HasCounts};
 ghost use Rattle.proved_report.specs.Open.{given};
 ghost use Rattle.report_defs.specs.Seen.{seen};
@@ -40,9 +38,9 @@ pub fn report(
     solves: u64,
 ) -> Result<Report, Memory>
     ensures number { IfOk result (λ report. report.number ≡ number) }
-    ensures counts { IsSmall (content program.now) → IfOk result (HasCounts (seen program.now)) }
+    ensures counts { IfOk result (HasCounts (seen program.now)) }
     ensures names { IfOk result (ListsHaveNames program.now) }
-    ensures truth { IsTree (seen program.now) → IfOk result (IsTrue (seen program.now) (given why solves)) }
+    ensures truth { IfOk result (IsTrue (seen program.now) (given why solves)) }
     ensures exact { IfOk result (IsClaimed program.now number place why solves claim) }
     ensures equal { IfOk result EqualIsOptimal }
 {

@@ -1,5 +1,7 @@
-//! Tests of what is said of refused lines: the sentence, and which fields are quoted.
+//! Tests of what standard error says of refused lines, with the fields that it quotes, of outputs, and of words that are no command.
 #![tactic(auto)]
 
+#[cfg(test)]
+mod outputs;
 #[cfg(test)]
 mod tests;

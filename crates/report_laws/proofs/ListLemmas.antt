@@ -15,11 +15,12 @@ use Rattle.smps_words.specs.Line.{is_blank}
 use Rattle.smps_words.specs.Names.{place_of, IsNumbered}
 use Rattle.smps_words.proofs.NumberedNames.{none_numbered, numbered_snoc}
 use Rattle.scen_defs.specs.Lists.{Each, pick}
-use Rattle.scen_defs.specs.Valid.{IsField, Differ, AreNames}
+use Rattle.smps_words.specs.Field.{IsField}
+use Rattle.scen_defs.specs.Valid.{Differ, AreNames}
 use Rattle.scen_defs.specs.Values.{At, IsBefore, EndsBefore, Rises}
 use Rattle.report_reader.specs.Answers.{bad}
 use Rattle.report_reader.specs.Lines.{pushed, numbered, value_line}
-use Rattle.report_reader.proofs.NameLemmas.{is_new}
+use Rattle.scen_defs.proofs.NewNames.{is_new}
 use Rattle.report_reader.proofs.OrderLemmas.{all_before_means}
 use Rattle.report_laws.specs.Printable.{IsOneOf}
 use Rattle.report_laws.proofs.WordLemmas.{lacks, lacks-append, then_ok, field_word, small_lacks, text_lacks}

@@ -2,7 +2,6 @@
 //! Nodes that were dropped keep their places, and are no node's children.
 ghost use Rattle.std.specs.Prelude.{◌≡◌, ◌<◌, ◌-◌, ◌^◌, [], min, map, length, replicate, IfOk, OnOk};
 ghost use Rattle.scen_defs.specs.Program.{content, place_content, nodes_content, view_of};
-ghost use Rattle.scen_defs.specs.Valid.{IsSmall};
 ghost use Rattle.scen_tree.specs.Trees.{lists, position_by, position_of, with_child, children_from};
 ghost use Rattle.scen_tree.specs.declared.position.Position.TheVariants.{Below};
 ghost use Rattle.run_data.specs.Frames.{parent_of, stage_of, columns_from, frame_of, parent_in, children_in, columns_in};
@@ -211,9 +210,9 @@ fn columns_of(alloc: Global, program: &Program) -> Result<Vec<StageColumns>, Mem
 }
 
 impl Frame {
-    /// The frame of a program whose nodes and columns have numbers of 32 bits.
+    /// The frame of a program.
     pub fn of(alloc: Global, program: &Program) -> Result<Frame, Memory>
-        ensures { IfOk result (λ frame. IsSmall (content program.now) → frame ≡ frame_of (content program.now)) }
+        ensures { IfOk result (λ frame. frame ≡ frame_of (content program.now)) }
     {
         let parents = parents_of(alloc, &program.nodes)?;
         let children = children_of(alloc, &program.nodes)?;

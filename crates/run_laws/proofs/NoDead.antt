@@ -7,7 +7,7 @@ use Rattle.rationals.specs.Ring.Given.{nothing as no_more, fact}
 use Rattle.rationals.specs.Sums.{sum-zero}
 use Rattle.rationals.specs.Sparse.{Entry, product}
 use Rattle.scen_defs.specs.Lists.{Each}
-use Rattle.scen_defs.specs.Ends.{AtLeast, AtMost, Between}
+use Rattle.rationals.specs.Intervals.{AtLeast, AtMost, Between}
 use Rattle.scen_defs.specs.Program.{Program, View, is_live, view_of}
 use Rattle.scen_defs.specs.Flat.{FeasibleAt, Feasible, cost, IsGood, value, without_costs, recession, zero_end, zero_row}
 use Rattle.scen_defs.specs.Values.{at}

@@ -10,7 +10,8 @@ use Rattle.rationals.proofs.OrderMeaning.{compare_means}
 use Rattle.rationals.specs.Passes.{Operation, then_value}
 use Rattle.rationals.specs.Sparse.{Entry, Ascending}
 use Rattle.scen_defs.specs.Lists.{Each, passes_at}
-use Rattle.scen_defs.specs.Ends.{IsGoodAt, InOrder}
+use Rattle.rationals.specs.Intervals.{InOrder}
+use Rattle.scen_defs.specs.Ends.{IsGoodAt}
 use Rattle.scen_defs.specs.Program.{Program, view_of, IsNode}
 use Rattle.scen_defs.specs.Flat.{cost, IsGood, GoodAt, value, reduced, recession, zero_row}
 use Rattle.scen_defs.specs.Valid.{IsProgram, Lives}

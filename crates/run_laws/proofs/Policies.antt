@@ -8,7 +8,7 @@ use Rattle.rationals.specs.Sparse.{Entry, coefficient, product}
 use Rattle.rationals.specs.Forms.{add_scaled_walk}
 use Rattle.rationals.proofs.WalkLaws.{sum_coefficient}
 use Rattle.scen_defs.specs.Lists.{Each, passes_at}
-use Rattle.scen_defs.specs.Ends.{Between}
+use Rattle.rationals.specs.Intervals.{Between}
 use Rattle.scen_defs.specs.Values.{at}
 use Rattle.scen_defs.specs.Program.{Program, View, view_of, is_live, IsLive as IsLiveIn}
 use Rattle.scen_defs.specs.Flat.{cost, is_child, children, share}

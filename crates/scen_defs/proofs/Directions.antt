@@ -7,7 +7,7 @@ use Rattle.rationals.specs.Ring.Given.{nothing, fact}
 use Rattle.rationals.specs.Sums.{sum_ℚ, sum-add, sum-scale}
 use Rattle.rationals.specs.Sparse.{product, product-along}
 use Rattle.scen_defs.specs.Lists.{Each}
-use Rattle.scen_defs.specs.Ends.{AtLeast, AtMost, Between}
+use Rattle.rationals.specs.Intervals.{AtLeast, AtMost, Between}
 use Rattle.scen_defs.specs.Program.{View, Scenario}
 use Rattle.scen_defs.specs.declared.program.NodeRow.{NodeRow}
 use Rattle.scen_defs.specs.Flat.{along, node_cost, cost, Feasible, zero_end, zero_row, with_zero_ends}

@@ -3,7 +3,8 @@ use Rattle.std.proofs.Common.{◌≡◌, Bool, true, false, [], ◌∷◌, Optio
 use Rattle.rationals.specs.Rational.{ℚ, zero_ℚ, ◌+ℚ◌, ◌*ℚ◌, ◌-ℚ◌, ◌≤ℚ◌, ◌<ℚ◌, at_most, at_most_true, at_most_false, by_ring, by_facts, by_linear, terms, le_refl_ℚ, le_of_same_ℚ, le_antisym_ℚ, lt_le_ℚ, lt_by, not_le_of_lt_ℚ, le_total_ℚ, zero_mul_ℚ, mul_mono_ℚ}
 use Rattle.rationals.specs.Ring.Facts.{end, by_times}
 use Rattle.rationals.specs.Ring.Given.{nothing, fact, equal}
-use Rattle.scen_defs.specs.Ends.{AtLeast, AtMost, Between, InOrder, used_end, IsFinite, number, IsGoodAt, worth}
+use Rattle.rationals.specs.Intervals.{AtLeast, AtMost, Between, InOrder}
+use Rattle.scen_defs.specs.Ends.{used_end, IsFinite, number, IsGoodAt, worth}
 
 -- a good multiplier's worth is at most its product with any number of the interval
 pub worth-below : (low high : Option ℚ) (y v : ℚ) → IsGoodAt low high y → Between low high v → worth low high y ≤ℚ y *ℚ v

@@ -1,6 +1,7 @@
 pub mod ValueLaws
 pub mod NodeReads
 pub mod SumLaws
+pub mod NewNames
 pub mod EndLaws
 pub mod TreeLaws
 pub mod Costs

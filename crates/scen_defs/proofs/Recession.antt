@@ -3,7 +3,7 @@ use Rattle.std.proofs.Common.{ℕ, List, [], ◌∷◌, map, Option, Some, None}
 use Rattle.rationals.specs.Rational.{ℚ, zero_ℚ, one_ℚ, neg_ℚ, by_linear, terms, le_refl_ℚ}
 use Rattle.rationals.specs.Ring.Given.{nothing}
 use Rattle.scen_defs.specs.Lists.{Each}
-use Rattle.scen_defs.specs.Ends.{InOrder}
+use Rattle.rationals.specs.Intervals.{InOrder}
 use Rattle.scen_defs.specs.Program.{HasPlace, IsRow}
 use Rattle.scen_defs.specs.Trees.HasPlace.{is_first, is_below}
 use Rattle.scen_defs.specs.Flat.{zero_end, zero_row, recession}

@@ -5,7 +5,8 @@ use Rattle.rationals.specs.Ring.Given.{nothing, fact}
 use Rattle.rationals.specs.Sums.{sum_ℚ, sum-zero}
 use Rattle.rationals.specs.Sparse.{coefficient}
 use Rattle.scen_defs.specs.Lists.{Each}
-use Rattle.scen_defs.specs.Ends.{AtLeast, AtMost, IsFinite, IsGoodAt, worth}
+use Rattle.rationals.specs.Intervals.{AtLeast, AtMost}
+use Rattle.scen_defs.specs.Ends.{IsFinite, IsGoodAt, worth}
 use Rattle.scen_defs.specs.Program.{View, total}
 use Rattle.scen_defs.specs.declared.program.NodeRow.{NodeRow}
 use Rattle.scen_defs.specs.Flat.{subtree, reduced, value, zero_end, zero_row, recession}

@@ -4,7 +4,8 @@ use Rattle.rationals.specs.Rational.{ℚ, zero_ℚ, one_ℚ, neg_ℚ, ◌/ℚ◌
 use Rattle.rationals.specs.Sums.{sum_ℚ}
 use Rattle.rationals.specs.Sparse.{product, coefficient}
 use Rattle.scen_defs.specs.Lists.{Each, keep}
-use Rattle.scen_defs.specs.Ends.{Between, IsGoodAt, worth}
+use Rattle.rationals.specs.Intervals.{Between}
+use Rattle.scen_defs.specs.Ends.{IsGoodAt, worth}
 use Rattle.scen_defs.specs.Program.{Scenario, View, total}
 use Rattle.scen_defs.specs.declared.program.NodeRow.{NodeRow}
 

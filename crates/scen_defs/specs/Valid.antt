@@ -2,25 +2,20 @@
 use Rattle.std.proofs.Common.{◌≡◌, ℕ, zero, suc, ◌<◌, ◌≤◌, ◌^◌, is_some, Bool, true, false, ◌||◌, eqb, leb, List}
 use Rattle.std.proofs.Common.{[], ◌∷◌, map, length}
 use Rattle.std.proofs.Common.{Option, Some, None}
-use Rattle.smps_words.specs.Line.{is_blank}
+use Rattle.smps_words.specs.Field.{IsField}
 use Rattle.smps_words.specs.declared.row_kind.RowKind.{RowKind}
 use Rattle.smps_words.specs.declared.row_kind.RowKind.TheVariants.{Less, Greater, Equal}
 use Rattle.rationals.specs.Rational.{ℚ, zero_ℚ, one_ℚ, ◌<ℚ◌}
 use Rattle.rationals.specs.Sums.{sum_ℚ}
 use Rattle.rationals.specs.Sparse.{Entry}
 use Rattle.scen_defs.specs.Lists.{Each, is_in, places, passes_at}
-use Rattle.scen_defs.specs.Ends.{InOrder}
+use Rattle.rationals.specs.Intervals.{InOrder}
 use Rattle.scen_defs.specs.Trees.{Node, Scenario, Program, is_live, node_at}
 use Rattle.scen_defs.specs.declared.program.Column.{Column}
 use Rattle.scen_defs.specs.declared.program.Row.{Row}
 use Rattle.scen_defs.specs.declared.program.NodeRow.{NodeRow}
 
 -- ---- names
--- a field: at least one byte, none of them a blank or a line feed
-pub record IsField (name : List ℕ) : Type 0 where
-  pub some : 0 < length name
-  pub unbroken : Each (λ b. (is_blank b || eqb b 10) ≡ false) name
-
 -- no two of them are the same
 abbrev pub Differ : List (List ℕ) → Type 0
 Differ [] = Unit {0}

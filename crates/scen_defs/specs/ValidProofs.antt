@@ -2,20 +2,14 @@
 use Rattle.std.proofs.Common.{ℕ, suc, List, [], ◌∷◌, Option, Some, None}
 use Rattle.std.specs.Coded.{×_prop, Unit-prop}
 use Rattle.std.proofs.Props.{props}
-use Rattle.rationals.specs.Rational.{ℚ}
 use Rattle.scen_defs.specs.Lists.{Each}
-use Rattle.scen_defs.specs.Ends.{InOrder}
+use Rattle.rationals.specs.IntervalProofs.{in_order_prop}
 use Rattle.scen_defs.specs.Trees.{Program}
 use Rattle.scen_defs.specs.Valid.{Differ, HasParent, Follows, IsProgram}
 
 each_prop : {A : Type 0} {P : A → Type 0} → ((x : A) → IsProp (P x)) → (xs : List A) → IsProp (Each P xs)
 each_prop one [] = Unit-prop
 each_prop one (x ∷ xs) = ×_prop (one x) (each_prop one xs)
-
-in_order_prop : (low high : Option ℚ) → IsProp (InOrder low high)
-in_order_prop None high = Unit-prop
-in_order_prop (Some low) None = Unit-prop
-in_order_prop (Some low) (Some high) = hlevel props
 
 differ_prop : (names : List (List ℕ)) → IsProp (Differ names)
 differ_prop [] = Unit-prop

@@ -5,7 +5,7 @@ use Rattle.rationals.specs.Passes.{then_walk}
 use Rattle.rationals.specs.Sparse.{product}
 use Rattle.scen_defs.specs.declared.program.NodeRow.{NodeRow}
 use Rattle.scen_defs.specs.Lists.{Each}
-use Rattle.scen_defs.specs.Ends.{AtLeast, AtMost, Between}
+use Rattle.rationals.specs.Intervals.{AtLeast, AtMost, Between}
 use Rattle.scen_defs.specs.Program.{View, IsTree}
 use Rattle.scen_defs.specs.Flat.{along, FeasibleAt, Feasible, zero_end, zero_row, with_zero_ends, IsDirection}
 use Rattle.scen_defs.proofs.SumLaws.{each-both, each-map}

@@ -11,7 +11,7 @@ use Rattle.scen_defs.specs.declared.program.Column.{Column}
 use Rattle.scen_defs.specs.declared.program.Row.{Row}
 use Rattle.scen_defs.specs.declared.program.NodeRow.{NodeRow}
 use Rattle.scen_defs.specs.Lists.{Each, passes_at}
-use Rattle.scen_defs.specs.Ends.{InOrder}
+use Rattle.rationals.specs.Intervals.{InOrder}
 use Rattle.scen_defs.specs.Trees.{Node, Scenario, Program, is_live, node_at}
 use Rattle.scen_defs.specs.Valid.{Lives, HasParent, FitsRow, FitsNode, Follows, FitsScenario, FitsColumn, IsProgram, AreNames}
 use Rattle.scen_defs.proofs.SumLaws.{each-map}

@@ -20,6 +20,3 @@ pub use outcome::Outcome;
 pub use sign::is_above_zero;
 pub use solver::solve;
 pub use standard::Standard;
-
-#[cfg(test)]
-mod tests;

@@ -15,6 +15,3 @@ pub use laws::slack_form_means;
 pub use limits::{Limit, Limits};
 pub use signs::own_duals;
 pub use slacks::standard;
-
-#[cfg(test)]
-mod tests;

@@ -1,17 +1,17 @@
 -- What a core keeps, in the words of programs.
-use Rattle.std.proofs.Common.{◌≡◌, ◌∙◌, ℕ, suc, ◌<◌, ◌^◌, true, false, List, [], ◌∷◌, map, length, get_or, Option, Some, None, All, ap, arith}
+use Rattle.std.proofs.Common.{◌≡◌, ◌∙◌, ℕ, suc, ◌<◌, ◌^◌, true, false, List, [], ◌∷◌, map, length, get_or, All, ap, arith}
 use Rattle.std.proofs.lemmas.List.Elements.{All-head, All-tail}
-use Rattle.rationals.specs.Rational.{ℚ}
 use Rattle.smps_words.specs.Names.{same_name, IsNumbered}
 use Rattle.smps_words.proofs.NumberedNames.{same_name_refl}
 use Rattle.core_defs.specs.declared.parts.RowDef.{RowDef}
 use Rattle.core_defs.specs.declared.parts.ColumnDef.{ColumnDef}
 use Rattle.core_defs.specs.declared.program.Core.{Core}
-use Rattle.core_defs.specs.Core as core_words
+use Rattle.core_defs.specs.Core.{IsCore, row_names, column_names}
 use Rattle.core_defs.proofs.NameLemmas.{At, place_at}
 use Rattle.scen_defs.specs.Lists.{Each}
-use Rattle.scen_defs.specs.Ends.{InOrder}
-use Rattle.scen_defs.specs.Valid.{IsField, Differ, AreNames}
+use Rattle.rationals.specs.Intervals.{InOrder}
+use Rattle.smps_words.specs.Field.{IsField}
+use Rattle.scen_defs.specs.Valid.{Differ, AreNames}
 
 -- fewer than 2^32 rows and columns, of different names that are fields, and no lower bound above its upper one
 pub record CoreFits (core : Core) : Type 0 where
@@ -21,16 +21,13 @@ pub record CoreFits (core : Core) : Type 0 where
   pub columns : AreNames (map (λ (c : ColumnDef). c.name) core.columns.items)
   pub bounds : Each (λ (c : ColumnDef). InOrder c.lower c.upper) core.columns.items
 
-each_of : {A : Type 0} (P Q : A → Type 0) (xs : List A) → ((x : A) → P x → Q x) → All P xs → Each Q xs
-each_of P Q [] f h = tt
-each_of P Q (x ∷ xs) f h = (f x (All-head P x xs h), each_of P Q xs f (All-tail P x xs h))
+each_of : {A : Type 0} (P : A → Type 0) (xs : List A) → All P xs → Each P xs
+each_of P [] h = tt
+each_of P (x ∷ xs) h = (All-head P x xs h, each_of P xs (All-tail P x xs h))
 
 each_place : {A : Type 0} (P : A → Type 0) (d : A) (xs : List A) → ((i : ℕ) → i < length xs → P (get_or xs i d)) → Each P xs
 each_place P d [] h = tt
 each_place P d (x ∷ xs) h = (h 0 (omega arith), each_place P d xs (λ i b. h (suc i) (omega arith)))
-
-field_is : (name : List ℕ) → core_words.IsField name → IsField name
-field_is name h = record { some = h.some; unbroken = each_of _ _ name (λ byte k. k) h.unbroken }
 
 apart : (one other : List ℕ) → same_name one other ≡ false → one ≡ other → ⊥
 apart one other differ same = let yes : same_name one other ≡ true = ap (λ n. same_name n other) same ∙ same_name_refl other in absurd (cc)
@@ -43,22 +40,18 @@ differ_at (name ∷ names) h = (
   differ_at names (λ i b. (h (suc i) (omega arith)).1),
 )
 
-are_names : (names : List (List ℕ)) → IsNumbered names → All core_words.IsField names → AreNames names
-are_names names numbered fields = record {
-  fields = each_of core_words.IsField IsField names field_is fields;
-  differ = differ_at names (λ i b. place_at names (get_or names i []) i (numbered.own i b));
-}
+-- names that are each found at their own place differ
+pub numbered_differ : (names : List (List ℕ)) → IsNumbered names → Differ names
+numbered_differ names numbered = differ_at names (λ i b. place_at names (get_or names i []) i (numbered.own i b))
 
-in_order : (lower upper : Option ℚ) → core_words.InOrder lower upper → InOrder lower upper
-in_order None upper h = tt
-in_order (Some lower) None h = tt
-in_order (Some lower) (Some upper) h = h
+are_names : (names : List (List ℕ)) → IsNumbered names → All IsField names → AreNames names
+are_names names numbered fields = record { fields = each_of IsField names fields; differ = numbered_differ names numbered }
 
 pub core_fits : (core : Core) → CoreFits core
-core_fits core = let h : core_words.IsCore core.rows.items core.columns.items = core.keeps in record {
+core_fits core = let h : IsCore core.rows.items core.columns.items = core.keeps in record {
   few_rows = h.few_rows;
   few_columns = h.few_columns;
-  rows = are_names (core_words.row_names core.rows.items) h.rows_differ h.row_fields;
-  columns = are_names (core_words.column_names core.columns.items) h.columns_differ h.column_fields;
-  bounds = each_of (λ (c : ColumnDef). core_words.InOrder c.lower c.upper) (λ (c : ColumnDef). InOrder c.lower c.upper) core.columns.items (λ c. in_order c.lower c.upper) h.in_order;
+  rows = are_names (row_names core.rows.items) h.rows_differ h.row_fields;
+  columns = are_names (column_names core.columns.items) h.columns_differ h.column_fields;
+  bounds = each_of (λ (c : ColumnDef). InOrder c.lower c.upper) core.columns.items h.in_order;
 }

@@ -16,7 +16,7 @@ use Rattle.scen_defs.specs.declared.program.Column.{Column}
 use Rattle.scen_defs.specs.declared.program.Row.{Row}
 use Rattle.scen_defs.specs.declared.program.NodeRow.{NodeRow}
 use Rattle.scen_defs.specs.Lists.{Each, pick, places, passes_at}
-use Rattle.scen_defs.specs.Ends.{InOrder}
+use Rattle.rationals.specs.Intervals.{InOrder}
 use Rattle.scen_defs.specs.Program.{Node, Program, Scenario, node_at}
 use Rattle.scen_defs.specs.Valid.{AreNames, Lives, FitsRow, FitsNode, FitsColumn, HasEnds, has_low, has_high, row_at, is_reached, IsProgram}
 use Rattle.scen_defs.proofs.SumLaws.{each-map}

@@ -9,8 +9,6 @@ mod refuse;
 mod show;
 mod solve;
 mod status;
-#[cfg(test)]
-mod tests;
 mod top_call;
 mod write;
 

@@ -1,6 +1,6 @@
 //! The command `make`.
 ghost use Rattle.std.specs.Prelude.{◌≡◌, ◌≤◌, true, leb, length, IfOk, IfSome};
-ghost use Rattle.scen_defs.specs.Program.{IsTree, content, view_of};
+ghost use Rattle.scen_defs.specs.Program.{content};
 ghost use Rattle.input_files.specs.Fetched.{file_limit};
 ghost use Rattle.input_files.specs.Unfetched.{texts_view, given_bytes};
 ghost use Rattle.program_files.specs.Meant.{AreWithin, MeansProgram};
@@ -108,7 +108,6 @@ fn summed_up(alloc: Global, plan: Plan, texts: &Texts) -> Result<Answer, Memory>
 fn solved(alloc: Global, plan: Plan, texts: &Texts, program: &Program) -> Result<Answer, Memory>
     requires texts { texts_view texts.now ≡ texts_of (workload plan) }
     requires means { MeansProgram (texts_view texts.now) (content program.now) }
-    requires tree { IsTree (view_of (content program.now)) }
     ensures { IfOk result (λ answer. PrintsSummary plan answer.status answer.output.items) }
 {
     let _core = texts.core.len();

@@ -6,8 +6,6 @@ mod memory_sink;
 mod real;
 mod shelf;
 mod sink;
-#[cfg(test)]
-mod tests;
 
 pub use memory_shelf::{MemoryShelf, NeverFails};
 pub use memory_sink::MemorySink;

@@ -1,8 +1,7 @@
 //! The report of a program on a tree.
 ghost use Rattle.std.specs.Prelude.{◌≡◌, ◌+◌, ℕ, IfOk, OnOk};
 ghost use Rattle.scen_defs.specs.Fits.{ListsHaveNames};
-ghost use Rattle.scen_defs.specs.Program.{IsTree, content, view_of, Program as ProgramOf};
-ghost use Rattle.scen_defs.specs.Valid.{IsSmall};
+ghost use Rattle.scen_defs.specs.Program.{content, view_of, Program as ProgramOf};
 ghost use Rattle.report_defs.specs.Truth.{IsTrue, HasCounts};
 ghost use Rattle.proved_report.specs.Reports.{EqualIsOptimal};
 ghost use Rattle.tree_method.specs.Stands.{HasFewNodes, StandsOn, StandsCleared};
@@ -23,10 +22,10 @@ use tree_method::Method;
 /// solve, from 1, `OpenPassed` an operation that passes 128 bits and where it stands.
 pub fn session(alloc: Global, program: &Program, solves: u64, pivots: u64) -> Result<Report, Memory>
     ensures number { IfOk result (λ report. report.number ≡ 1) }
-    ensures counts { IsSmall (content program.now) → IfOk result (HasCounts (view_of (content program.now))) }
+    ensures counts { IfOk result (HasCounts (view_of (content program.now))) }
     ensures names { IfOk result (ListsHaveNames program.now) }
-    ensures truth { let p = content program.now in IsSmall p → IsTree (view_of p)
-        → IfOk result (IsTrue (view_of p) (told_reasons program.now (record { solves = solves; pivots = pivots }))) }
+    ensures truth { let reasons = told_reasons program.now (record { solves = solves; pivots = pivots }) in
+        IfOk result (IsTrue (view_of (content program.now)) reasons) }
     ensures equal { IfOk result EqualIsOptimal }
     ensures comes { let p = content program.now in HasFewNodes p
         → IfOk result (ComesOfAll (record { solves = solves; pivots = pivots }) program.now) }
@@ -46,12 +45,12 @@ pub(crate) fn reported(
     budget: Budget,
 ) -> Result<Report, Memory>
     ensures number { IfOk result (λ report. report.number ≡ number) }
-    ensures counts { IsSmall (content program.now) → IfOk result (HasCounts (view_of (content program.now))) }
+    ensures counts { IfOk result (HasCounts (view_of (content program.now))) }
     ensures names { IfOk result (ListsHaveNames program.now) }
-    ensures truth { let p = content program.now in IsSmall p → StandsOn p budget method.old → IsTree (view_of p)
+    ensures truth { let p = content program.now in StandsOn p budget method.old
         → IfOk result (IsTrue (view_of p) (told_reasons program.now budget)) }
     ensures equal { IfOk result EqualIsOptimal }
-    ensures stands { let p = content program.now in IsSmall p → StandsOn p budget method.old → OnOk result (StandsOn p budget method.new) }
+    ensures stands { let p = content program.now in StandsOn p budget method.old → OnOk result (StandsOn p budget method.new) }
     ensures comes { (start : ProgramOf) (came : ℕ) → let p = content program.now in HasFewNodes p
         → StandsOn p budget method.old → StandsCleared method.old → IsUnderWay budget start came p method.old
         → IfOk result (λ report. ComesOf budget start came program.now method.old report method.new) }
@@ -92,9 +91,9 @@ fn found(
     budget: Budget,
 ) -> Result<Report, Memory>
     ensures number { IfOk result (λ report. report.number ≡ number) }
-    ensures counts { IsSmall (content program.now) → IfOk result (HasCounts (view_of (content program.now))) }
+    ensures counts { IfOk result (HasCounts (view_of (content program.now))) }
     ensures names { IfOk result (ListsHaveNames program.now) }
-    ensures truth { let p = content program.now in StandsOn p budget method.old → IsTree (view_of p)
+    ensures truth { let p = content program.now in StandsOn p budget method.old
         → IfOk result (IsTrue (view_of p) (told_reasons program.now budget)) }
     ensures equal { IfOk result EqualIsOptimal }
     ensures stands { let p = content program.now in StandsOn p budget method.old → OnOk result (StandsOn p budget method.new) }

@@ -1,4 +1,5 @@
 pub mod LineLemmas
+pub mod FieldLemmas
 pub mod NameLemmas
 pub mod NumberedNames
 pub mod WordLemmas

@@ -1,5 +1,6 @@
 pub mod Line
 pub mod Seen
+pub mod Field
 pub mod Names
 pub mod Words
 pub mod WordRows

@@ -8,8 +8,6 @@ mod lines;
 mod name;
 mod names;
 mod row_kind;
-#[cfg(test)]
-mod tests;
 mod words;
 
 pub use entry::Entry;

@@ -10,7 +10,8 @@ use Rattle.rationals.specs.Ring.Facts.{end, by_le}
 use Rattle.rationals.specs.Sums.{sum_ℚ, sum-map, sum-add, sum-zero}
 use Rattle.rationals.specs.Sparse.{Entry, coefficient, product, value_if, product-along}
 use Rattle.scen_defs.specs.Lists.{Each, Absent, Once}
-use Rattle.scen_defs.specs.Ends.{Between, IsGoodAt, worth}
+use Rattle.rationals.specs.Intervals.{Between}
+use Rattle.scen_defs.specs.Ends.{IsGoodAt, worth}
 use Rattle.scen_defs.specs.declared.program.NodeRow.{NodeRow}
 use Rattle.scen_defs.proofs.SumLaws.{each-map, each-both, sum-ext, sum-same, sum-below, sum-pick, product-over}
 use Rattle.scen_defs.proofs.EndLaws.{worth-below}

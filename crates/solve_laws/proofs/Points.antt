@@ -3,7 +3,7 @@ use Rattle.std.proofs.Common.{◌≡◌, ℕ, Bool, true, false, ◌||◌, eqb, 
 use Rattle.rationals.specs.Rational.{ℚ}
 use Rattle.rationals.specs.Sparse.{Entry, coefficient}
 use Rattle.scen_defs.specs.Lists.{Each, Once}
-use Rattle.scen_defs.specs.Ends.{Between}
+use Rattle.rationals.specs.Intervals.{Between}
 use Rattle.scen_defs.specs.Program.{View, IsTree}
 use Rattle.scen_defs.specs.declared.program.NodeRow.{NodeRow}
 use Rattle.scen_defs.proofs.SumLaws.{each-map}

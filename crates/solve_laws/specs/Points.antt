@@ -4,7 +4,7 @@ use Rattle.rationals.specs.Rational.{ℚ, ◌+ℚ◌}
 use Rattle.rationals.specs.Sparse.{Entry, coefficient, product}
 use Rattle.rationals.specs.Forms.{IsForm}
 use Rattle.scen_defs.specs.Lists.{Each, Once}
-use Rattle.scen_defs.specs.Ends.{Between}
+use Rattle.rationals.specs.Intervals.{Between}
 use Rattle.scen_defs.specs.Program.{View, IsTree}
 use Rattle.scen_defs.specs.Flat.{children}
 use Rattle.scen_defs.specs.declared.program.NodeRow.{NodeRow}

@@ -11,7 +11,8 @@ use Rattle.time_defs.specs.Means.{Stages}
 use Rattle.stoch_defs.specs.declared.section.Mode.{Mode}
 use Rattle.stoch_defs.specs.declared.section.StochSection.{StochSection}
 use Rattle.stoch_defs.specs.declared.section.StochSection.TheVariants as sections
-use Rattle.stoch_defs.specs.File.{at_line, stoch_file}
+use Rattle.time_defs.specs.Step.{at_line}
+use Rattle.stoch_defs.specs.File.{stoch_file}
 use Rattle.stoch_defs.specs.Finish.{random_of}
 use Rattle.stoch_defs.specs.Groups.{behind, entered_if, is_for_cases, is_for_scenarios, Group, with_line, grouped}
 use Rattle.stoch_defs.specs.Means.{meant_by}

@@ -5,24 +5,12 @@ ghost use Rattle.std.specs.Prelude.{◌≡◌, map, drop, string_bytes};
 ghost use Rattle.std.specs.Process.{exit_status};
 ghost use Rattle.tidzgheba.specs.Ending.{EndsOn, EndsWith, IsStatusOf};
 
-mod checked;
-mod explain;
-mod files;
-mod noted;
-mod refusal;
-#[cfg(test)]
-mod tests;
-mod watched;
-mod words;
-
-use explain::{MEMORY, NOT_TEXT, UNEXPLAINED, explanation};
-use noted::Noted;
+use run_remarks::{MEMORY, NOT_TEXT, Noted, UNEXPLAINED, Watched, explanation};
 use smps_cli::{Status, run};
 use smps_io::{RealShelf, RealSink};
 use std::alloc::{AllocError, Global};
 use std::process::ExitCode;
 use std::{env, io};
-use watched::Watched;
 
 /// Runs the words and ends with the number of the status to which they come.
 fn main(rt: HostRuntime) -> ExitCode {

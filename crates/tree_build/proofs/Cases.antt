@@ -1,5 +1,6 @@
 -- What is read of a stoch file: probabilities above 0, entries within the triangle, and parents that are there.
 use Rattle.std.proofs.Common.{◌≡◌, ◌∙◌, ap, sym, refl, subst, ℕ, zero, suc, ◌+◌, ◌<◌, pos, Bool, true, false, not, ◌&&◌, List, [], ◌∷◌, ◌++◌, map, length, get_or, nat_eq, arith, ◌*ℤ◌, ◌≤ℤ◌, None, ◌⊎◌, inl, inr, Result, Ok, Err, if◌then◌else◌}
+use Rattle.std.specs.List.{AllByRecursion}
 use Rattle.std.proofs.lemmas.Int.{ints}
 use Rattle.std.proofs.lemmas.List.{length_push, length-map}
 use Rattle.rationals.specs.Rational.{ℚ, zero_ℚ, one_ℚ, inv_ℚ, ◌+ℚ◌, ◌*ℚ◌, ◌/ℚ◌, ◌≤ℚ◌, ◌<ℚ◌, ◌÷◌, at_most, at_most_true, by_facts, by_linear, terms, lt_le_ℚ, lt_by, ne_of_gt_ℚ, div_mul_ℚ, mul_inv_ℚ, lt_of_not_le_ℚ, frac_le_to, zero_mul_ℚ, add_zero_ℚ, zero_add_ℚ, add_assoc_ℚ, add_mul_ℚ}
@@ -19,7 +20,8 @@ use Rattle.stoch_defs.specs.declared.section.StochSection.{StochSection}
 use Rattle.stoch_defs.specs.declared.section.StochSection.TheVariants as sections
 use Rattle.stoch_defs.specs.declared.heads.CaseHead.{CaseHead}
 use Rattle.stoch_defs.specs.declared.heads.BranchHead.{BranchHead}
-use Rattle.stoch_defs.specs.File.{at_line, stoch_file}
+use Rattle.time_defs.specs.Step.{at_line}
+use Rattle.stoch_defs.specs.File.{stoch_file}
 use Rattle.stoch_defs.specs.Finish as finish
 use Rattle.stoch_defs.specs.Finish.{sum_from, is_near, divided_from, shared, case_with, stated_cases, own, own_from, chance_of, with_parts, stated_branch, branch_with, branches_with, is_empty, random_of, blocks_from}
 use Rattle.stoch_defs.specs.Random.{Sets, Case, Block, Branch, Random}
@@ -30,7 +32,7 @@ use Rattle.stoch_defs.specs.Step.{or_passes, header_line, data_line}
 use Rattle.stoch_defs.proofs.StepParts.{sum_is, quotient_is}
 use Rattle.scen_defs.specs.Lists.{Each}
 use Rattle.scen_defs.specs.Valid.{AreNames}
-use Rattle.tree_build.proofs.Fields.{HasFields, text_fields}
+use Rattle.smps_words.proofs.FieldLemmas.{HasFields, text_fields}
 use Rattle.tree_build.proofs.NameLaws.{numbered_names, branch_name}
 use Rattle.build_defs.specs.Laws.{IsAbove, IsBelow, AreAncestral}
 use Rattle.build_defs.specs.Scenarios.{no_branch}
@@ -270,7 +272,7 @@ behind_line : (core : Core) (p : Stages) (t : Stated) (end_line number : ℕ) (l
 behind_line core p t end_line number lines x true is h later e = random_holds p t x h is (found_at number (random_of t) x e)
 behind_line core p t end_line number lines x false is h later e = later is e
 
-read_holds : (core : Core) (p : Stages) (s : Stated) (end_line : ℕ) (lines : List TextLine) (x : Random) → is_end s.place.section ≡ false → Each HasFields lines → Holds p s → read_from (stoch_file core p) end_line s lines ≡ Ok x → AreCases p x
+read_holds : (core : Core) (p : Stages) (s : Stated) (end_line : ℕ) (lines : List TextLine) (x : Random) → is_end s.place.section ≡ false → AllByRecursion HasFields lines → Holds p s → read_from (stoch_file core p) end_line s lines ≡ Ok x → AreCases p x
 read_holds core p s end_line [] x open_ named h e = cc
 read_holds core p s end_line (line ∷ lines) x open_ named h e =
     let k = line_ok line.number (if line.header then header_line s line.fields else data_line core p s.place.section s line.fields)

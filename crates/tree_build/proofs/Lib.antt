@@ -17,12 +17,11 @@ pub mod Nests
 pub mod ValueLaws
 pub mod NodeValues
 pub mod NodeLaws
-pub mod Columns
 pub mod ScenarioLaws
-pub mod Totals
+pub mod Paths
 pub mod NameLaws
 pub mod Certain
-pub mod Trees
+pub mod Made
 pub mod Tables
 pub mod Cases
 pub mod Programs

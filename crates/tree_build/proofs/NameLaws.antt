@@ -4,14 +4,14 @@ use Rattle.std.proofs.lemmas.List.{length_push}
 use Rattle.std.proofs.lemmas.Bool.{ne_eqb}
 use Rattle.std.proofs.lemmas.Bool.Decides.{nat_tests}
 use Rattle.smps_words.specs.Line.{is_blank}
-use Rattle.smps_words.specs.Names.{same_name, IsNumbered}
-use Rattle.smps_words.proofs.NumberedNames.{same_name_refl}
-use Rattle.core_defs.proofs.NameLemmas.{At, place_at}
+use Rattle.smps_words.specs.Field.{IsField}
+use Rattle.smps_words.specs.Names.{IsNumbered}
+use Rattle.smps_build.proofs.CoreFits.{numbered_differ}
 use Rattle.rationals.specs.Rational.{one_ℚ}
 use Rattle.stoch_defs.specs.Random.{Block, Branch}
 use Rattle.scen_defs.specs.Lists.{Each}
 use Rattle.scen_defs.specs.Program.{Scenario}
-use Rattle.scen_defs.specs.Valid.{IsField, Differ, AreNames}
+use Rattle.scen_defs.specs.Valid.{AreNames}
 use Rattle.build_defs.specs.Digits.{digits_in, digits}
 use Rattle.build_defs.specs.Scenarios.{no_branch, stages_from}
 use Rattle.build_defs.specs.Built.{product_from}
@@ -22,22 +22,9 @@ use Rattle.tree_build.specs.Wheels.{sizes_of}
 use Rattle.tree_build.specs.Choices.{chances_of}
 use Rattle.tree_build.specs.Nodes.{digits_at}
 use Rattle.tree_build.specs.Finish.{block_paths, branch_paths}
-use Rattle.tree_build.proofs.Lists.{each_from}
-
--- ---- names that stand at their own places differ
-
-apart : (one other : List ℕ) → same_name one other ≡ false → one ≡ other → ⊥
-apart one other differ same = let yes : same_name one other ≡ true = ap (λ n. same_name n other) same ∙ same_name_refl other in absurd (cc)
-
-differ_at : (names : List (List ℕ)) → ((i : ℕ) → i < length names → At names i (get_or names i [])) → Differ names
-differ_at [] h = tt
-differ_at (name ∷ names) h = (
-  each_from (λ (other : List ℕ). other ≡ name → ⊥) names [] (λ i b. apart (get_or names i []) name (h (suc i) (omega (arith, b))).0),
-  differ_at names (λ i b. (h (suc i) (omega (arith, b))).1),
-)
 
 pub numbered_names : (names : List (List ℕ)) → IsNumbered names → Each IsField names → AreNames names
-numbered_names names numbered fields = record { fields = fields; differ = differ_at names (λ i b. place_at names (get_or names i []) i (numbered.own i b)) }
+numbered_names names numbered fields = record { fields = fields; differ = numbered_differ names numbered }
 
 -- ---- the digits of a number
 

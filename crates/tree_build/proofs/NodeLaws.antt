@@ -6,7 +6,7 @@ use Rattle.rationals.specs.Passes.{then_walk}
 use Rattle.smps_words.specs.declared.row_kind.RowKind.{RowKind}
 use Rattle.core_defs.specs.declared.parts.RowDef.{RowDef}
 use Rattle.scen_defs.specs.declared.program.NodeRow.{NodeRow}
-use Rattle.scen_defs.specs.Ends.{InOrder}
+use Rattle.rationals.specs.Intervals.{InOrder}
 use Rattle.scen_defs.specs.Lists.{Each, passes_at}
 use Rattle.scen_defs.specs.Program.{Node, is_live, node_at}
 use Rattle.scen_defs.specs.Valid.{has_low, has_high}

@@ -15,10 +15,11 @@ use Rattle.stoch_defs.specs.Entries.{no_row}
 use Rattle.scen_defs.specs.declared.program.Column.{Column}
 use Rattle.scen_defs.specs.declared.program.Row.{Row}
 use Rattle.scen_defs.specs.declared.program.NodeRow.{NodeRow}
-use Rattle.scen_defs.specs.Ends.{InOrder}
+use Rattle.rationals.specs.Intervals.{InOrder}
 use Rattle.scen_defs.specs.Lists.{Each, is_in, pick, places, passes_at}
 use Rattle.scen_defs.specs.Program.{Node, Scenario, Program, node_at}
-use Rattle.scen_defs.specs.Valid.{Lives, HasParent, FitsRow, FitsNode, Follows, FitsScenario, is_reached, FitsColumn, row_at, has_low, has_high, IsField, AreNames, IsSmall, HasNames, IsProgram}
+use Rattle.smps_words.specs.Field.{IsField}
+use Rattle.scen_defs.specs.Valid.{Lives, HasParent, FitsRow, FitsNode, Follows, FitsScenario, is_reached, FitsColumn, row_at, has_low, has_high, AreNames, IsSmall, HasNames, IsProgram}
 use Rattle.scen_defs.proofs.SumLaws.{each-map, each-both}
 use Rattle.scen_defs.proofs.Valid.{each-place}
 use Rattle.scen_tree.specs.Trees.{position_by}
@@ -47,12 +48,15 @@ use Rattle.tree_build.proofs.Nests.{Nest, AreLater, blocks_nest, AreLaterBranche
 use Rattle.tree_build.proofs.ValueLaws.{IsOf, IsUpTo}
 use Rattle.tree_build.proofs.NodeValues.{stages_low}
 use Rattle.tree_build.proofs.NodeLaws.{IsMadeRow, rows_made, number_of_row, numbers_made, made_length}
-use Rattle.tree_build.proofs.Columns.{bounds_in_order}
 use Rattle.tree_build.proofs.ScenarioLaws.{block_rows_length, rows_length}
-use Rattle.tree_build.proofs.Totals.{IsPositive, path_of, is_in_at}
-use Rattle.tree_build.proofs.Trees.{Parts, positions_of, there, within, Made, made_of_blocks, made_of_branches}
+use Rattle.tree_build.proofs.Paths.{IsPositive, path_of, is_in_at}
+use Rattle.tree_build.proofs.Made.{Parts, positions_of, there, within, Made, made_of_blocks, made_of_branches}
 
 -- ---- columns and rows by their stages
+
+bounds_in_order : (p : Stages) (k : ℕ) (defs : List ColumnDef) → Each (λ (c : ColumnDef). InOrder c.lower c.upper) defs → Each (λ (c : Column). InOrder c.lower c.upper) (columns_from p k defs)
+bounds_in_order p k [] all = tt
+bounds_in_order p k (c ∷ defs) all = (all.0, bounds_in_order p (k + 1) defs all.1)
 
 -- a column that is there passes a test that its stage passes
 column_passes : (p : Stages) (k j : ℕ) (test : ℕ → Bool) (defs : List ColumnDef) → j < length defs → test (get_or p.columns (k + j) 0) ≡ true → passes_at (λ (c : Column). test c.stage) j (columns_from p k defs) ≡ true

@@ -10,7 +10,7 @@ use Rattle.stoch_defs.specs.Random.{Random}
 use Rattle.stoch_defs.specs.File.{IsStochReading}
 use Rattle.stoch_defs.proofs.Texts as stoch_texts
 use Rattle.scen_defs.specs.Lists.{Each}
-use Rattle.scen_defs.specs.Valid.{IsField}
+use Rattle.smps_words.specs.Field.{IsField}
 use Rattle.tree_build.specs.Law.{IsStaged, AreCases}
 use Rattle.tree_build.proofs.Cases.{read_cases_hold}
 use Rattle.tree_build.proofs.Fields.{read_periods_are_named}

@@ -23,7 +23,7 @@ use Rattle.tree_build.specs.Walks.{block_rows}
 use Rattle.tree_build.proofs.WheelLemmas.{digits_within}
 use Rattle.tree_build.specs.Law.{IsCase, IsBlock, IsBranch}
 use Rattle.tree_build.proofs.Lists.{each_get, each_at}
-use Rattle.tree_build.proofs.Totals.{IsPositive, path_of}
+use Rattle.tree_build.proofs.Paths.{IsPositive, path_of}
 
 -- scenarios of these paths, with probabilities above 0
 pub record HavePaths (scenarios : List Scenario) (paths : List (List ℕ)) : Type 0 where

@@ -34,9 +34,9 @@ use Rattle.stoch_laws.proofs.Work.{closed_place, closed_idle, Adds, case_adds, b
 use Rattle.scen_defs.specs.Lists.{Each}
 use Rattle.build_defs.specs.Laws.{IsBelow}
 use Rattle.build_defs.proofs.EachLemmas.{each_append}
-use Rattle.scen_defs.specs.Valid.{IsField}
+use Rattle.smps_words.specs.Field.{IsField}
 use Rattle.tree_build.specs.Law.{AreTimely}
-use Rattle.tree_build.proofs.Fields.{FirstThree}
+use Rattle.smps_words.proofs.FieldLemmas.{AreFields}
 use Rattle.tree_build.proofs.Lists.{past_end}
 
 -- what stands for a scenario past the last one
@@ -433,13 +433,13 @@ branch_head_holds p s t name parent_word word period_word is named h e =
     (stage_later (nat_lt 1 (length p.names)) (place_of p.names period_word) staged.0 (needs_ok cause.BranchPeriod (branch_period p period_word) staged.0 staged.1))
     (subst (λ (n : ℕ). IsBelow n above.0) same parent) (ap (λ (names : List (List ℕ)). is_some (place_of names name)) (closed_names s) ∙ k.0) named)
 
-scenario_holds : (core : Core) (p : Stages) (s t : Stated) (fields : List (List ℕ)) → s.place.section ≡ sections.Scenarios → FirstThree fields → Holds p s → branch_line core p s fields ≡ Ok t → Holds p t
+scenario_holds : (core : Core) (p : Stages) (s t : Stated) (fields : List (List ℕ)) → s.place.section ≡ sections.Scenarios → AreFields 6 fields → Holds p s → branch_line core p s fields ≡ Ok t → Holds p t
 unfolding branch_line
 scenario_holds core p s t (column ∷ row ∷ word ∷ []) is named h e = branch_holds core p s t column row word h (in_work_ok s t (branch_pair core p s column row word) e)
 scenario_holds core p s t (first ∷ row ∷ word ∷ second ∷ other ∷ []) is named h e = go (is_head first) e
   where
     go : (b : Bool) → (if b then branch_head p s row word second other else if_in_work s (branch_pair core p s first row word >>= λ u. branch_pair core p u first second other)) ≡ Ok t → Holds p t
-    go true k = branch_head_holds p s t row word second other is named.1 h k
+    go true k = branch_head_holds p s t row word second other is named.1.0 h k
     go false k =
         let two = in_work_ok s t (branch_pair core p s first row word >>= λ u. branch_pair core p u first second other) k in
         let one = bind_ok (branch_pair core p s first row word) (λ u. branch_pair core p u first second other) t two in
@@ -452,7 +452,7 @@ scenario_holds core p s t (_ ∷ _ ∷ _ ∷ _ ∷ _ ∷ _ ∷ _) is named h e =
 
 -- ---- any line
 
-data_holds : (core : Core) (p : Stages) (s t : Stated) (fields : List (List ℕ)) (section : StochSection) → s.place.section ≡ section → FirstThree fields → Holds p s → data_line core p section s fields ≡ Ok t → Holds p t
+data_holds : (core : Core) (p : Stages) (s t : Stated) (fields : List (List ℕ)) (section : StochSection) → s.place.section ≡ section → AreFields 6 fields → Holds p s → data_line core p section s fields ≡ Ok t → Holds p t
 data_holds core p s t fields sections.Indep is named h e = indep_holds core p s t fields h e
 data_holds core p s t fields sections.Blocks is named h e = block_holds core p s t fields is h e
 data_holds core p s t fields sections.Scenarios is named h e = scenario_holds core p s t fields is named h e
@@ -460,7 +460,7 @@ data_holds core p s t fields sections.Start is named h e = cc
 data_holds core p s t fields sections.Stoch is named h e = cc
 data_holds core p s t fields sections.End is named h e = cc
 
-pub line_holds : (core : Core) (p : Stages) (s t : Stated) (header : Bool) (fields : List (List ℕ)) → is_end s.place.section ≡ false → FirstThree fields → Holds p s →
+pub line_holds : (core : Core) (p : Stages) (s t : Stated) (header : Bool) (fields : List (List ℕ)) → is_end s.place.section ≡ false → AreFields 6 fields → Holds p s →
     (if header then header_line s fields else data_line core p s.place.section s fields) ≡ Ok t → Holds p t
 line_holds core p s t true fields open_ named h e = let k = header_parts s t fields open_ e in subst (Holds p) (sym k.is) (enter_holds p s k.mode k.next h)
 line_holds core p s t false fields open_ named h e = data_holds core p s t fields s.place.section refl named h e

@@ -1,6 +1,6 @@
 -- The nodes of a program, from their values.
-use Rattle.std.specs.Prelude.{ℕ, ◌-◌, List, [], ◌∷◌, ◌++◌, Option, Some, None, Result, Ok, Err, get_or, length, ◌+◌}
-use Rattle.std.specs.Prelude.{◌<◌, ◌^◌, ◌≡◌, IsOk, ⊤}
+use Rattle.std.specs.Prelude.{ℕ, ◌-◌, List, [], ◌∷◌, ◌++◌, Option, Some, None, Result, Ok, get_or, length, ◌+◌}
+use Rattle.std.specs.Prelude.{◌<◌, ◌^◌, ◌≡◌}
 use Rattle.std.specs.Prelude.{nat_eq, if◌then◌else◌}
 use Rattle.rationals.specs.Passes.{Operation, then_walk}
 use Rattle.core_defs.specs.declared.parts.RowDef.{RowDef}
@@ -25,7 +25,7 @@ use Rattle.tree_build.specs.Wheels.{sizes_of}
 use Rattle.tree_build.specs.Choices.{chances_of}
 use Rattle.tree_build.specs.Nodes.{node_in, digits_at}
 use Rattle.smps_build.specs.declared.fault.BuildFault.{BuildFault}
-use Rattle.smps_build.specs.declared.fault.BuildFault.TheVariants.{Limit, Passed, Memory}
+use Rattle.smps_build.specs.declared.fault.BuildFault.TheVariants.{Passed, Memory}
 use Rattle.stoch_defs.specs.Entries.{no_row}
 use Rattle.smps_build.specs.Single.{Interval, interval_walk}
 use Rattle.tree_build.specs.declared.parts.RowValues.{RowValues}
@@ -78,13 +78,6 @@ AreStaged debuts = (n : ℕ) → (get_or debuts n no_debut).stage < 2 ^ 32
 abbrev pub build_fault : TreeFault → BuildFault
 build_fault (tree.Passed p) = Passed p
 build_fault tree.Memory = Memory
-
--- whether the totals and shares pass
-abbrev pub TriesChances : List Position → List Scenario → Result (Unit {0}) BuildFault → Type 0
-TriesChances positions scenarios (Ok _) = IsOk (chances_walk positions scenarios)
-TriesChances positions scenarios (Err Limit) = ⊥
-TriesChances positions scenarios (Err (Passed p)) = chances_walk positions scenarios ≡ Err p
-TriesChances positions scenarios (Err Memory) = ⊤
 
 -- the totals and the shares, the nodes, and then the program
 abbrev pub finish_walk : Core → Stages → List Debut → List Position → List Scenario → List Values → Result Program Operation

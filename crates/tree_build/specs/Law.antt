@@ -1,4 +1,4 @@
--- What is built of a core, its periods and its cases is a tree.
+-- What is built of a core, its periods and its cases keeps what programs keep.
 use Rattle.std.specs.Prelude.{◌≡◌, ℕ, ◌<◌, false, List, map, length, get_or, Ok}
 use Rattle.rationals.specs.Rational.{zero_ℚ, one_ℚ, ◌<ℚ◌}
 use Rattle.rationals.specs.Sums.{sum_ℚ}
@@ -12,8 +12,9 @@ use Rattle.stoch_defs.specs.Random.Random.{Blocks, Branches}
 use Rattle.stoch_defs.specs.File.{read_random}
 use Rattle.build_defs.specs.Laws.{AreAncestral, IsCertain}
 use Rattle.scen_defs.specs.Lists.{Each}
-use Rattle.scen_defs.specs.Program.{Program, view_of, IsTree}
-use Rattle.scen_defs.specs.Valid.{IsField, AreNames, IsProgram}
+use Rattle.scen_defs.specs.Program.{Program}
+use Rattle.smps_words.specs.Field.{IsField}
+use Rattle.scen_defs.specs.Valid.{AreNames, IsProgram}
 use Rattle.tree_build.specs.Walks.{build_over, build_walk}
 
 -- each row and each column of the core has its stage, and in a row only columns of its own and of earlier stages have entries
@@ -54,11 +55,6 @@ pub record AreBranches (p : Stages) (branches : List Branch) : Type 0 where
 abbrev pub AreCases : Stages → Random → Type 0
 AreCases p (Blocks blocks) = Each (IsBlock p) blocks
 AreCases p (Branches branches) = AreBranches p branches
-
--- The program that is built is a tree.
-abbrev pub BuiltAreTrees : Type 0
-BuiltAreTrees = (core : Core) (p : Stages) (random : Random) (program : Program) →
-    IsStaged core p → AreCases p random → build_walk core p random ≡ Ok program → IsTree (view_of program)
 
 -- What is read of a stoch file keeps this.
 abbrev pub ReadCasesHold : Type 0

@@ -7,7 +7,6 @@ use Rattle.rationals.specs.Forms.{put}
 use Rattle.smps_words.specs.declared.entry.Entry.{Entry}
 use Rattle.smps_words.specs.declared.entry.Entry.TheVariants.{Cost, Matrix, Rhs}
 use Rattle.core_defs.specs.declared.program.Core.{Core}
-use Rattle.time_defs.specs.declared.periods.Periods.{Periods}
 use Rattle.time_defs.specs.Means.{Stages}
 use Rattle.stoch_defs.specs.Random.{Sets}
 use Rattle.build_defs.specs.Nodes.{value_in, costs_at, entries_at, rows_at}
@@ -23,10 +22,6 @@ put_at j v (e ∷ f) = if nat_lt e.column j then e ∷ put_at j v f else (if nat
 -- a term of column j stands in place i
 abbrev pub StandsAt : List Term → ℕ → ℕ → Type 0
 StandsAt xs i j = (i < length xs) × ((get_or xs i (record { column = suc j; value = zero_ℚ })).column ≡ j)
-
--- the periods of a core as lists
-abbrev pub stages : Periods → Stages
-stages periods = record { names = periods.names.items; columns = periods.column_stage.items; rows = periods.row_stage.items }
 
 -- ---- what a node has
 

@@ -5,7 +5,8 @@ ghost use Rattle.stoch_defs.specs.Entries.{no_column, no_row};
 ghost use Rattle.build_defs.specs.Nodes.{rows_at, form_at};
 ghost use Rattle.build_defs.specs.Scenarios.{stages_from};
 ghost use Rattle.smps_build.specs.Gathered.{forms_from};
-ghost use Rattle.tree_build.specs.Values.{stages, row_values, values_of, all_content};
+ghost use Rattle.time_defs.specs.Periods.{stages};
+ghost use Rattle.tree_build.specs.Values.{row_values, values_of, all_content};
 ghost use Rattle.tree_build.specs.Base.{base_costs, base_rows};
 
 use crate::parts::{RowValues, Values};

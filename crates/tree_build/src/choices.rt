@@ -4,7 +4,8 @@ ghost use Rattle.rationals.specs.Rational.{one_ℚ};
 ghost use Rattle.stoch_defs.specs.Random.{block_content};
 ghost use Rattle.build_defs.specs.Built.{product_from};
 ghost use Rattle.build_defs.specs.Scenarios.{stages_from};
-ghost use Rattle.tree_build.specs.Values.{stages, values_content, with_sets};
+ghost use Rattle.time_defs.specs.Periods.{stages};
+ghost use Rattle.tree_build.specs.Values.{values_content, with_sets};
 ghost use Rattle.tree_build.specs.Choices.{case_at, chances_of, sets_of};
 
 use crate::parts::Values;

@@ -2,13 +2,15 @@
 ghost use Rattle.std.specs.Prelude.{◌≡◌, ◌<◌, ◌^◌, [], Ok, Err, map, length, get_or, IfOk, MatchResult};
 ghost use Rattle.scen_defs.specs.Program.{scenarios_content, nodes_content, content};
 ghost use Rattle.scen_tree.specs.declared.position.Position.TheVariants.{Root};
-ghost use Rattle.scen_tree.specs.Chances.{chances_walk};
-ghost use Rattle.smps_build.specs.Single.{BuildFaultOf};
+ghost use Rattle.rationals.specs.Replies.{IsReply, reply_by};
+ghost use Rattle.scen_tree.specs.Chances.{chances_walk, chances_of};
+ghost use Rattle.smps_build.specs.Single.{build_says, BuildFaultOf};
 ghost use Rattle.build_defs.specs.Built.{columns_from, rows_from};
-ghost use Rattle.tree_build.specs.Values.{stages, all_content};
+ghost use Rattle.time_defs.specs.Periods.{stages};
+ghost use Rattle.tree_build.specs.Values.{all_content};
 ghost use Rattle.tree_build.specs.Numbering.{paths_content};
 ghost use Rattle.tree_build.specs.Finish.{position_at, parent_in, no_debut, value_nodes, finish_walk, GivesPrograms, AreStaged};
-ghost use Rattle.tree_build.specs.Finish.{build_fault, TriesChances};
+ghost use Rattle.tree_build.specs.Finish.{build_fault};
 
 use crate::nodes::node_in;
 use crate::numbering::{Debut, Path};
@@ -16,7 +18,7 @@ use crate::parts::Values;
 use crate::rows::node_rows;
 use core_defs::{Core, RowDef};
 use scen_defs::{Column, Node, Program, Row, Scenario};
-use scen_tree::{Position, TreeFault, node_chances};
+use scen_tree::{Chances, Position, TreeFault, node_chances};
 use smps_build::{BuildFault, copied};
 use smps_words::Name;
 use std::alloc::{AllocError, Global};
@@ -63,12 +65,12 @@ fn try_chances(
     alloc: Global,
     positions: &[Position],
     scenarios: &[Scenario],
-) -> Result<(), BuildFault>
+) -> Result<Chances, BuildFault>
     requires { length positions.now < 2 ^ 32 }
-    ensures { TriesChances positions.now (scenarios_content scenarios.now) result }
+    ensures { IsReply (chances_walk positions.now (scenarios_content scenarios.now)) (reply_by chances_of build_says result) }
 {
     match node_chances(alloc, positions, scenarios) {
-        Ok(_chances) => Ok(()),
+        Ok(chances) => Ok(chances),
         Err(fault) => Err(build_fault(fault)),
     }
 }

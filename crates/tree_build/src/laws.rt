@@ -1,13 +1,8 @@
 //! What is built of a core, its periods and its cases keeps what programs keep.
-ghost use Rattle.tree_build.specs.Law.{BuiltAreTrees, BuiltArePrograms, ReadCasesHold, ReadPeriodsAreNamed};
+ghost use Rattle.tree_build.specs.Law.{BuiltArePrograms, ReadCasesHold, ReadPeriodsAreNamed};
 
-/// The program of a core, of periods that keep the triangle, and of cases that keep it and have probabilities above 0 is a tree.
-pub fn built_are_trees()
-    ensures { BuiltAreTrees }
-{}
-
-/// That program keeps all that programs keep, where there are 1 to 16 periods of names that are fields and differ, and it is
-/// within the limits.
+/// The program of a core, of 1 to 16 periods that keep the triangle and have names that are fields and differ, and of cases that keep it
+/// and have probabilities above 0, keeps all that programs keep, where it is within the limits.
 pub fn built_are_programs()
     ensures { BuiltArePrograms }
 {}

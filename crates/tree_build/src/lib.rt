@@ -19,5 +19,5 @@ mod terms;
 mod values;
 mod wheels;
 
-pub use laws::{built_are_programs, built_are_trees, read_cases_hold, read_periods_are_named};
+pub use laws::{built_are_programs, read_cases_hold, read_periods_are_named};
 pub use program::build;

@@ -1,7 +1,8 @@
 //! The values of all nodes.
 ghost use Rattle.std.specs.Prelude.{◌≡◌, [], false, map, get_or, length, IfOk, IfErr, OnOk};
 ghost use Rattle.stoch_defs.specs.Random.{block_content, branch_content};
-ghost use Rattle.tree_build.specs.Values.{stages, values_content, all_content};
+ghost use Rattle.time_defs.specs.Periods.{stages};
+ghost use Rattle.tree_build.specs.Values.{values_content, all_content};
 ghost use Rattle.tree_build.specs.Wheels.{product, sizes_of};
 ghost use Rattle.tree_build.specs.Numbering.{paths_content};
 ghost use Rattle.tree_build.specs.Limits.{are_over};

@@ -3,9 +3,9 @@ ghost use Rattle.std.specs.Prelude.{◌≡◌, ◌<◌, ◌≤◌, ◌^◌, [], 
 ghost use Rattle.time_defs.specs.Periods.{ArePeriods};
 ghost use Rattle.stoch_defs.specs.Random.{block_content, branch_content, content};
 ghost use Rattle.scen_defs.specs.Lists.{Each};
-ghost use Rattle.scen_defs.specs.Valid.{IsField};
+ghost use Rattle.smps_words.specs.Field.{IsField};
 ghost use Rattle.build_defs.specs.Scenarios.{stages_from};
-ghost use Rattle.tree_build.specs.Values.{stages};
+ghost use Rattle.time_defs.specs.Periods.{stages};
 ghost use Rattle.tree_build.specs.Numbering.{rows_content};
 ghost use Rattle.tree_build.specs.Wheels.{product, sizes_of, digits_of, key_row};
 ghost use Rattle.tree_build.specs.Finish.{GivesPrograms};

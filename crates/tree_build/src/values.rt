@@ -2,7 +2,8 @@
 ghost use Rattle.std.specs.Prelude.{◌≡◌, ◌≤◌, ◌↔◌, ◌&&◌, IsTrue, nat_lt, nat_eq, get_or, length, take, drop, IfOk};
 ghost use Rattle.std.specs.Prelude.{OnOk};
 ghost use Rattle.tree_build.specs.Rows.{RowsFrom, RowsBelow, IsRowAt};
-ghost use Rattle.tree_build.specs.Values.{stages, put_at, with_entry, with_rhs, at_row, values_content, with_set, with_sets};
+ghost use Rattle.time_defs.specs.Periods.{stages};
+ghost use Rattle.tree_build.specs.Values.{put_at, with_entry, with_rhs, at_row, values_content, with_set, with_sets};
 
 use crate::parts::{RowValues, Values};
 use crate::terms::with_value;

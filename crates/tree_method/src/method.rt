@@ -1,7 +1,6 @@
 //! The nested method at work on a program.
 ghost use Rattle.std.specs.Prelude.{◌≡◌, ◌⊎◌, ◌<◌, ◌-◌, ◌^◌, ℕ, false, List, IfOk, OnOk};
 ghost use Rattle.scen_defs.specs.Program.{content, Program as ProgramOf};
-ghost use Rattle.scen_defs.specs.Valid.{IsSmall};
 ghost use Rattle.run_data.specs.Frames.{frame_of};
 ghost use Rattle.pass_table.specs.Machine.{Machine};
 ghost use Rattle.pass_core.specs.declared.budget.Budget.{Budget as BudgetOf};
@@ -118,7 +117,7 @@ impl Working {
 
     /// Begins the program anew, and makes the first solve.
     fn start_over(&mut self, alloc: Global, program: &Program) -> Result<(), Memory>
-        ensures stays { let p = content program.now in (budget : BudgetOf) → IsSmall p
+        ensures stays { let p = content program.now in (budget : BudgetOf)
             → self.old.state.counts.since_report < self.old.state.budget.solves
             → WorksOn p budget self.old → OnOk result (WorksOn p budget self.new) }
         ensures solves { let p = content program.now in (budget : BudgetOf) → HasFewNodes p
@@ -137,7 +136,7 @@ impl Working {
 impl Method {
     /// The method before any solve.
     pub fn begin(alloc: Global, program: &Program, budget: Budget) -> Result<Method, Memory>
-        ensures stands { let p = content program.now in IsSmall p → IfOk result (StandsOn p budget) }
+        ensures stands { IfOk result (StandsOn (content program.now) budget) }
         ensures begins { let p = content program.now in HasFewNodes p → IfOk result (Begins p budget) }
         // with any edits that are to come
         ensures made { let p = content program.now in (rest : List Edit) → AreToCome p rest → IfOk result (IsInScript p rest 0 p rest) }
@@ -217,7 +216,7 @@ impl Method {
 
     /// Begins the program anew, and makes the first solve of it. The solves since the last report stay counted.
     pub fn start_over(&mut self, alloc: Global, program: &Program) -> Result<(), Memory>
-        ensures stays { let p = content program.now in (budget : BudgetOf) → IsSmall p
+        ensures stays { let p = content program.now in (budget : BudgetOf)
             → is_spent self.old ≡ false → StandsOn p budget self.old → OnOk result (StandsOn p budget self.new) }
         ensures solves { let p = content program.now in (budget : BudgetOf) → HasFewNodes p
             → StandsOn p budget self.old → OnOk result (WorksAnew p self.old self.new) }

@@ -7,7 +7,5 @@ mod made;
 mod page;
 mod rows;
 mod stoch;
-#[cfg(test)]
-mod tests;
 
 pub use made::{Made, make};

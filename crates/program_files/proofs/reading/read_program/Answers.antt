@@ -7,6 +7,6 @@ use Rattle.program_files.specs.Views.{MeansOrRefused}
 use Rattle.program_files.proofs.RefusedLemmas.{stops_core}
 use Rattle.program_files.proofs.reading.read_program.Goals as goal
 
-pub returns-in-Err-clause-means : goal.returns-in-Err-clause-means
-returns-in-Err-clause-means c = subst (λ (u : Unread). MeansOrRefused (texts_view c.args.texts.now) (Err u)) (sym c.stopped.ensures)
+pub returns-in-Err : goal.returns-in-Err
+returns-in-Err c = subst (λ (u : Unread). MeansOrRefused (texts_view c.args.texts.now) (Err u)) (sym c.stopped.ensures)
     (stops_core c.args.texts.now c.in-Err.fail (subst (λ (bytes : List ℕ). IsReadOrRefused {X = Core} bytes (Err c.in-Err.fail)) c.deref.ensures.value c.in-Err.ensures.faults))

@@ -5,6 +5,6 @@ use Rattle.program_files.specs.Views.{MeansOrRefused}
 use Rattle.program_files.proofs.RefusedLemmas.{stops_time}
 use Rattle.program_files.proofs.reading.with_core.Goals as goal
 
-pub returns-in-Err-clause-means : goal.returns-in-Err-clause-means
-returns-in-Err-clause-means c = subst (λ (u : Unread). MeansOrRefused (texts_view c.args.texts.now) (Err u)) (sym c.stopped.ensures)
+pub returns-in-Err : goal.returns-in-Err
+returns-in-Err c = subst (λ (u : Unread). MeansOrRefused (texts_view c.args.texts.now) (Err u)) (sym c.stopped.ensures)
     (stops_time c.args.texts.now c.args.core c.requires.core c.in-Err.fail c.in-Err.ensures)

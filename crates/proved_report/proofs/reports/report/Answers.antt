@@ -1,6 +1,8 @@
 use Rattle.std.proofs.Common.{sym, subst}
 use Rattle.std.proofs.lemmas.Result.{IfOk-weaker}
+use Rattle.scen_defs.proofs.Valid.{programs_are_trees}
 use Rattle.scen_defs.specs.Fits.{ListsHaveNames}
+use Rattle.scen_defs.specs.Program.{content}
 use Rattle.scen_defs.specs.declared.report.Place.TheVariants.{Dual}
 use Rattle.report_defs.specs.Seen.{seen}
 use Rattle.report_defs.specs.Truth.{IsTrue, HasCounts}
@@ -13,9 +15,9 @@ use Rattle.proved_report.proofs.EqualLemmas.{claimed_equal}
 use Rattle.proved_report.proofs.reports.report.Goals as goal
 
 pub returns-in-Ends-clause-counts : goal.returns-in-Ends-clause-counts
-returns-in-Ends-clause-counts c = λ small.
+returns-in-Ends-clause-counts c =
     IfOk-weaker c.ends.result (IsFilled c.args.program.now c.args.number) (HasCounts (seen c.args.program.now))
-    (λ report h. counted c.args.program.now c.args.number report small h) c.ends.ensures.filled
+    (λ report h. counted c.args.program.now c.args.number report h) c.ends.ensures.filled
 
 pub returns-in-Ends-clause-names : goal.returns-in-Ends-clause-names
 returns-in-Ends-clause-names c =
@@ -23,14 +25,15 @@ returns-in-Ends-clause-names c =
     (λ report h. subst (ListsHaveNames c.args.program.now) (sym h.is) (claimed_names c.args.program.now c.args.number report.nodes report.scenarios c.args.place c.args.why c.args.solves (Ends c.in-Ends.policy c.in-Ends.dual))) c.ends.ensures.exact
 
 pub returns-in-Ends-clause-truth : goal.returns-in-Ends-clause-truth
-returns-in-Ends-clause-truth c = λ tree.
+returns-in-Ends-clause-truth c =
+    let tree = (programs_are_trees (content c.args.program.now) c.args.program.now.keeps).0 in
     IfOk-weaker c.ends.result (IsClaimed c.args.program.now c.args.number c.args.place c.args.why c.args.solves (Ends c.in-Ends.policy c.in-Ends.dual)) (IsTrue (seen c.args.program.now) (given c.args.why c.args.solves))
     (λ report h. subst (IsTrue (seen c.args.program.now) (given c.args.why c.args.solves)) (sym h.is) (claimed_true c.args.program.now c.args.number report.nodes report.scenarios c.args.place c.args.why c.args.solves (Ends c.in-Ends.policy c.in-Ends.dual) tree)) c.ends.ensures.exact
 
 pub returns-in-Nowhere-clause-counts : goal.returns-in-Nowhere-clause-counts
-returns-in-Nowhere-clause-counts c = λ small.
+returns-in-Nowhere-clause-counts c =
     IfOk-weaker c.nowhere.result (IsFilled c.args.program.now c.args.number) (HasCounts (seen c.args.program.now))
-    (λ report h. counted c.args.program.now c.args.number report small h) c.nowhere.ensures.filled
+    (λ report h. counted c.args.program.now c.args.number report h) c.nowhere.ensures.filled
 
 pub returns-in-Nowhere-clause-names : goal.returns-in-Nowhere-clause-names
 returns-in-Nowhere-clause-names c =
@@ -38,14 +41,15 @@ returns-in-Nowhere-clause-names c =
     (λ report h. subst (ListsHaveNames c.args.program.now) (sym h.is) (claimed_names c.args.program.now c.args.number report.nodes report.scenarios Dual c.args.why c.args.solves (Nowhere c.in-Nowhere.ray))) c.nowhere.ensures.exact
 
 pub returns-in-Nowhere-clause-truth : goal.returns-in-Nowhere-clause-truth
-returns-in-Nowhere-clause-truth c = λ tree.
+returns-in-Nowhere-clause-truth c =
+    let tree = (programs_are_trees (content c.args.program.now) c.args.program.now.keeps).0 in
     IfOk-weaker c.nowhere.result (IsClaimed c.args.program.now c.args.number Dual c.args.why c.args.solves (Nowhere c.in-Nowhere.ray)) (IsTrue (seen c.args.program.now) (given c.args.why c.args.solves))
     (λ report h. subst (IsTrue (seen c.args.program.now) (given c.args.why c.args.solves)) (sym h.is) (claimed_true c.args.program.now c.args.number report.nodes report.scenarios Dual c.args.why c.args.solves (Nowhere c.in-Nowhere.ray) tree)) c.nowhere.ensures.exact
 
 pub returns-in-Endless-clause-counts : goal.returns-in-Endless-clause-counts
-returns-in-Endless-clause-counts c = λ small.
+returns-in-Endless-clause-counts c =
     IfOk-weaker c.endless.result (IsFilled c.args.program.now c.args.number) (HasCounts (seen c.args.program.now))
-    (λ report h. counted c.args.program.now c.args.number report small h) c.endless.ensures.filled
+    (λ report h. counted c.args.program.now c.args.number report h) c.endless.ensures.filled
 
 pub returns-in-Endless-clause-names : goal.returns-in-Endless-clause-names
 returns-in-Endless-clause-names c =
@@ -53,7 +57,8 @@ returns-in-Endless-clause-names c =
     (λ report h. subst (ListsHaveNames c.args.program.now) (sym h.is) (claimed_names c.args.program.now c.args.number report.nodes report.scenarios c.args.place c.args.why c.args.solves (Endless c.in-Endless.policy c.in-Endless.direction))) c.endless.ensures.exact
 
 pub returns-in-Endless-clause-truth : goal.returns-in-Endless-clause-truth
-returns-in-Endless-clause-truth c = λ tree.
+returns-in-Endless-clause-truth c =
+    let tree = (programs_are_trees (content c.args.program.now) c.args.program.now.keeps).0 in
     IfOk-weaker c.endless.result (IsClaimed c.args.program.now c.args.number c.args.place c.args.why c.args.solves (Endless c.in-Endless.policy c.in-Endless.direction)) (IsTrue (seen c.args.program.now) (given c.args.why c.args.solves))
     (λ report h. subst (IsTrue (seen c.args.program.now) (given c.args.why c.args.solves)) (sym h.is) (claimed_true c.args.program.now c.args.number report.nodes report.scenarios c.args.place c.args.why c.args.solves (Endless c.in-Endless.policy c.in-Endless.direction) tree)) c.endless.ensures.exact
 

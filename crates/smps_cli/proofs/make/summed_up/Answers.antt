@@ -18,7 +18,7 @@ pub returns-in-Err : goal.returns-in-Err
 returns-in-Err c =
     let refuses : RefusesUnread (texts_of (workload c.args.plan)) c.in-Err.unread =
     subst (λ (texts : Texts). RefusesUnread texts c.in-Err.unread) c.requires
-    (program_refuses (texts_view c.args.texts.now) c.in-Err.unread c.in-Err.ensures.means) in
+    (program_refuses (texts_view c.args.texts.now) c.in-Err.unread c.in-Err.ensures) in
     IfOk-weaker c.stopped.result _ (λ answer. MaySumUp c.args.plan answer.status answer.output.items)
     (λ answer h. may_refuse (PrintsSummary c.args.plan) (texts_of (workload c.args.plan)) answer.output.items
     c.in-Err.unread refuses answer.status h)

@@ -1,5 +1,4 @@
 use Rattle.scen_defs.specs.Program.{content}
-use Rattle.scen_defs.proofs.Valid.{programs_are_trees}
 use Rattle.tree_method.specs.Stands.{StandsOn}
 use Rattle.smps_session.proofs.ComeLemmas.{shows_found}
 use Rattle.smps_session.proofs.ReasonLemmas.{true_told}
@@ -16,8 +15,8 @@ pub returns-clause-names : goal.returns-clause-names
 returns-clause-names c = c.report.ensures.names
 
 pub returns-clause-truth : goal.returns-clause-truth
-returns-clause-truth c = λ stands tree. true_told c.args.program.now c.args.budget c.in_ok-found.found c.args.number c.report.result
-    (c.in_ok-found.ensures.why c.args.budget stands) c.report.ensures.exact (c.report.ensures.truth tree)
+returns-clause-truth c = λ stands. true_told c.args.program.now c.args.budget c.in_ok-found.found c.args.number c.report.result
+    (c.in_ok-found.ensures.why c.args.budget stands) c.report.ensures.exact c.report.ensures.truth
 
 pub returns-clause-equal : goal.returns-clause-equal
 returns-clause-equal c = c.report.ensures.equal
@@ -30,5 +29,4 @@ pub returns-clause-shows : goal.returns-clause-shows
 returns-clause-shows c = λ start came few stands.
     shows_found c.args.budget start came c.args.program.now c.args.method.now c.find.new.self c.in_ok-found.found c.args.number c.report.result
     (c.in_ok-found.ensures.solves c.args.budget few stands) (c.in_ok-found.ensures.ends c.args.budget few stands)
-    c.in_ok-found.ensures.steps c.report.ensures.number c.report.ensures.exact
-    (c.report.ensures.truth (programs_are_trees (content c.args.program.now) c.args.program.now.keeps).0)
+    c.in_ok-found.ensures.steps c.report.ensures.number c.report.ensures.exact c.report.ensures.truth

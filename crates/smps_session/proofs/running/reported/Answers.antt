@@ -1,6 +1,5 @@
 use Rattle.std.proofs.Common.{◌≡◌, ◌<◌, ◌^◌, true, false, inl, inr, arith}
 use Rattle.scen_defs.specs.Program.{content}
-use Rattle.scen_defs.proofs.Valid.{programs_are_trees}
 use Rattle.tree_method.specs.Stands.{is_spent}
 use Rattle.smps_session.specs.Comes.{tells_solves}
 use Rattle.smps_session.proofs.ComeLemmas.{first_counts, counts_fewer, left_over, round_counts, ended_by, comes_of, tells_cleared}
@@ -12,9 +11,9 @@ loop-init c = record {
   number = c.in_ok-report.ensures.number;
   counts = c.in_ok-report.ensures.counts;
   names = c.in_ok-report.ensures.names;
-  truth = λ small stands tree. c.in_ok-report.ensures.truth stands tree;
+  truth = λ stands. c.in_ok-report.ensures.truth stands;
   equal = c.in_ok-report.ensures.equal;
-  stands = λ small stands. c.in_ok-report.ensures.stands stands;
+  stands = λ stands. c.in_ok-report.ensures.stands stands;
   under_way = λ start came few stands way. (c.in_ok-report.ensures.shows start came few stands, first_counts c.found.new.method);
 }
 
@@ -29,30 +28,28 @@ loop-preserved c =
       number = c.in_ok-report-2.ensures.number;
       counts = c.in_ok-report-2.ensures.counts;
       names = c.in_ok-report-2.ensures.names;
-      truth = λ small stands tree.
-          c.in_ok-report-2.ensures.truth (c.in_ok-start_over.ensures.stays budget small left.1 (c.loop.invariant.stands small stands)) tree;
+      truth = λ stands.
+          c.in_ok-report-2.ensures.truth (c.in_ok-start_over.ensures.stays budget left.1 (c.loop.invariant.stands stands));
       equal = c.in_ok-report-2.ensures.equal;
-      stands = λ small stands.
-          c.in_ok-report-2.ensures.stands (c.in_ok-start_over.ensures.stays budget small left.1 (c.loop.invariant.stands small stands));
+      stands = λ stands.
+          c.in_ok-report-2.ensures.stands (c.in_ok-start_over.ensures.stays budget left.1 (c.loop.invariant.stands stands));
       under_way = λ start came few stands way.
-          let i = c.args.program.now.keeps in
-          let mid = c.loop.invariant.stands i.small stands in
+          let mid = c.loop.invariant.stands stands in
           let before = c.loop.invariant.under_way start came few stands way in
           round_counts budget start came c.args.program.now c.loop.counter c.args.method.now c.loop.method c.start_over.new.self c.found-in-loop.new.method
           c.loop.report c.in_ok-report-2.report bits left.0 left.1 mid few way before.0 before.1 (c.in_ok-start_over.ensures.solves budget few mid)
-          (c.in_ok-report-2.ensures.shows start came few (c.in_ok-start_over.ensures.stays budget i.small left.1 mid));
+          (c.in_ok-report-2.ensures.shows start came few (c.in_ok-start_over.ensures.stays budget left.1 mid));
     }
 
 pub returns-clause-stands : goal.returns-clause-stands
-returns-clause-stands c = λ small stands. c.close.ensures.stays (content c.args.program.now) c.args.budget (c.loop.invariant.stands small stands)
+returns-clause-stands c = λ stands. c.close.ensures.stays (content c.args.program.now) c.args.budget (c.loop.invariant.stands stands)
 
 pub returns-clause-comes : goal.returns-clause-comes
 returns-clause-comes c = λ start came few stands rests way.
     let p = content c.args.program.now in
-    let i = c.args.program.now.keeps in
     let under = c.loop.invariant.under_way start came few stands way in
     comes_of c.args.budget start came c.args.program.now c.args.method.now c.loop.method c.close.new.self c.loop.report few
-    (c.loop.invariant.stands i.small stands) rests (c.loop.invariant.truth i.small stands (programs_are_trees p i).0) way under.0
+    (c.loop.invariant.stands stands) rests (c.loop.invariant.truth stands) way under.0
     (elim c.loop-test.branch [
       | goal.else-loop-test w ↦ inr (counts_fewer c.loop.counter c.args.budget.solves c.loop.method (omega (arith, w.loop-test.false)) under.1)
       | goal.then-loop-test+then-not-is_unfinished w ↦
@@ -68,4 +65,4 @@ returns-clause-cleared c = λ few stands rests.
 pub returns-clause-way : goal.returns-clause-way
 returns-clause-way c = λ start came few stands way.
     way_told c.args.budget start came c.args.program.now c.args.method.now c.loop.method c.close.new.self c.loop.report
-    (c.loop.invariant.stands c.args.program.now.keeps.small stands) (c.loop.invariant.under_way start came few stands way).0 c.close.ensures.after way
+    (c.loop.invariant.stands stands) (c.loop.invariant.under_way start came few stands way).0 c.close.ensures.after way

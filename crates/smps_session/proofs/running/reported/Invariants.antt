@@ -1,7 +1,6 @@
 use Rattle.std.proofs.Common.{◌≡◌, ℕ}
 use Rattle.scen_defs.specs.Fits.{ListsHaveNames}
-use Rattle.scen_defs.specs.Program.{Program as Started, IsTree, content, view_of}
-use Rattle.scen_defs.specs.Valid.{IsSmall}
+use Rattle.scen_defs.specs.Program.{Program as Started, content, view_of}
 use Rattle.report_defs.specs.Truth.{IsTrue, HasCounts}
 use Rattle.proved_report.specs.Reports.{EqualIsOptimal}
 use Rattle.tree_method.specs.Stands.{HasFewNodes, StandsOn}
@@ -13,12 +12,12 @@ use Rattle.smps_session.proofs.running.reported.Given as goal
 abbrev pub invariant-loop : goal.invariant-loop
 invariant-loop l = record {
   number : l.report.number ≡ l.number;
-  counts : IsSmall (content l.program) → HasCounts (view_of (content l.program)) l.report;
+  counts : HasCounts (view_of (content l.program)) l.report;
   names : ListsHaveNames l.program l.report;
-  truth : IsSmall (content l.program) → StandsOn (content l.program) l.budget l.fn.method → IsTree (view_of (content l.program))
+  truth : StandsOn (content l.program) l.budget l.fn.method
       → IsTrue (view_of (content l.program)) (told_reasons l.program l.budget) l.report;
   equal : EqualIsOptimal l.report;
-  stands : IsSmall (content l.program) → StandsOn (content l.program) l.budget l.fn.method → StandsOn (content l.program) l.budget l.method;
+  stands : StandsOn (content l.program) l.budget l.fn.method → StandsOn (content l.program) l.budget l.method;
   under_way : (start : Started) (came : ℕ) → HasFewNodes (content l.program)
       → StandsOn (content l.program) l.budget l.fn.method → IsUnderWay l.budget start came (content l.program) l.fn.method
       → ShowsFound l.budget start came l.program l.fn.method l.method l.report × HasCounted l.counter l.method;

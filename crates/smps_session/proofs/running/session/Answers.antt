@@ -14,7 +14,7 @@ pub returns-clause-names : goal.returns-clause-names
 returns-clause-names c = c.reported.ensures.names
 
 pub returns-clause-truth : goal.returns-clause-truth
-returns-clause-truth c = λ small tree. c.reported.ensures.truth small (c.in_ok-method.ensures.stands small) tree
+returns-clause-truth c = c.reported.ensures.truth c.in_ok-method.ensures.stands
 
 pub returns-clause-equal : goal.returns-clause-equal
 returns-clause-equal c = c.reported.ensures.equal
@@ -25,6 +25,6 @@ returns-clause-comes c = λ few.
     let i = c.args.program.now.keeps in
     let begins = c.in_ok-method.ensures.begins few in
     comes_of_all _ c.args.program.now c.in_ok-method.method c.reported.new.method c.reported.result begins
-    (c.reported.ensures.comes p 0 few (c.in_ok-method.ensures.stands i.small)
+    (c.reported.ensures.comes p 0 few c.in_ok-method.ensures.stands
     (first_cleared p (record { solves = c.args.solves; pivots = c.args.pivots }) c.in_ok-method.method begins)
     (begins_way (record { solves = c.args.solves; pivots = c.args.pivots }) 0 p c.in_ok-method.method i (λ small. begins)))

@@ -1,6 +1,4 @@
 use Rattle.std.proofs.Common.{refl}
-use Rattle.scen_defs.proofs.Valid.{programs_are_trees}
-use Rattle.scen_defs.specs.Program.{content}
 use Rattle.smps_session.proofs.ToldLemmas.{is_told}
 use Rattle.smps_session.proofs.told.told_one.Goals as goal
 
@@ -8,13 +6,13 @@ pub returns-clause-told : goal.returns-clause-told
 returns-clause-told c = λ start came way.
     is_told c.args.budget start came c.args.number c.args.program.now c.args.method.now c.reported.new.method c.in_ok-report.report _
     c.in_ok-report.ensures.number (rw c.new-text.ensures.items at c.in_ok-print_report.ensures.ok) refl
-    (c.in_ok-report.ensures.counts c.args.program.now.keeps.small)
-    (c.in_ok-report.ensures.truth c.args.program.now.keeps.small c.requires.stands (programs_are_trees (content c.args.program.now) c.args.program.now.keeps).0)
+    c.in_ok-report.ensures.counts
+    (c.in_ok-report.ensures.truth c.requires.stands)
     c.in_ok-report.ensures.equal
     (λ few. c.in_ok-report.ensures.comes start came few c.requires.stands (c.requires.cleared few) way)
 
 pub returns-clause-stands : goal.returns-clause-stands
-returns-clause-stands c = c.in_ok-report.ensures.stands c.args.program.now.keeps.small c.requires.stands
+returns-clause-stands c = c.in_ok-report.ensures.stands c.requires.stands
 
 pub returns-clause-cleared : goal.returns-clause-cleared
 returns-clause-cleared c = λ few. c.in_ok-report.ensures.cleared few c.requires.stands (c.requires.cleared few)

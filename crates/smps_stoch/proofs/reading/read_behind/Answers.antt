@@ -8,7 +8,8 @@ use Rattle.reader_defs.specs.Reader.{read_from}
 use Rattle.stoch_defs.specs.File.{stoch_file}
 use Rattle.stoch_defs.specs.Random.{Random}
 use Rattle.stoch_defs.specs.Step.{step}
-use Rattle.smps_stoch.specs.View.{filed, stages, Reads}
+use Rattle.time_defs.specs.Periods.{stages}
+use Rattle.smps_stoch.specs.View.{filed, Reads}
 use Rattle.smps_stoch.proofs.TextLemmas.{refused_there}
 use Rattle.smps_stoch.proofs.reading.read_behind.Goals as goal
 

@@ -2,7 +2,8 @@
 use Rattle.std.proofs.Common.{◌≡◌, length}
 use Rattle.reader_defs.specs.Reader.{read_from}
 use Rattle.stoch_defs.specs.File.{stoch_file, read_random}
-use Rattle.smps_stoch.specs.View.{filed, stages}
+use Rattle.time_defs.specs.Periods.{stages}
+use Rattle.smps_stoch.specs.View.{filed}
 use Rattle.smps_stoch.proofs.reading.read_behind.Given as goal
 
 abbrev pub invariant-loop-line : goal.invariant-loop-line

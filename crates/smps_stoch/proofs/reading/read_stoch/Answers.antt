@@ -1,4 +1,4 @@
-use Rattle.smps_stoch.specs.View.{stages}
+use Rattle.time_defs.specs.Periods.{stages}
 use Rattle.smps_stoch.proofs.TextLemmas.{told}
 use Rattle.smps_stoch.proofs.reading.read_stoch.Goals as goal
 

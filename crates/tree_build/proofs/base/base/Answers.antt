@@ -1,7 +1,8 @@
 use Rattle.std.proofs.Common.{◌≡◌, ◌∙◌, ◌+◌, ◌++◌, ◌∷◌, ap, ap₂, sym, subst, [], List, map, arith}
 use Rattle.build_defs.specs.Scenarios.{stages_from}
 use Rattle.smps_build.specs.Gathered.{forms_from}
-use Rattle.tree_build.specs.Values.{Values, stages, values_of, all_content}
+use Rattle.time_defs.specs.Periods.{stages}
+use Rattle.tree_build.specs.Values.{Values, values_of, all_content}
 use Rattle.tree_build.specs.Base.{base_costs, base_rows}
 use Rattle.tree_build.specs.Rows.{RowsFrom}
 use Rattle.tree_build.proofs.ValueLemmas.{values_rise}

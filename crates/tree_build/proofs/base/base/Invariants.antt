@@ -1,6 +1,7 @@
 use Rattle.std.proofs.Common.{◌≡◌, [], map}
 use Rattle.build_defs.specs.Scenarios.{stages_from}
-use Rattle.tree_build.specs.Values.{stages, values_of, all_content}
+use Rattle.time_defs.specs.Periods.{stages}
+use Rattle.tree_build.specs.Values.{values_of, all_content}
 use Rattle.tree_build.proofs.base.base.Given as goal
 
 abbrev pub invariant-loop-stage : goal.invariant-loop-stage

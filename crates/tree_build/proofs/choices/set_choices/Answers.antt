@@ -1,6 +1,7 @@
 use Rattle.std.proofs.Common.{◌∙◌, ◌+◌, ◌++◌, ap, sym, map, drop, get_or}
 use Rattle.stoch_defs.specs.Random.{block_content}
-use Rattle.tree_build.specs.Values.{stages, values_content, with_sets}
+use Rattle.time_defs.specs.Periods.{stages}
+use Rattle.tree_build.specs.Values.{values_content, with_sets}
 use Rattle.tree_build.specs.Choices.{case_at, sets_of}
 use Rattle.tree_build.proofs.WheelLemmas.{no_wheel}
 use Rattle.tree_build.proofs.ChoiceLemmas.{sets_read, sets_past, with_append}

@@ -1,6 +1,7 @@
 use Rattle.std.proofs.Common.{◌≡◌, map, drop}
 use Rattle.stoch_defs.specs.Random.{block_content}
-use Rattle.tree_build.specs.Values.{stages, values_content, with_sets}
+use Rattle.time_defs.specs.Periods.{stages}
+use Rattle.tree_build.specs.Values.{values_content, with_sets}
 use Rattle.tree_build.specs.Choices.{sets_of}
 use Rattle.tree_build.proofs.choices.set_choices.Given as goal
 

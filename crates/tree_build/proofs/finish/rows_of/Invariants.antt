@@ -1,6 +1,6 @@
 use Rattle.std.proofs.Common.{◌≡◌, ◌++◌, drop}
 use Rattle.build_defs.specs.Built.{rows_from}
-use Rattle.tree_build.specs.Values.{stages}
+use Rattle.time_defs.specs.Periods.{stages}
 use Rattle.tree_build.proofs.finish.rows_of.Given as goal
 
 abbrev pub invariant-loop-place : goal.invariant-loop-place

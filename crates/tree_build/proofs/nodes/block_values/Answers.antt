@@ -2,7 +2,8 @@ use Rattle.std.proofs.Common.{◌≡◌, ◌∙◌, ◌+◌, ◌++◌, ◌∷◌
 use Rattle.std.proofs.lemmas.List.{drop_more}
 use Rattle.stoch_defs.specs.Random.{block_content}
 use Rattle.tree_build.specs.declared.limits.Counts.{Counts}
-use Rattle.tree_build.specs.Values.{Values, stages, values_content, all_content}
+use Rattle.time_defs.specs.Periods.{stages}
+use Rattle.tree_build.specs.Values.{Values, values_content, all_content}
 use Rattle.tree_build.specs.Limits.{entries_in, rows_in, costs_in}
 use Rattle.tree_build.specs.Nodes.{block_node}
 use Rattle.tree_build.proofs.BaseLemmas.{content_push}

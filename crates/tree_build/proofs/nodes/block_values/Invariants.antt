@@ -1,6 +1,7 @@
 use Rattle.std.proofs.Common.{◌≡◌, ◌++◌, map, drop, sum_by}
 use Rattle.stoch_defs.specs.Random.{block_content}
-use Rattle.tree_build.specs.Values.{stages, all_content}
+use Rattle.time_defs.specs.Periods.{stages}
+use Rattle.tree_build.specs.Values.{all_content}
 use Rattle.tree_build.specs.Limits.{entries_in, rows_in, costs_in, AreSmall}
 use Rattle.tree_build.specs.Nodes.{block_node}
 use Rattle.tree_build.proofs.nodes.block_values.Given as goal

@@ -3,7 +3,8 @@ use Rattle.std.proofs.lemmas.List.{drop_more}
 use Rattle.stoch_defs.specs.Random.{branch_content}
 use Rattle.tree_build.specs.declared.parts.Values.{Values as ValuesOf}
 use Rattle.tree_build.specs.declared.limits.Counts.{Counts}
-use Rattle.tree_build.specs.Values.{Values, stages, values_content, all_content}
+use Rattle.time_defs.specs.Periods.{stages}
+use Rattle.tree_build.specs.Values.{Values, values_content, all_content}
 use Rattle.tree_build.specs.Numbering.{paths_content}
 use Rattle.tree_build.specs.Limits.{entries_in, rows_in, costs_in}
 use Rattle.tree_build.specs.Nodes.{branch_node, branch_nodes}

@@ -4,7 +4,7 @@ use Rattle.stoch_defs.specs.declared.stoch.Block.{Block}
 use Rattle.stoch_defs.specs.declared.stoch.Branch.{Branch}
 use Rattle.stoch_defs.specs.Random.{block_content, branch_content, content}
 use Rattle.stoch_defs.specs.Random.Random.{Blocks, Branches}
-use Rattle.tree_build.specs.Values.{stages}
+use Rattle.time_defs.specs.Periods.{stages}
 use Rattle.tree_build.specs.Law.{AreCases}
 use Rattle.tree_build.proofs.Programs.{built_are_programs}
 use Rattle.tree_build.proofs.program.build.Goals as goal

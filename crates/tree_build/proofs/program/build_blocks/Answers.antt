@@ -5,7 +5,8 @@ use Rattle.scen_defs.specs.Program.{scenarios_content}
 use Rattle.build_defs.specs.Built.{most_scenarios}
 use Rattle.tree_build.specs.declared.wheels.Wheel.{Wheel}
 use Rattle.tree_build.specs.declared.numbering.Debut.{Debut}
-use Rattle.tree_build.specs.Values.{Values, stages, all_content}
+use Rattle.time_defs.specs.Periods.{stages}
+use Rattle.tree_build.specs.Values.{Values, all_content}
 use Rattle.tree_build.specs.Wheels.{wheels_of, product, sizes_of}
 use Rattle.tree_build.specs.Numbering.{rows_content, paths_content}
 use Rattle.tree_build.specs.Nodes.{block_node}

@@ -1,5 +1,6 @@
 use Rattle.std.proofs.Common.{◌≡◌, drop}
-use Rattle.tree_build.specs.Values.{stages, values_content, with_sets}
+use Rattle.time_defs.specs.Periods.{stages}
+use Rattle.tree_build.specs.Values.{values_content, with_sets}
 use Rattle.tree_build.proofs.values.set_all.Given as goal
 
 abbrev pub invariant-loop-pair : goal.invariant-loop-pair

@@ -14,14 +14,15 @@ pub returns-clause-tabled : goal.returns-clause-tabled
 returns-clause-tabled c =
     let i = c.args.program.now.keeps in
     started (content c.args.program.now) _ c.in_ok-frame.frame c.parents.result.now c.nodes.result c.in_ok-table.field-0 i refl
-    (c.in_ok-frame.ensures i.small) c.parents.ensures c.in-Some.is c.in_ok-table.ensures.fits c.in_ok-banks.ensures.banks c.nodes.ensures
+    c.in_ok-frame.ensures c.parents.ensures c.in-Some.is c.in_ok-table.ensures.fits c.in_ok-banks.ensures.banks c.nodes.ensures
 
 pub returns-clause-beginning : goal.returns-clause-beginning
-returns-clause-beginning c = λ small.
+returns-clause-beginning c =
+    let small = c.args.program.now.keeps.small in
     let p = content c.args.program.now in
-    let n = all_nodes p c.in_ok-frame.frame c.nodes.result small (c.in_ok-frame.ensures small) c.nodes.ensures in
+    let n = all_nodes p c.in_ok-frame.frame c.nodes.result small c.in_ok-frame.ensures c.nodes.ensures in
     record {
-      frame = c.in_ok-frame.ensures small;
+      frame = c.in_ok-frame.ensures;
       budget_is = refl;
       kind = refl;
       pools = c.in_ok-banks.ensures.banks ∙ ap empty_banks n;
@@ -37,7 +38,7 @@ pub returns-in_default-clause-some : goal.returns-in_default-clause-some
 returns-in_default-clause-some c = λ few.
     let i = c.args.program.now.keeps in
     made_one c.in_ok-table.field-0 c.parents.result.now _ c.in_ok-table.ensures.some
-    (c.parents.ensures ∙ ap (λ (f : Frame). f.parents) (c.in_ok-frame.ensures i.small)) c.in_default.is (are_parents (content c.args.program.now) i few)
+    (c.parents.ensures ∙ ap (λ (f : Frame). f.parents) c.in_ok-frame.ensures) c.in_default.is (are_parents (content c.args.program.now) i few)
 
 pub returns-clause-made : goal.returns-clause-made
 returns-clause-made c = λ b. all_made_at_start b Feasible _ _ c.nodes.result c.in_ok-banks.ensures.banks c.none.ensures

@@ -9,7 +9,7 @@ returns-in-Some-clause-starts c = λ few.
     let p = content c.args.program.now in
     let old = c.args.self.now in
     let b : IsBeginning p old.budget c.in-Some.state =
-    subst (λ (o : Option State). IfSome o (IsBeginning p old.budget)) c.in-Some.is (c.in_ok-state.ensures.beginning c.args.program.now.keeps.small) in
+    subst (λ (o : Option State). IfSome o (IsBeginning p old.budget)) c.in-Some.is c.in_ok-state.ensures.beginning in
     record {
       beginning = record {
         frame = b.frame;

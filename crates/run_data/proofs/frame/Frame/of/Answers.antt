@@ -6,7 +6,8 @@ use Rattle.run_data.proofs.FrameLemmas.{nodes_length, same_frame}
 use Rattle.run_data.proofs.frame.Frame.of.Goals as goal
 
 pub returns : goal.returns
-returns c = λ small.
+returns c =
+    let small = c.args.program.now.keeps.small in
     let nodes = c.args.program.now.nodes.items in
     let long : length (nodes_content nodes) ≡ length nodes = nodes_length nodes in
     let few : length c.deref-2.result.now < 2 ^ 32 = omega (arith, small.nodes, long, ap length c.deref-2.ensures.value) in

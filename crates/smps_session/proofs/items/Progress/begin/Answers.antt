@@ -8,7 +8,7 @@ pub returns-clause-counted : goal.returns-clause-counted
 returns-clause-counted c = c.in_ok-counted.ensures ∙ ap (λ (nodes : List (Option NodeOf)). counts (nodes_content nodes)) c.deref.ensures.value
 
 pub returns-clause-stands : goal.returns-clause-stands
-returns-clause-stands c = c.in_ok-method.ensures.stands c.args.program.now.keeps.small
+returns-clause-stands c = c.in_ok-method.ensures.stands
 
 pub returns-clause-begins : goal.returns-clause-begins
 returns-clause-begins c = λ few. c.in_ok-method.ensures.begins few

@@ -13,7 +13,7 @@ use Rattle.tree_method.proofs.Histories.{history_begins}
 use Rattle.tree_method.proofs.method.Method.begin.Goals as goal
 
 pub returns-in-Err-clause-stands : goal.returns-in-Err-clause-stands
-returns-in-Err-clause-stands c = λ small. (
+returns-in-Err-clause-stands c = (
   refl,
   treeless_leaves_open (content c.args.program.now) c.args.budget c.in_ok-treeless-in-Err.field-0
       (no_tree (content c.args.program.now) c.in-Err.fault c.in_ok-treeless-in-Err.field-0 c.in-Err.ensures c.in_ok-treeless-in-Err.ensures),
@@ -29,10 +29,10 @@ pub returns-then-len-ge-MANY-clause-begins : goal.returns-then-len-ge-MANY-claus
 returns-then-len-ge-MANY-clause-begins c = λ few. absurd (omega (arith, few, c.if-len-ge-MANY.true, c.len.ensures, nodes_long c.args.program.now.nodes.items))
 
 pub returns-in-Some-clause-stands : goal.returns-in-Some-clause-stands
-returns-in-Some-clause-stands c = λ small.
+returns-in-Some-clause-stands c =
     let p = content c.args.program.now in
     let beginning : IsBeginning p c.args.budget c.in-Some.state =
-    subst (λ (o : Option State). IfSome o (IsBeginning p c.args.budget)) c.in-Some.is (c.in_ok-state.ensures.beginning small) in
+    subst (λ (o : Option State). IfSome o (IsBeginning p c.args.budget)) c.in-Some.is c.in_ok-state.ensures.beginning in
     let counts : c.in-Some.state.counts ≡ no_commits =
     subst (λ (o : Option State). IfSome o (λ s. s.counts ≡ no_commits)) c.in-Some.is c.in_ok-state.ensures.counts in
     begins_on p c.args.budget (record { state = c.in-Some.state; tree = c.in-Ok.tree }) beginning c.in-Ok.ensures
@@ -49,6 +49,6 @@ pub returns-in-Some-clause-begins : goal.returns-in-Some-clause-begins
 returns-in-Some-clause-begins c = λ few.
     let p = content c.args.program.now in (
       c.in-Ok.ensures,
-      subst (λ (o : Option State). IfSome o (IsBeginning p c.args.budget)) c.in-Some.is (c.in_ok-state.ensures.beginning c.args.program.now.keeps.small),
+      subst (λ (o : Option State). IfSome o (IsBeginning p c.args.budget)) c.in-Some.is c.in_ok-state.ensures.beginning,
       subst (λ (o : Option State). IfSome o (λ s. s.counts ≡ no_commits)) c.in-Some.is c.in_ok-state.ensures.counts,
     )

@@ -9,8 +9,8 @@ use Rattle.tree_method.proofs.StandLemmas.{on_ok_if}
 use Rattle.tree_method.proofs.method.Method.start_over.Goals as goal
 
 pub returns-in-Working-clause-stays : goal.returns-in-Working-clause-stays
-returns-in-Working-clause-stays c = λ budget small left s.
-    c.start_over.ensures.stays budget small (leb-false _ _ (subst (λ (m : Method). is_spent m ≡ false) c.in-Working.is left))
+returns-in-Working-clause-stays c = λ budget left s.
+    c.start_over.ensures.stays budget (leb-false _ _ (subst (λ (m : Method). is_spent m ≡ false) c.in-Working.is left))
     (subst (StandsOn (content c.args.program.now) budget) c.in-Working.is s)
 
 pub returns-in-Working-clause-solves : goal.returns-in-Working-clause-solves

@@ -1,5 +1,0 @@
-//! Tests of whole runs of `check`.
-#![tactic(auto)]
-
-#[cfg(test)]
-mod tests;

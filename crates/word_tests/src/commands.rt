@@ -1,0 +1,145 @@
+//! Lists of words, and what they ask for. The table is a text, since each member of an array is a step of the proof.
+use command_words::{Budget, Command, Page, Plan, Sources, Task, read_words};
+use std::alloc::{AllocError, Global};
+use std::test::Fail;
+
+/// In each line the words, and behind the bar what they ask for: the command; of a task on files the names of the files, and of `solve`
+/// the solves and the pivots; of `make` its numbers and the text that is printed. Nothing where they are refused.
+const WORDS: &str = "\
+solve --core F|solve F - - - - 100000 100000
+solve --core=F --time T --stoch=S --pivots 0000000007|solve F T S - - 100000 7
+solve --pivots=1000000000 --stoch S --time T --core a=b|solve a=b T S - - 100000 1000000000
+show --time=T=1 --core F|show F T=1 - - -
+|
+solve|
+show|
+run --core F|
+Solve --core F|
+solve F|
+solve --core|
+solve --core=|
+solve --core -F|
+solve --core=-F|
+solve --core F G|
+solve --core F --core F|
+solve --core F --core=G|
+solve --cor F|
+solve --Core F|
+solve -core F|
+solve --core F --stoch S|
+solve --core F --time|
+solve --time T --stoch S|
+solve -- --core F|
+solve --core F --help|
+solve --core F --pivots 0|
+solve --core F --pivots 1000000001|
+solve --core F --pivots 00000000001|
+solve --core F --pivots +5|
+solve --core F --pivots 5a|
+show --core F --pivots 5|
+--help|
+solve --solves 3 --core F --workers=1|solve F - - - - 3 100000
+solve --core F --time T --solves=1000000000 --pivots 2|solve F T - - - 1000000000 2
+solve --core F --solves 0|
+solve --core F --solves 1000000001|
+solve --core F --workers 2|
+solve --core F --workers 0|
+show --core F --solves 3|
+show --core F --workers 1|
+solve --core F --edits E|solve F - - E - 100000 100000
+show --edits=E --core F --time T --stoch S|show F T S E -
+solve --core F --edits E --edits E|
+solve --core F --report R|
+show --core F --report R|
+check --core F --report R|check F - - - R
+check --report=R --edits=E --stoch=S --time=T --core=F|check F T S E R
+check --core F|
+check --report R|
+check --core F --report R --solves 3|
+check --core F --report R --stoch S|
+make --start 1 --stages 2 --branches 2 --size 1|make 1 2 2 1 -
+make --size=20 --branches=4 --stages=6 --start=65536 --text=stoch|make 65536 6 4 20 stoch
+make --start 0 --stages 3 --branches 3 --size 2 --text core|make 0 3 3 2 core
+make --start 0 --stages 3 --branches 3 --size 2 --text time|make 0 3 3 2 time
+make --start 0 --stages 3 --branches 3 --size 2 --text edits|
+make --start 65537 --stages 2 --branches 2 --size 1|
+make --start 1 --stages 1 --branches 2 --size 1|
+make --start 1 --stages 7 --branches 2 --size 1|
+make --start 1 --stages 2 --branches 1 --size 1|
+make --start 1 --stages 2 --branches 5 --size 1|
+make --start 1 --stages 2 --branches 2 --size 0|
+make --start 1 --stages 2 --branches 2 --size 21|
+make --start 1 --stages 2 --branches 2|
+make --stages 2 --branches 2 --size 1|
+make --start 1 --branches 2 --size 1|
+make --start 1 --stages 2 --size 1|
+make --start 1 --stages 2 --branches 2 --size 1 --core F|
+make --start 1 --stages 2 --branches 2 --size 1 --edits E|
+make --start 1 --stages 2 --branches 2 --size 1 --solves 3|
+make|
+solve --core F --text core|
+solve --core F --start 1|
+show --core F --size 1|
+check --core F --report R --stages 2|
+solve --core F --branches 2|";
+
+/// What a command asks for, as the table says it.
+fn told(alloc: Global, command: Option<Command<'_>>) -> Result<String, AllocError> {
+    match command {
+        None => Ok(String::new(alloc)),
+        Some(Command::OnFiles { sources, task }) => {
+            let files = files(alloc, sources)?;
+            match task {
+                Task::Solve(Budget { solves, pivots }) => {
+                    format!(in alloc; "solve {files} {solves} {pivots}")
+                }
+                Task::Check => format!(in alloc; "check {files}"),
+                Task::Show => format!(in alloc; "show {files}"),
+            }
+        }
+        Some(Command::Make(plan)) => {
+            let Plan {
+                start,
+                stages,
+                branches,
+                size,
+                page,
+            } = plan;
+            let page = page_word(page);
+            format!(in alloc; "make {start} {stages} {branches} {size} {page}")
+        }
+    }
+}
+
+fn page_word(page: Option<Page>) -> &'static str {
+    match page {
+        None => "-",
+        Some(Page::Core) => "core",
+        Some(Page::Time) => "time",
+        Some(Page::Stoch) => "stoch",
+    }
+}
+
+fn files(alloc: Global, sources: Sources<'_>) -> Result<String, AllocError> {
+    let core = sources.core;
+    let time = sources.time.unwrap_or("-");
+    let stoch = sources.stoch.unwrap_or("-");
+    let edits = sources.edits.unwrap_or("-");
+    let report = sources.report.unwrap_or("-");
+    format!(in alloc; "{core} {time} {stoch} {edits} {report}")
+}
+
+#[test]
+fn words_are_read_or_refused(rt: HostRuntime) -> Result<(), Fail> {
+    let alloc = rt.alloc();
+    for row in WORDS.lines() {
+        let (text, expected) = row.split_once('|').unwrap_or(("", "no bar"));
+        let mut words = Vec::new(alloc);
+        for word in text.split_whitespace() {
+            words.push(String::from_str(alloc, word)?)?;
+        }
+        let found = told(alloc, read_words(alloc, &words)?)?;
+        assert_eq!(rt; found.as_str(), expected);
+    }
+    Ok(())
+}

@@ -1,0 +1,48 @@
+//! Each shelf and each sink once; what no clause can see behind the system's.
+use smps_io::{
+    MemoryShelf, MemorySink, NeverFails, RealShelf, RealSink, Shelf, ShelfFault, SinkFault,
+    write_all,
+};
+use std::alloc::{AllocError, Global};
+use std::fs;
+use std::test::Fail;
+
+/// A file `a` of five bytes.
+fn files(alloc: Global) -> Result<Vec<(String, Vec<u8>)>, AllocError> {
+    let file = (String::from_str(alloc, "a")?, b"bytes".to_vec(alloc)?);
+    Ok(vec![in alloc; file]?)
+}
+
+#[test]
+fn shelves_give_fail_and_refuse(rt: HostRuntime) -> Result<(), Fail> {
+    let alloc = rt.alloc();
+    let mut shelf = MemoryShelf::new(alloc, files(alloc)?, vec![in alloc; 2u64]?);
+    let first = shelf.fetch(&rt, alloc, "a", 5)?;
+    assert!(rt; first.as_slice() == b"bytes".as_slice());
+    assert!(rt; shelf.fetch(&rt, alloc, "a", 5).err() == Some(ShelfFault::Failed));
+    assert!(rt; shelf.fetch(&rt, alloc, "b", 5).err() == Some(ShelfFault::Failed));
+    assert!(rt; shelf.fetch(&rt, alloc, "a", 4).err() == Some(ShelfFault::TooLong));
+    let mut sure = NeverFails::new(alloc, files(alloc)?);
+    assert!(rt; sure.fetch(&rt, alloc, "b", 0)?.is_empty());
+    fs::write(&rt, "shelf.txt", "a line\n")?;
+    let mut real = RealShelf::new(alloc);
+    let text = real.fetch(&rt, alloc, "shelf.txt", 7)?;
+    assert!(rt; text.as_slice() == b"a line\n".as_slice());
+    assert!(rt; real.fetch(&rt, alloc, "shelf.txt", 6).err() == Some(ShelfFault::TooLong));
+    assert!(rt; real.fetch(&rt, alloc, "no such file", 6).err() == Some(ShelfFault::Failed));
+    Ok(())
+}
+
+#[test]
+fn sinks_take_bytes_in_pieces(rt: HostRuntime) -> Result<(), Fail> {
+    let alloc = rt.alloc();
+    let mut sink = MemorySink::new(alloc, 2, vec![in alloc; 3u64]?);
+    assert!(rt; write_all(&rt, &mut sink, b"whole").err() == Some(SinkFault::Failed));
+    assert!(rt; sink.bytes() == b"whol".as_slice());
+    write_all(&rt, &mut sink, b"whole")?;
+    assert!(rt; sink.bytes() == b"wholwhole".as_slice());
+    let mut real = RealSink::new();
+    write_all(&rt, &mut real, b"")?;
+    write_all(&rt, &mut real, b"standard output\n")?;
+    Ok(())
+}
