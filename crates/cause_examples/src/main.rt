@@ -146,40 +146,47 @@ fn words_for(line: &str) -> &'static str {
     }
 }
 
+/// The words of a line.
+fn words_of(alloc: Global, line: &str) -> Result<Vec<String>, AllocError> {
+    let mut words = Vec::new(alloc);
+    for word in line.split_whitespace() {
+        words.push(String::from_str(alloc, word)?)?;
+    }
+    Ok(words)
+}
+
+/// Adds a file to those of a shelf.
+fn push_file(
+    alloc: Global,
+    files: &mut Vec<(String, Vec<u8>)>,
+    name: &str,
+    text: &[u8],
+) -> Result<(), AllocError> {
+    let bytes = text.to_vec(alloc)?;
+    files.push((String::from_str(alloc, name)?, bytes))
+}
+
+/// A shelf with this file F and the files of `cover`.
+fn shelf(alloc: Global, file: &[u8]) -> Result<NeverFails, AllocError> {
+    let mut files = Vec::new(alloc);
+    push_file(alloc, &mut files, "F", file)?;
+    push_file(alloc, &mut files, "COVER", COVER.as_bytes())?;
+    push_file(alloc, &mut files, "TIMES", TIMES.as_bytes())?;
+    push_file(alloc, &mut files, "CASES", CASES.as_bytes())?;
+    Ok(NeverFails::new(alloc, files))
+}
+
 /// Whether a run with these words, over this file F and the files of `cover`, writes just this.
 fn is_answered<R: Runtime>(
     rt: &R,
     alloc: Global,
-    text: &str,
+    words: &str,
     file: &[u8],
     expected: &[u8],
 ) -> Result<bool, AllocError> {
-    let mut words = Vec::new(alloc);
-    for word in text.split_whitespace() {
-        words.push(String::from_str(alloc, word)?)?;
-    }
-    let files = vec![in alloc;
-        (String::from_str(alloc, "F")?, file.to_vec(alloc)?),
-        (
-            String::from_str(alloc, "COVER")?,
-            COVER.as_bytes().to_vec(alloc)?
-        ),
-        (
-            String::from_str(alloc, "TIMES")?,
-            TIMES.as_bytes().to_vec(alloc)?
-        ),
-        (
-            String::from_str(alloc, "CASES")?,
-            CASES.as_bytes().to_vec(alloc)?
-        ),
-    ]?;
+    let words = words_of(alloc, words)?;
+    let mut shelf = shelf(alloc, file)?;
     let mut sink = MemorySink::new(alloc, 4096, Vec::new(alloc));
-    let _ = run(
-        rt,
-        alloc,
-        &words,
-        &mut NeverFails::new(alloc, files),
-        &mut sink,
-    );
+    let _ = run(rt, alloc, &words, &mut shelf, &mut sink);
     Ok(sink.bytes() == expected)
 }

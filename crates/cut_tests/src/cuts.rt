@@ -104,26 +104,36 @@ fn repairs(rt: HostRuntime) -> Result<(), Fail> {
     Ok(())
 }
 
-/// At X = 10 the root's cut is worth 9 and -1/2 times 10, and after its child's repair by 4 it is worth 6 more.
-#[test]
-fn used_cuts(rt: HostRuntime) -> Result<(), Fail> {
-    let alloc = rt.alloc();
-    let cut = root_cut(&rt, alloc, leaf_cut(&rt, alloc)?)?;
-    assert_eq!(rt; cut.cut().constant(), Frac::from_int(4));
-    assert_eq!(rt; cut.cut().form().len(), 0);
-    assert_eq!(rt; cut.cut().support().len(), 4);
-    let dual = assemble(alloc, cut.cut())?;
+/// The multiplier of the child's row is 3/2, and there is no other.
+fn has_dual(rt: &impl Abort, alloc: Global, cut: &Cut) -> Result<(), Fail> {
+    let dual = assemble(alloc, cut)?;
     assert_eq!(rt; dual.items().len(), 1);
     assert_eq!(rt; dual.get(1, 0), parse(b"3/2")?);
+    Ok(())
+}
+
+/// After a repair by 4 the root's cut is worth 6 more.
+fn is_raised(rt: &impl Abort, alloc: Global, cut: &SharedCut) -> Result<(), Fail> {
     let shift = Shift {
         node: 1,
         row: 0,
         by: Frac::from_int(4),
         version: 1,
     };
-    let new = repaired(&rt, alloc, &cut, &shift)?;
+    let new = repaired(rt, alloc, cut, &shift)?;
     assert_eq!(rt; new.as_slice(), b"10".as_slice());
     Ok(())
+}
+
+/// At X = 10 the root's cut is worth 9 and -1/2 times 10.
+#[test]
+fn used_cuts(rt: HostRuntime) -> Result<(), Fail> {
+    let cut = root_cut(&rt, rt.alloc(), leaf_cut(&rt, rt.alloc())?)?;
+    assert_eq!(rt; cut.cut().constant(), Frac::from_int(4));
+    assert_eq!(rt; cut.cut().form().len(), 0);
+    assert_eq!(rt; cut.cut().support().len(), 4);
+    has_dual(&rt, rt.alloc(), cut.cut())?;
+    is_raised(&rt, rt.alloc(), &cut)
 }
 
 /// The dual 3/4 at node 1.

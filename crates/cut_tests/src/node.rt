@@ -133,46 +133,50 @@ fn text(alloc: Global, solved: &Solved) -> Result<Vec<u8>, Memory> {
     Ok(out)
 }
 
+/// The cut that node 1 makes at x = 2 where y is at most `upper`, after a look at what is told of its solve.
+fn child_cut(
+    rt: &impl Abort,
+    alloc: Global,
+    upper: i64,
+    expected: &str,
+) -> Result<SharedCut, Fail> {
+    let child = child(alloc, upper)?;
+    let found = solved(rt, alloc, Kind::Cost, child, &[2], Vec::new(alloc))?;
+    is_told(rt, alloc, &found, expected)?;
+    Ok(cut_of(found).ok_or("no cut")?)
+}
+
+/// What is told of a solve.
+fn is_told(rt: &impl Abort, alloc: Global, solved: &Solved, expected: &str) -> Result<(), Fail> {
+    let told = text(alloc, solved)?;
+    assert_eq!(rt; told.as_slice(), expected.as_bytes());
+    Ok(())
+}
+
 /// The children of node 0: the cuts that node 1 makes at x = 2, where y is at most 10 and where it is at most 1.
 fn children(rt: &impl Abort, alloc: Global) -> Result<Vec<ChildCuts>, Fail> {
-    let bound = solved(
-        rt,
-        alloc,
-        Kind::Cost,
-        child(alloc, 10)?,
-        &[2],
-        Vec::new(alloc),
-    )?;
-    let bound_text = text(alloc, &bound)?;
-    assert_eq!(rt; bound_text.as_slice(), "point 0 3 3 cut 5 -1 0".as_bytes());
-    let ray = solved(
-        rt,
-        alloc,
-        Kind::Cost,
-        child(alloc, 1)?,
-        &[2],
-        Vec::new(alloc),
-    )?;
-    let ray_text = text(alloc, &ray)?;
-    assert_eq!(rt; ray_text.as_slice(), " cut 4 -1 0".as_bytes());
     let mut cuts = Vec::new(alloc);
-    cuts.push(cut_of(bound).ok_or("no cut")?)?;
-    cuts.push(cut_of(ray).ok_or("no cut")?)?;
+    cuts.push(child_cut(rt, alloc, 10, "point 0 3 3 cut 5 -1 0")?)?;
+    cuts.push(child_cut(rt, alloc, 1, " cut 4 -1 0")?)?;
+    Ok(one_child(alloc, cuts)?)
+}
+
+/// The cuts of node 1.
+fn one_child(alloc: Global, cuts: Vec<SharedCut>) -> Result<Vec<ChildCuts>, Memory> {
     let mut children = Vec::new(alloc);
     children.push(ChildCuts { child: 1, cuts })?;
     Ok(children)
 }
 
+/// What is told of the solve of node 0 in a run of this kind.
+fn root_is_told(rt: &impl Abort, alloc: Global, kind: Kind, expected: &str) -> Result<(), Fail> {
+    let children = children(rt, alloc)?;
+    let found = solved(rt, alloc, kind, root(alloc)?, &[], children)?;
+    is_told(rt, alloc, &found, expected)
+}
+
 #[test]
 fn two_nodes(rt: HostRuntime) -> Result<(), Fail> {
-    let alloc = rt.alloc();
-    let priced = children(&rt, alloc)?;
-    let cost = solved(&rt, alloc, Kind::Cost, root(alloc)?, &[], priced)?;
-    let cost_text = text(alloc, &cost)?;
-    assert_eq!(rt; cost_text.as_slice(), "point 4 0 9 cut 9 0 0".as_bytes());
-    let unpriced = children(&rt, alloc)?;
-    let feasible = solved(&rt, alloc, Kind::Feasible, root(alloc)?, &[], unpriced)?;
-    let feasible_text = text(alloc, &feasible)?;
-    assert_eq!(rt; feasible_text.as_slice(), "point 4 0 8".as_bytes());
-    Ok(())
+    root_is_told(&rt, rt.alloc(), Kind::Cost, "point 4 0 9 cut 9 0 0")?;
+    root_is_told(&rt, rt.alloc(), Kind::Feasible, "point 4 0 8")
 }

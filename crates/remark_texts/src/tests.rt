@@ -3,13 +3,14 @@
 mod cores;
 mod others;
 
+use core_defs::Cause;
 use cores::CORES;
 use line_remarks::put_cause;
 use others::OTHERS;
 use sample_programs::COVER;
 use smps_cli::{FileKind, Status, run};
 use smps_io::{MemorySink, NeverFails};
-use std::alloc::Global;
+use std::alloc::{AllocError, Global};
 use std::fmt::Write;
 use std::rt::Runtime;
 use std::test::Fail;
@@ -70,51 +71,68 @@ impl<'a> Files<'a> {
     }
 }
 
-/// How a run over files ends whose words name them all.
-fn status_of(rt: &impl Runtime, alloc: Global, files: Files<'_>) -> Result<Status, Fail> {
+/// The words that name all files.
+fn words(alloc: Global) -> Result<Vec<String>, AllocError> {
     let mut words = Vec::new(alloc);
     for word in "solve --core C --time T --stoch S --edits E".split_whitespace() {
         words.push(String::from_str(alloc, word)?)?;
     }
+    Ok(words)
+}
+
+/// Adds a file to those of a shelf.
+fn push_file(
+    alloc: Global,
+    shelf: &mut Vec<(String, Vec<u8>)>,
+    name: &str,
+    text: &str,
+) -> Result<(), AllocError> {
+    let bytes = text.as_bytes().to_vec(alloc)?;
+    shelf.push((String::from_str(alloc, name)?, bytes))
+}
+
+/// A shelf with the files.
+fn shelf(alloc: Global, files: Files<'_>) -> Result<NeverFails, AllocError> {
     let mut shelf = Vec::new(alloc);
-    for (name, text) in [
-        ("C", files.core),
-        ("T", files.time),
-        ("S", files.stoch),
-        ("E", files.edits),
-    ] {
-        shelf.push((
-            String::from_str(alloc, name)?,
-            text.as_bytes().to_vec(alloc)?,
-        ))?;
-    }
+    push_file(alloc, &mut shelf, "C", files.core)?;
+    push_file(alloc, &mut shelf, "T", files.time)?;
+    push_file(alloc, &mut shelf, "S", files.stoch)?;
+    push_file(alloc, &mut shelf, "E", files.edits)?;
+    Ok(NeverFails::new(alloc, shelf))
+}
+
+/// How a run over files ends whose words name them all.
+fn status_of(rt: &impl Runtime, alloc: Global, files: Files<'_>) -> Result<Status, AllocError> {
+    let mut shelf = shelf(alloc, files)?;
     let mut sink = MemorySink::new(alloc, 4096, Vec::new(alloc));
-    Ok(run(
-        rt,
-        alloc,
-        &words,
-        &mut NeverFails::new(alloc, shelf),
-        &mut sink,
-    ))
+    Ok(run(rt, alloc, &words(alloc)?, &mut shelf, &mut sink))
 }
 
 /// Which file is refused, at which line and for which cause, and what is said of it, without the line itself.
 fn remark_of(rt: &impl Runtime, alloc: Global, files: Files<'_>) -> Result<String, Fail> {
-    let Status::Refused(file, line, cause) = status_of(rt, alloc, files)? else {
-        return Err("no file is refused")?;
-    };
+    match status_of(rt, alloc, files)? {
+        Status::Refused(file, line, cause) => Ok(said_of(alloc, files, file, line, &cause)?),
+        _ => Err("no file is refused")?,
+    }
+}
+
+/// What is said of a refusal, in one line.
+fn said_of(
+    alloc: Global,
+    files: Files<'_>,
+    file: FileKind,
+    line: u32,
+    cause: &Cause,
+) -> Result<String, AllocError> {
     let mut said = format!(in alloc; "{file:?} {line} {}", cause.number())?;
-    let text = files.of(file);
-    put_cause(
-        &mut said,
-        file,
-        text.as_bytes(),
-        files.core.as_bytes(),
-        line,
-        &cause,
-    )?;
-    let first = said.lines().next().ok_or("nothing is said")?;
-    Ok(String::from_str(alloc, first)?)
+    let text = files.of(file).as_bytes();
+    put_cause(&mut said, file, text, files.core.as_bytes(), line, cause)?;
+    first_line(alloc, said.as_str())
+}
+
+/// The first line of a text; nothing where it has none.
+fn first_line(alloc: Global, text: &str) -> Result<String, AllocError> {
+    String::from_str(alloc, text.lines().next().unwrap_or(""))
 }
 
 /// Appends a row of a table where something else is said.
@@ -132,28 +150,47 @@ fn put_if_other(
     Ok(())
 }
 
-#[test]
-fn fields_at_fault_are_quoted(rt: HostRuntime) -> Result<(), Fail> {
-    let alloc = rt.alloc();
+/// Looks at a row of a table of core files.
+fn put_if_core_other(
+    rt: &impl Runtime,
+    alloc: Global,
+    others: &mut String,
+    row: &str,
+) -> Result<(), Fail> {
+    let (said, rest) = row.split_once('\n').ok_or("a row without a text")?;
+    let wanted = format!(in alloc; "Core {said}")?;
+    let text = format!(in alloc; "{HEAD}{rest}")?;
+    let files = Files::cover().with("Core", text.as_str());
+    put_if_other(rt, alloc, others, files, wanted.as_str())
+}
+
+/// Looks at a row of a table of other files.
+fn put_if_file_other(
+    rt: &impl Runtime,
+    alloc: Global,
+    others: &mut String,
+    row: &str,
+) -> Result<(), Fail> {
+    let (wanted, text) = row.split_once('\n').ok_or("a row without a text")?;
+    let (name, _) = wanted.split_once(' ').ok_or("a row without a file")?;
+    put_if_other(rt, alloc, others, Files::cover().with(name, text), wanted)
+}
+
+/// The rows of which something else is said.
+fn all_others(rt: &impl Runtime, alloc: Global) -> Result<String, Fail> {
     let mut others = String::new(alloc);
     for row in CORES.split('#') {
-        let (said, rest) = row.split_once('\n').ok_or("a row without a text")?;
-        let wanted = format!(in alloc; "Core {said}")?;
-        let text = format!(in alloc; "{HEAD}{rest}")?;
-        let files = Files::cover().with("Core", text.as_str());
-        put_if_other(&rt, alloc, &mut others, files, wanted.as_str())?;
+        put_if_core_other(rt, alloc, &mut others, row)?;
     }
     for row in OTHERS.split('#') {
-        let (wanted, text) = row.split_once('\n').ok_or("a row without a text")?;
-        let (name, _) = wanted.split_once(' ').ok_or("a row without a file")?;
-        put_if_other(
-            &rt,
-            alloc,
-            &mut others,
-            Files::cover().with(name, text),
-            wanted,
-        )?;
+        put_if_file_other(rt, alloc, &mut others, row)?;
     }
+    Ok(others)
+}
+
+#[test]
+fn fields_at_fault_are_quoted(rt: HostRuntime) -> Result<(), Fail> {
+    let others = all_others(&rt, rt.alloc())?;
     assert!(rt; others.is_empty(), "{others}");
     Ok(())
 }

@@ -5,8 +5,9 @@ use crate::noted::Noted;
 use crate::refusal::{file_start, put_refusal, put_too_long, put_unread};
 use crate::words::put_word_fault;
 use command_words::{Command, Sources, Task, read_words};
+use input_files::FileKind;
 use line_remarks::put_unused;
-use smps_cli::{FileKind, Status};
+use run_status::Status;
 use std::alloc::{AllocError, Global};
 use std::rt::Runtime;
 

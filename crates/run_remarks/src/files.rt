@@ -1,6 +1,6 @@
 //! The files that the words name, looked at once more for what standard error says of them.
 use command_words::Sources;
-use smps_cli::FileKind;
+use input_files::FileKind;
 use smps_io::{RealShelf, Shelf};
 use std::alloc::Global;
 use std::fs;

@@ -2,8 +2,8 @@
 use crate::files::{name_of, read_again, why_unread};
 use command_words::Sources;
 use core_defs::Cause;
+use input_files::FileKind;
 use line_remarks::{push_visible, put_cause, sentence};
-use smps_cli::FileKind;
 use std::alloc::{AllocError, Global};
 use std::fmt::Write;
 use std::rt::Runtime;

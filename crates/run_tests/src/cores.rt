@@ -6,7 +6,7 @@ mod programs;
 use beale::{BEALE, ORDERS};
 use programs::PROGRAMS;
 use smps_cli::{Status, run};
-use smps_io::{MemoryShelf, MemorySink, NeverFails};
+use smps_io::{MemoryShelf, MemorySink, NeverFails, Shelf, Sink};
 use std::alloc::{AllocError, Global};
 use std::process::Abort;
 use std::rt::Runtime;
@@ -343,6 +343,56 @@ fn failing(alloc: Global, faults: &str, kind: &str) -> Result<Vec<u64>, AllocErr
     Ok(calls)
 }
 
+/// A shelf's files: F alone.
+fn file(alloc: Global, bytes: Vec<u8>) -> Result<Vec<(String, Vec<u8>)>, AllocError> {
+    let mut files = Vec::new(alloc);
+    files.push((String::from_str(alloc, "F")?, bytes))?;
+    Ok(files)
+}
+
+/// How a case ends over a shelf and a sink.
+fn ended(
+    rt: &impl Runtime,
+    alloc: Global,
+    case: &Case,
+    shelf: &mut impl Shelf,
+    sink: &mut impl Sink,
+) -> Result<Status, AllocError> {
+    let words = words(alloc, case.words)?;
+    Ok(run(rt, alloc, &words, shelf, sink))
+}
+
+/// How a case ends over the shelf that it names.
+fn ended_on_shelf(
+    rt: &impl Runtime,
+    alloc: Global,
+    case: &Case,
+    files: Vec<(String, Vec<u8>)>,
+    sink: &mut impl Sink,
+) -> Result<Status, AllocError> {
+    if case.faults == "sure" {
+        ended(rt, alloc, case, &mut NeverFails::new(alloc, files), sink)
+    } else {
+        let fails = failing(alloc, case.faults, "fetch")?;
+        let mut shelf = MemoryShelf::new(alloc, files, fails);
+        ended(rt, alloc, case, &mut shelf, sink)
+    }
+}
+
+/// A case ends and writes as it states.
+fn is_as_stated(
+    rt: &impl Abort,
+    alloc: Global,
+    case: &Case,
+    status: Status,
+    written: &[u8],
+) -> Result<(), AllocError> {
+    let text = format!(in alloc; "{status:?}")?;
+    assert_eq!(rt; text.as_str(), case.status);
+    assert_eq!(rt; written, case.output.as_bytes());
+    Ok(())
+}
+
 /// Runs a case with these bytes as the file F. `AllocError` is want of memory, after which the output is a
 /// prefix of what it is to be.
 fn check(
@@ -351,36 +401,13 @@ fn check(
     case: &Case,
     bytes: Vec<u8>,
 ) -> Result<(), AllocError> {
-    let words = words(alloc, case.words)?;
-    let files = vec![in alloc; (String::from_str(alloc, "F")?, bytes)]?;
     let mut sink = MemorySink::new(alloc, 7, failing(alloc, case.faults, "put")?);
-    let status = if case.faults == "sure" {
-        run(
-            rt,
-            alloc,
-            &words,
-            &mut NeverFails::new(alloc, files),
-            &mut sink,
-        )
-    } else {
-        let fails = failing(alloc, case.faults, "fetch")?;
-        run(
-            rt,
-            alloc,
-            &words,
-            &mut MemoryShelf::new(alloc, files, fails),
-            &mut sink,
-        )
-    };
-    let expected = case.output.as_bytes();
+    let status = ended_on_shelf(rt, alloc, case, file(alloc, bytes)?, &mut sink)?;
     if status == Status::Memory {
-        assert!(rt; expected.starts_with(sink.bytes()));
+        assert!(rt; case.output.as_bytes().starts_with(sink.bytes()));
         return Err(AllocError);
     }
-    let text = format!(in alloc; "{status:?}")?;
-    assert_eq!(rt; text.as_str(), case.status);
-    assert_eq!(rt; sink.bytes(), expected);
-    Ok(())
+    is_as_stated(rt, alloc, case, status, sink.bytes())
 }
 
 /// 2^23 line feeds, as many bytes as a file may have, and some more.

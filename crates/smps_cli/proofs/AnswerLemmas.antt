@@ -7,11 +7,11 @@ use Rattle.command_words.specs.Commands.{FileNames, Asked, command_of}
 use Rattle.command_words.specs.Commands.Asked.{OnFiles, MakeThis}
 use Rattle.input_files.specs.declared.kind.FileKind.{FileKind}
 use Rattle.input_files.specs.Fetched.{Texts, AreGiven, IsNamed, IsLong}
-use Rattle.smps_cli.specs.declared.status.Status.{Status}
-use Rattle.smps_cli.specs.declared.status.Status.TheVariants.{TooLong, ReadFault}
+use Rattle.run_status.specs.declared.status.Status.{Status}
+use Rattle.run_status.specs.declared.status.Status.TheVariants.{TooLong, ReadFault}
 use Rattle.smps_cli.specs.Answers.{MayAnswer, MayAnswerFor, MayAnswerTask, MayCome, RefusesWords}
 use Rattle.smps_cli.specs.Makes.{MakesPlan}
-use Rattle.smps_cli.specs.Lines.{status_line}
+use Rattle.run_status.specs.Lines.{status_line}
 
 module _ (content : Option Files) (names : FileNames) (task : Task) (status : Status) (output : List ℕ) where
   pub comes : (texts : Texts) → AreGiven content names texts → MayCome task texts status output → MayAnswerTask content names task status output

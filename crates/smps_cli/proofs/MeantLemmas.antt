@@ -16,8 +16,8 @@ use Rattle.scen_defs.specs.Program.{Program}
 use Rattle.program_files.specs.Meant.{MeansProgram}
 use Rattle.program_files.specs.Edited.{AreMeant, RefusesFiles}
 use Rattle.program_files.proofs.MeaningLemmas.{texts_mean_one_program}
-use Rattle.smps_cli.specs.declared.status.Status.{Status}
-use Rattle.smps_cli.specs.declared.status.Status.TheVariants.{Done, SomeOpen, Words, Refused, TooLong, ReadFault, WriteFault, Memory}
+use Rattle.run_status.specs.declared.status.Status.{Status}
+use Rattle.run_status.specs.declared.status.Status.TheVariants.{Done, SomeOpen, Words, Refused, TooLong, ReadFault, WriteFault, Memory}
 use Rattle.smps_cli.specs.Answers.{MayAnswer, MayAnswerFor, MayCome}
 use Rattle.smps_cli.specs.Checks.{PrintsChecks}
 use Rattle.smps_cli.specs.Ends.{MayEnd, RefusesTexts}

@@ -1,6 +1,4 @@
-pub mod Lines
 pub mod Sources
-pub mod Findings
 pub mod Ends
 pub mod Inputs
 pub mod Solved

@@ -16,10 +16,10 @@ use Rattle.input_files.specs.Fetched.{Texts}
 use Rattle.program_files.specs.Meant.{MeansProgram}
 use Rattle.smps_session.specs.Reasons.{told_reasons}
 use Rattle.smps_session.specs.Comes.{ComesOfAll}
-use Rattle.smps_cli.specs.declared.status.Status.{Status}
-use Rattle.smps_cli.specs.declared.status.Status.TheVariants.{Done}
+use Rattle.run_status.specs.declared.status.Status.{Status}
+use Rattle.run_status.specs.declared.status.Status.TheVariants.{Done}
 use Rattle.smps_cli.specs.Ends.{MayEnd, RefusesTexts}
-use Rattle.smps_cli.specs.Findings.{command_status}
+use Rattle.run_status.specs.Findings.{command_status}
 
 -- the three texts of a workload
 abbrev pub workload : Plan → Made

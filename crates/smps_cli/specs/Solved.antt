@@ -11,9 +11,9 @@ use Rattle.program_files.specs.Edited.{MeansScript}
 use Rattle.tree_method.specs.Stands.{HasFewNodes}
 use Rattle.smps_session.specs.declared.told.Told.{Told}
 use Rattle.smps_session.specs.Told.{IsScripted}
-use Rattle.smps_cli.specs.declared.status.Status.{Status}
+use Rattle.run_status.specs.declared.status.Status.{Status}
 use Rattle.smps_cli.specs.Ends.{MayEnd, RefusesTexts}
-use Rattle.smps_cli.specs.Findings.{is_open_finding, open_status}
+use Rattle.run_status.specs.Findings.{is_open_finding, open_status}
 
 abbrev pub told_text : Told → List ℕ
 told_text told = told.text.items

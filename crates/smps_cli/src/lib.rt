@@ -8,10 +8,8 @@ mod make;
 mod refuse;
 mod show;
 mod solve;
-mod status;
 mod top_call;
 mod write;
 
-pub use input_files::FileKind;
-pub use status::Status;
+pub use run_status::{FileKind, Status};
 pub use top_call::run;

@@ -3,9 +3,9 @@ ghost use Rattle.std.specs.Prelude.{IfOk};
 ghost use Rattle.smps_cli.specs.Ends.{AnswersUnread};
 
 use crate::answer::{Answer, line_answer};
-use crate::status::Status;
 use frac128::Memory;
 use program_files::Unread;
+use run_status::Status;
 use std::alloc::Global;
 
 /// The answer that tells what stops the reading of the texts.

@@ -3,17 +3,17 @@ ghost use Rattle.std.specs.Prelude.{◌≡◌, IfOk, OnOk, ◌++◌};
 ghost use Rattle.std.specs.List.{flat_map};
 ghost use Rattle.input_files.specs.Unfetched.{texts_view};
 ghost use Rattle.program_files.specs.Meant.{AreWithin};
-ghost use Rattle.smps_cli.specs.Findings.{open_status};
+ghost use Rattle.run_status.specs.Findings.{open_status};
 ghost use Rattle.smps_cli.specs.Inputs.{IsInput};
 ghost use Rattle.smps_cli.specs.Solved.{MayBeSolved, PrintsReports, told_text, any_open};
 
 use crate::answer::Answer;
 use crate::input::{Input, read_input};
 use crate::refuse::stopped;
-use crate::status::{is_open, open_status};
 use command_words::Budget;
 use frac128::Memory;
 use input_files::Texts;
+use run_status::{is_open, open_status};
 use smps_session::{Told, scripted};
 use std::alloc::Global;
 

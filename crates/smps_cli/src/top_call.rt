@@ -11,9 +11,9 @@ ghost use Rattle.smps_cli.specs.Completes.{AsksOfProgram, AsksForWorkload, Answe
 ghost use Rattle.input_files.specs.declared.kind.FileKind.{FileKind};
 
 use crate::answer::answered;
-use crate::status::Status;
 use crate::write::write_texts;
 use frac128::Memory;
+use run_status::Status;
 use smps_io::{Shelf, Sink, SinkFault};
 use std::alloc::Global;
 use std::rt::Runtime;

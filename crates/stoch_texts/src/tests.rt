@@ -16,6 +16,7 @@ use refused::REFUSED;
 use smps_stoch::read_stoch;
 use smps_time::{Periods, read_time};
 use std::alloc::Global;
+use std::process::Abort;
 use std::test::Fail;
 use times::TIMES;
 
@@ -102,28 +103,52 @@ fn stoch_outcome(
     }
 }
 
+/// Reading the time file of a row gives what its first line says.
+fn is_time_row(rt: &impl Abort, alloc: Global, core: &Core, row: &str) -> Result<(), Fail> {
+    let (wanted, text) = row.split_once('\n').ok_or("a row without a text")?;
+    let given = time_outcome(alloc, core, text)?;
+    assert!(rt; given.as_slice() == wanted.as_bytes(), "{row}");
+    Ok(())
+}
+
+/// Reading the stoch file of a row gives what its first line says.
+fn is_stoch_row(
+    rt: &impl Abort,
+    alloc: Global,
+    core: &Core,
+    periods: &Periods,
+    row: &str,
+) -> Result<(), Fail> {
+    let (wanted, text) = row.split_once('\n').ok_or("a row without a text")?;
+    let given = stoch_outcome(alloc, core, periods, text)?;
+    assert!(rt; given.as_slice() == wanted.as_bytes(), "{row}");
+    Ok(())
+}
+
+/// Each row of a table holds, with a time file before it.
+fn are_stoch_rows(rt: &impl Abort, alloc: Global, time: &str, table: &str) -> Result<(), Fail> {
+    let core = core(alloc)?;
+    let periods = periods(alloc, &core, time)?;
+    for row in table.split('#') {
+        is_stoch_row(rt, alloc, &core, &periods, row)?;
+    }
+    Ok(())
+}
+
+/// Each row of a table of time files holds.
+fn are_time_rows(rt: &impl Abort, alloc: Global, table: &str) -> Result<(), Fail> {
+    let core = core(alloc)?;
+    for row in table.split('#') {
+        is_time_row(rt, alloc, &core, row)?;
+    }
+    Ok(())
+}
+
 #[test]
 fn texts_are_read_or_refused(rt: HostRuntime) -> Result<(), Fail> {
     let alloc = rt.alloc();
-    let core = core(alloc)?;
-    for row in TIMES.split('#') {
-        let (wanted, text) = row.split_once('\n').ok_or("a row without a text")?;
-        let given = time_outcome(alloc, &core, text)?;
-        assert!(rt; given.as_slice() == wanted.as_bytes(), "{row}");
-    }
-    let three = periods(alloc, &core, THREE_PERIODS)?;
-    for table in [READ, REFUSED] {
-        for row in table.split('#') {
-            let (wanted, text) = row.split_once('\n').ok_or("a row without a text")?;
-            let given = stoch_outcome(alloc, &core, &three, text)?;
-            assert!(rt; given.as_slice() == wanted.as_bytes(), "{row}");
-        }
-    }
-    let single = periods(alloc, &core, SINGLE_PERIOD)?;
-    for row in ONE_PERIOD.split('#') {
-        let (wanted, text) = row.split_once('\n').ok_or("a row without a text")?;
-        let given = stoch_outcome(alloc, &core, &single, text)?;
-        assert!(rt; given.as_slice() == wanted.as_bytes(), "{row}");
-    }
-    Ok(())
+    are_time_rows(&rt, alloc, TIMES)?;
+    are_stoch_rows(&rt, alloc, THREE_PERIODS, READ)?;
+    are_stoch_rows(&rt, alloc, THREE_PERIODS, REFUSED)?;
+    are_stoch_rows(&rt, alloc, SINGLE_PERIOD, ONE_PERIOD)
 }

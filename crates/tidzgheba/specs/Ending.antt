@@ -2,9 +2,9 @@
 use Rattle.std.specs.Prelude.{◌≡◌, ℕ, List, [], map, drop, Option, Some, None, Result, Ok, Err, Vec, String, string_bytes}
 use Rattle.std.specs.declared.alloc.AllocError.{AllocError}
 use Rattle.std.specs.declared.alloc.Global.{Global}
-use Rattle.smps_cli.specs.declared.status.Status.{Status}
-use Rattle.smps_cli.specs.declared.status.Status.TheVariants.{Memory}
-use Rattle.smps_cli.specs.Lines.{status_number}
+use Rattle.run_status.specs.declared.status.Status.{Status}
+use Rattle.run_status.specs.declared.status.Status.TheVariants.{Memory}
+use Rattle.run_status.specs.Lines.{status_number}
 use Rattle.smps_cli.specs.Answers.{Answers}
 
 -- A run of these words may come to this status, over files that don't tell what they hold and an output that doesn't tell what was

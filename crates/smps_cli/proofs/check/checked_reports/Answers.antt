@@ -2,7 +2,7 @@ use Rattle.std.proofs.Common.{◌≡◌, ◌++◌, ℕ, Bool, List, not, ap, ◌
 use Rattle.std.specs.List.{flat_map}
 use Rattle.script_checks.specs.declared.single.Checked.{Checked}
 use Rattle.script_checks.specs.Checked.{line_of, all_hold}
-use Rattle.smps_cli.specs.Findings.{open_status}
+use Rattle.run_status.specs.Findings.{open_status}
 use Rattle.smps_cli.proofs.check.checked_reports.Goals as goal
 
 pub returns : goal.returns

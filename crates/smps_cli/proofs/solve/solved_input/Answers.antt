@@ -4,7 +4,7 @@ use Rattle.std.proofs.lemmas.Result.{IfOk-weaker}
 use Rattle.scen_defs.specs.Program.{content}
 use Rattle.input_files.specs.Unfetched.{texts_view}
 use Rattle.smps_session.specs.declared.told.Told.{Told}
-use Rattle.smps_cli.specs.Findings.{open_status}
+use Rattle.run_status.specs.Findings.{open_status}
 use Rattle.smps_cli.specs.Solved.{PrintsReports, told_text, any_open}
 use Rattle.width_laws.proofs.Widths.{meant_have_widths}
 use Rattle.smps_cli.proofs.Few.{few_nodes}

@@ -2,8 +2,8 @@
 use Rattle.std.specs.Prelude.{Bool, true, false}
 use Rattle.scen_defs.specs.declared.report.Finding.{Finding}
 use Rattle.scen_defs.specs.declared.report.Finding.TheVariants.{Optimal, Infeasible, Unbounded, OpenSolves, OpenPivots, OpenPassed}
-use Rattle.smps_cli.specs.declared.status.Status.{Status}
-use Rattle.smps_cli.specs.declared.status.Status.TheVariants.{Done, SomeOpen}
+use Rattle.run_status.specs.declared.status.Status.{Status}
+use Rattle.run_status.specs.declared.status.Status.TheVariants.{Done, SomeOpen}
 
 abbrev pub is_open_finding : Finding → Bool
 is_open_finding Optimal = false

@@ -1,8 +1,8 @@
 //! How a run ends, and the line that says so.
 ghost use Rattle.std.specs.Prelude.{◌≡◌, ◌++◌, ◌∷◌, IfOk, OnOk};
-ghost use Rattle.smps_cli.specs.Findings.{command_status, is_open_finding, open_status};
-ghost use Rattle.smps_cli.specs.Lines.{file_word, row_name, column_name, numbered_text, values_text, refused_text};
-ghost use Rattle.smps_cli.specs.Lines.{line_with, status_line, status_number};
+ghost use Rattle.run_status.specs.Findings.{command_status, is_open_finding, open_status};
+ghost use Rattle.run_status.specs.Lines.{file_word, row_name, column_name, numbered_text, values_text, refused_text};
+ghost use Rattle.run_status.specs.Lines.{line_with, status_line, status_number};
 
 use core_defs::{Cause, Core};
 use frac128::{Memory, print};
@@ -63,7 +63,7 @@ impl Status {
 
     /// The one line that is printed for the status; none for a command that ended, for a fault of the
     /// output and for want of memory. The names that a cause tells by number are those of the core.
-    pub(crate) fn line(&self, alloc: Global, core: &Option<Core>) -> Result<Vec<u8>, Memory>
+    pub fn line(&self, alloc: Global, core: &Option<Core>) -> Result<Vec<u8>, Memory>
         ensures { IfOk result (λ line. line.items ≡ line_with core.now self.now) }
     {
         match self {
@@ -79,7 +79,7 @@ impl Status {
 }
 
 /// How a command ends, by whether something is left open.
-pub(crate) fn open_status(is_open: bool) -> Status
+pub fn open_status(is_open: bool) -> Status
     ensures { result ≡ open_status is_open }
 {
     if is_open {
@@ -90,7 +90,7 @@ pub(crate) fn open_status(is_open: bool) -> Status
 }
 
 /// Whether a report with this finding is open.
-pub(crate) fn is_open(finding: Finding) -> bool
+pub fn is_open(finding: Finding) -> bool
     ensures { result ≡ is_open_finding finding }
 {
     match finding {
@@ -100,7 +100,7 @@ pub(crate) fn is_open(finding: Finding) -> bool
 }
 
 /// How a command ends whose report has this finding.
-pub(crate) fn command_status(finding: Finding) -> Status
+pub fn command_status(finding: Finding) -> Status
     ensures { result ≡ command_status finding }
 {
     open_status(is_open(finding))
