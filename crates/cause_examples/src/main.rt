@@ -163,7 +163,8 @@ fn push_file(
     text: &[u8],
 ) -> Result<(), AllocError> {
     let bytes = text.to_vec(alloc)?;
-    files.push((String::from_str(alloc, name)?, bytes))
+    files.push((String::from_str(alloc, name)?, bytes))?;
+    Ok(())
 }
 
 /// A shelf with this file F and the files of `cover`.

@@ -17,6 +17,7 @@ use mps_core::{ReadFail, read_core};
 use smps_cli::{FileKind, Status, run};
 use smps_io::{MemorySink, NeverFails};
 use std::alloc::Global;
+use std::process::Abort;
 use std::rt::Runtime;
 use std::test::Fail;
 
@@ -104,7 +105,7 @@ fn is_outcome(alloc: Global, wanted: &str, text: &[u8]) -> Result<bool, Fail> {
 }
 
 /// A text is read as this core, and solved.
-fn is_read_so(rt: &impl Runtime, alloc: Global, row: &str) -> Result<(), Fail> {
+fn is_read_so(rt: &(impl Runtime + Abort), alloc: Global, row: &str) -> Result<(), Fail> {
     let (wanted, text) = row.split_once('\n').ok_or("a row without a text")?;
     assert!(rt; is_outcome(alloc, wanted, text.as_bytes())?, "{row}");
     assert!(rt; run_reports(rt, alloc, text.as_bytes())?, "{row}");
@@ -112,14 +113,19 @@ fn is_read_so(rt: &impl Runtime, alloc: Global, row: &str) -> Result<(), Fail> {
 }
 
 /// A text is refused at this line for this cause, by the reader and by a run.
-fn is_refused_so(rt: &impl Runtime, alloc: Global, wanted: &str, text: &[u8]) -> Result<(), Fail> {
+fn is_refused_so(
+    rt: &(impl Runtime + Abort),
+    alloc: Global,
+    wanted: &str,
+    text: &[u8],
+) -> Result<(), Fail> {
     assert!(rt; is_outcome(alloc, wanted, text)?, "{wanted}");
     assert!(rt; run_refuses(rt, alloc, wanted, text)?, "{wanted}");
     Ok(())
 }
 
 /// Each text of a table is refused as its first line says.
-fn are_refused(rt: &impl Runtime, alloc: Global, table: &str) -> Result<(), Fail> {
+fn are_refused(rt: &(impl Runtime + Abort), alloc: Global, table: &str) -> Result<(), Fail> {
     for row in table.split('#') {
         let (wanted, text) = row.split_once('\n').ok_or("a row without a text")?;
         is_refused_so(rt, alloc, wanted, text.as_bytes())?;
@@ -129,7 +135,7 @@ fn are_refused(rt: &impl Runtime, alloc: Global, table: &str) -> Result<(), Fail
 
 /// A core of this size is refused.
 fn is_too_large(
-    rt: &impl Runtime,
+    rt: &(impl Runtime + Abort),
     alloc: Global,
     wanted: &str,
     rows: u32,
@@ -141,7 +147,7 @@ fn is_too_large(
 }
 
 /// The most constraints, columns and entries that there may be are read; a run would take long.
-fn largest_is_read(rt: &impl Runtime, alloc: Global) -> Result<(), Fail> {
+fn largest_is_read(rt: &(impl Runtime + Abort), alloc: Global) -> Result<(), Fail> {
     let most = large(alloc, 4000, 4000, 100_000)?;
     assert!(rt; most.len() < 8_000_000);
     assert!(rt; read_core(alloc, &most).is_ok());

@@ -136,12 +136,18 @@ fn read(alloc: Global, text: &str) -> Result<Vec<u8>, Memory> {
     Ok(answer)
 }
 
+/// A row of the table holds.
+fn is_read_so(rt: &impl Abort, alloc: Global, row: &str) -> Result<(), Fail> {
+    let (text, expected) = row.split_once('|').ok_or("no bar")?;
+    let found = read(alloc, text)?;
+    assert_eq!(rt; found.as_slice(), expected.as_bytes(), "{row}");
+    Ok(())
+}
+
 #[test]
 fn literals_are_read(rt: HostRuntime) -> Result<(), Fail> {
     for row in LITERALS.lines() {
-        let (text, expected) = row.split_once('|').ok_or("no bar")?;
-        let found = read(rt.alloc(), text)?;
-        assert_eq!(rt; found.as_slice(), expected.as_bytes(), "{row}");
+        is_read_so(&rt, rt.alloc(), row)?;
     }
     Ok(())
 }
@@ -154,18 +160,39 @@ fn single(rt: &impl Abort, alloc: Global, column: u64, value: Frac) -> Result<Fo
     Ok(form)
 }
 
-#[test]
-fn forms_are_added_and_multiplied(rt: HostRuntime) -> Result<(), Fail> {
-    let two = Frac::from_int(2);
-    let first = single(&rt, rt.alloc(), 1, parse(b"1/2")?)?;
-    let second = single(&rt, rt.alloc(), 4, parse(b"3")?)?;
-    let sum = first.add_scaled(two, &second)?;
-    let other = second.add_scaled(two, &first)?;
+/// 1/2 in column 1 and 6 in column 4.
+fn has_sum(rt: &impl Abort, sum: &Form) {
     assert_eq!(rt; sum.get(4), Frac::from_int(6));
     assert_eq!(rt; sum.get(2), Frac::zero());
-    assert_eq!(rt; sum.dot_from(two, &other)?, parse(b"41/2")?);
-    assert_eq!(rt; sum.dot(&other)?, parse(b"37/2")?);
-    assert_eq!(rt; sum.copy(rt.alloc())?.terms().len(), 2);
-    assert_eq!(rt; sum.add_scaled(Frac::from_int(-1), &sum)?.len(), 0);
+}
+
+/// The products with 1 in column 1 and 3 in column 4: 1/2 and 18, and 2 more.
+fn has_products(rt: &impl Abort, sum: &Form, other: &Form) -> Result<(), Fail> {
+    assert_eq!(rt; sum.dot_from(Frac::from_int(2), other)?, parse(b"41/2")?);
+    assert_eq!(rt; sum.dot(other)?, parse(b"37/2")?);
     Ok(())
+}
+
+/// A copy has both terms, and taken away from itself nothing is left.
+fn is_copied(rt: &impl Abort, alloc: Global, sum: &Form) -> Result<(), Fail> {
+    assert_eq!(rt; sum.copy(alloc)?.terms().len(), 2);
+    let none = sum.add_scaled(Frac::from_int(-1), sum)?;
+    assert_eq!(rt; none.len(), 0);
+    Ok(())
+}
+
+/// Looks at the sums of two forms, each with twice the other.
+fn are_added(rt: &impl Abort, alloc: Global, first: &Form, second: &Form) -> Result<(), Fail> {
+    let sum = first.add_scaled(Frac::from_int(2), second)?;
+    let other = second.add_scaled(Frac::from_int(2), first)?;
+    has_sum(rt, &sum);
+    has_products(rt, &sum, &other)?;
+    is_copied(rt, alloc, &sum)
+}
+
+#[test]
+fn forms_are_added_and_multiplied(rt: HostRuntime) -> Result<(), Fail> {
+    let first = single(&rt, rt.alloc(), 1, parse(b"1/2")?)?;
+    let second = single(&rt, rt.alloc(), 4, parse(b"3")?)?;
+    are_added(&rt, rt.alloc(), &first, &second)
 }

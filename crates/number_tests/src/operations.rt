@@ -198,16 +198,22 @@ fn applied(
     }
 }
 
+/// A row of the table holds.
+fn is_applied_so(rt: &impl Abort, alloc: Global, row: &str) -> Result<(), Fail> {
+    let mut words = row.split(' ');
+    let left = parse(words.next().unwrap_or("").as_bytes())?;
+    let symbol = words.next().unwrap_or("");
+    let right = parse(words.next().unwrap_or("").as_bytes())?;
+    let (_, expected) = row.split_once(" = ").ok_or("no answer")?;
+    let found = applied(rt, alloc, left, symbol, right)?;
+    assert_eq!(rt; found.as_slice(), expected.as_bytes(), "{row}");
+    Ok(())
+}
+
 #[test]
 fn numbers_at_the_edges(rt: HostRuntime) -> Result<(), Fail> {
     for row in OPERATIONS.lines() {
-        let mut words = row.split(' ');
-        let left = parse(words.next().unwrap_or("").as_bytes())?;
-        let symbol = words.next().unwrap_or("");
-        let right = parse(words.next().unwrap_or("").as_bytes())?;
-        let (_, expected) = row.split_once(" = ").ok_or("no answer")?;
-        let found = applied(&rt, rt.alloc(), left, symbol, right)?;
-        assert_eq!(rt; found.as_slice(), expected.as_bytes(), "{row}");
+        is_applied_so(&rt, rt.alloc(), row)?;
     }
     Ok(())
 }
@@ -353,21 +359,31 @@ fn value_or_name(alloc: Global, value: Result<Frac, Passed>) -> Result<Vec<u8>, 
     Ok(answer)
 }
 
+/// What the step of a row comes to: its number, a sign, and the two numbers of the product.
+fn stepped(row: &str) -> Result<Result<Frac, Passed>, Fail> {
+    let mut words = row.split(' ');
+    let from = parse(words.next().unwrap_or("").as_bytes())?;
+    let symbol = words.next().unwrap_or("");
+    let factor = parse(words.next().unwrap_or("").as_bytes())?;
+    let times = parse(words.next().unwrap_or("").as_bytes())?;
+    match symbol {
+        "+" => Ok(from.add_product(factor, times)),
+        _ => Ok(from.less_product(factor, times)),
+    }
+}
+
+/// A row of the table holds.
+fn is_stepped_so(rt: &impl Abort, alloc: Global, row: &str) -> Result<(), Fail> {
+    let (_, expected) = row.split_once(" = ").ok_or("no answer")?;
+    let found = value_or_name(alloc, stepped(row)?)?;
+    assert_eq!(rt; found.as_slice(), expected.as_bytes(), "{row}");
+    Ok(())
+}
+
 #[test]
 fn steps_at_the_edges(rt: HostRuntime) -> Result<(), Fail> {
     for row in STEPS.lines() {
-        let mut words = row.split(' ');
-        let from = parse(words.next().unwrap_or("").as_bytes())?;
-        let symbol = words.next().unwrap_or("");
-        let factor = parse(words.next().unwrap_or("").as_bytes())?;
-        let times = parse(words.next().unwrap_or("").as_bytes())?;
-        let (_, expected) = row.split_once(" = ").ok_or("no answer")?;
-        let value = match symbol {
-            "+" => from.add_product(factor, times),
-            _ => from.less_product(factor, times),
-        };
-        let found = value_or_name(rt.alloc(), value)?;
-        assert_eq!(rt; found.as_slice(), expected.as_bytes(), "{row}");
+        is_stepped_so(&rt, rt.alloc(), row)?;
     }
     Ok(())
 }

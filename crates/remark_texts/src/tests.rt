@@ -88,7 +88,8 @@ fn push_file(
     text: &str,
 ) -> Result<(), AllocError> {
     let bytes = text.as_bytes().to_vec(alloc)?;
-    shelf.push((String::from_str(alloc, name)?, bytes))
+    shelf.push((String::from_str(alloc, name)?, bytes))?;
+    Ok(())
 }
 
 /// A shelf with the files.

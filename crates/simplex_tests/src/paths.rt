@@ -2,7 +2,7 @@
 //! (greatest reduced cost first, on a full table of Python's integers): of their path no number is kept that
 //! doesn't fit, but products are on the way that don't. The table is a text, since each member of an array is a
 //! step of the proof.
-use frac128::{Form, Frac, Memory, Term, parse, print};
+use frac128::{Form, Frac, Memory, Passed, parse, print};
 use rationals::Op;
 use simplex_core::{Outcome, Standard, solve};
 use std::alloc::Global;
@@ -105,20 +105,35 @@ fn form(alloc: Global, text: &str) -> Result<Form, Fail> {
     Ok(form)
 }
 
+/// Adds the row of a text to those of a program.
+fn add_row(
+    alloc: Global,
+    row: &str,
+    forms: &mut Vec<Form>,
+    right: &mut Vec<Frac>,
+) -> Result<(), Fail> {
+    let (entries, end) = row.split_once('=').ok_or("no right side")?;
+    forms.push(form(alloc, entries)?)?;
+    right.push(parse(end.as_bytes())?)?;
+    Ok(())
+}
+
+/// How many numbers a text has.
+fn count(alloc: Global, text: &str) -> Result<u64, Fail> {
+    Ok(numbers(alloc, text)?.len() as u64)
+}
+
 /// The program of a row of the table.
 fn program(alloc: Global, rows: &str, cost: &str) -> Result<Option<Standard>, Fail> {
     let mut forms = Vec::new(alloc);
     let mut right = Vec::new(alloc);
     if !rows.is_empty() {
         for row in rows.split(';') {
-            let (entries, end) = row.split_once('=').ok_or("no right side")?;
-            forms.push(form(alloc, entries)?)?;
-            right.push(parse(end.as_bytes())?)?;
+            add_row(alloc, row, &mut forms, &mut right)?;
         }
     }
-    let columns = numbers(alloc, cost)?.len() as u64;
-    let cost = form(alloc, cost)?;
-    Ok(Standard::checked(columns, forms, right, cost))
+    let columns = count(alloc, cost)?;
+    Ok(Standard::checked(columns, forms, right, form(alloc, cost)?))
 }
 
 /// Appends numbers, each behind a blank.
@@ -150,6 +165,56 @@ fn write_op(op: Op, out: &mut Vec<u8>) -> Result<(), Memory> {
     Ok(())
 }
 
+/// Appends an operation that passes, and behind how many pivots.
+fn write_passed(
+    rt: &impl Abort,
+    alloc: Global,
+    pivots: u64,
+    passed: &Passed,
+    out: &mut Vec<u8>,
+) -> Result<(), Memory> {
+    assert!(rt; pivots < 1000);
+    print(alloc, Frac::from_int(pivots as i64), out)?;
+    write_op(passed.op, out)?;
+    write_values(alloc, &[passed.a, passed.b], out)
+}
+
+/// The word of an outcome.
+fn word(outcome: &Outcome) -> &'static [u8] {
+    match outcome {
+        Outcome::Optimal { .. } => b"optimal",
+        Outcome::Infeasible { .. } => b"infeasible",
+        Outcome::Unbounded { .. } => b"unbounded",
+        Outcome::PivotsEnded => b"pivots ended",
+        Outcome::Passed(_pivots, _passed) => b"passed ",
+    }
+}
+
+/// Appends what stands behind the word of an outcome.
+fn write_parts(
+    rt: &impl Abort,
+    alloc: Global,
+    outcome: &Outcome,
+    columns: u64,
+    out: &mut Vec<u8>,
+) -> Result<(), Memory> {
+    match outcome {
+        Outcome::Optimal { point, duals } => {
+            write_form(alloc, point, columns, out)?;
+            out.extend_from_slice(b";")?;
+            write_values(alloc, duals, out)
+        }
+        Outcome::Infeasible { duals } => write_values(alloc, duals, out),
+        Outcome::Unbounded { point, ray } => {
+            write_form(alloc, point, columns, out)?;
+            out.extend_from_slice(b";")?;
+            write_form(alloc, ray, columns, out)
+        }
+        Outcome::PivotsEnded => Ok(()),
+        Outcome::Passed(pivots, passed) => write_passed(rt, alloc, *pivots, passed, out),
+    }
+}
+
 /// An outcome as the table writes it.
 fn text(
     rt: &impl Abort,
@@ -158,32 +223,8 @@ fn text(
     columns: u64,
 ) -> Result<Vec<u8>, Memory> {
     let mut out = Vec::new(alloc);
-    match outcome {
-        Outcome::Optimal { point, duals } => {
-            out.extend_from_slice(b"optimal")?;
-            write_form(alloc, point, columns, &mut out)?;
-            out.extend_from_slice(b";")?;
-            write_values(alloc, duals, &mut out)?;
-        }
-        Outcome::Infeasible { duals } => {
-            out.extend_from_slice(b"infeasible")?;
-            write_values(alloc, duals, &mut out)?;
-        }
-        Outcome::Unbounded { point, ray } => {
-            out.extend_from_slice(b"unbounded")?;
-            write_form(alloc, point, columns, &mut out)?;
-            out.extend_from_slice(b";")?;
-            write_form(alloc, ray, columns, &mut out)?;
-        }
-        Outcome::PivotsEnded => out.extend_from_slice(b"pivots ended")?,
-        Outcome::Passed(pivot, passed) => {
-            assert!(rt; *pivot < 1000);
-            out.extend_from_slice(b"passed ")?;
-            print(alloc, Frac::from_int(*pivot as i64), &mut out)?;
-            write_op(passed.op, &mut out)?;
-            write_values(alloc, &[passed.a, passed.b], &mut out)?;
-        }
-    }
+    out.extend_from_slice(word(outcome))?;
+    write_parts(rt, alloc, outcome, columns, &mut out)?;
     Ok(out)
 }
 
@@ -203,14 +244,20 @@ fn outcome_of(
     Ok(text(rt, alloc, &outcome, program.columns())?)
 }
 
+/// A row of the table holds.
+fn is_solved_so(rt: &impl Abort, alloc: Global, line: &str) -> Result<(), Fail> {
+    let (rows, rest) = line.split_once('|').ok_or("no costs")?;
+    let (cost, rest) = rest.split_once('|').ok_or("no pivots")?;
+    let (pivots, expected) = rest.split_once('|').ok_or("no outcome")?;
+    let found = outcome_of(rt, alloc, rows, cost, pivots)?;
+    assert_eq!(rt; found.as_slice(), expected.as_bytes(), "{line}");
+    Ok(())
+}
+
 #[test]
 fn small_programs(rt: HostRuntime) -> Result<(), Fail> {
     for line in PROGRAMS.lines() {
-        let (rows, rest) = line.split_once('|').ok_or("no costs")?;
-        let (cost, rest) = rest.split_once('|').ok_or("no pivots")?;
-        let (pivots, expected) = rest.split_once('|').ok_or("no outcome")?;
-        let found = outcome_of(&rt, rt.alloc(), rows, cost, pivots)?;
-        assert_eq!(rt; found.as_slice(), expected.as_bytes(), "{line}");
+        is_solved_so(&rt, rt.alloc(), line)?;
     }
     Ok(())
 }

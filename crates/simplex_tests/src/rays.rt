@@ -37,20 +37,30 @@ fn program(rt: &impl Abort, alloc: Global) -> Result<Option<Standard>, Memory> {
     Ok(Standard::checked(1, rows, right, Form::empty(alloc)))
 }
 
+/// What `is_ray` finds.
+fn found(rt: &impl Abort, program: &Standard, duals: &[Frac]) -> &'static str {
+    assert_eq!(rt; duals.len(), program.rows().len());
+    match is_ray(program, duals) {
+        Ok(true) => "shows",
+        Ok(false) => "none",
+        Err(_passed) => "passes",
+    }
+}
+
+/// A row of the table holds.
+fn is_found(rt: &impl Abort, program: &Standard, row: &str) -> Result<(), Fail> {
+    let (words, expected) = row.split_once('=').ok_or("no answer")?;
+    let (first, second) = words.split_once(' ').ok_or("one multiplier")?;
+    let duals = [parse(first.as_bytes())?, parse(second.as_bytes())?];
+    assert_eq!(rt; found(rt, program, &duals), expected, "{row}");
+    Ok(())
+}
+
 #[test]
 fn multipliers(rt: HostRuntime) -> Result<(), Fail> {
     let program = program(&rt, rt.alloc())?.ok_or("no program")?;
-    for line in MULTIPLIERS.lines() {
-        let (words, expected) = line.split_once('=').ok_or("no answer")?;
-        let (first, second) = words.split_once(' ').ok_or("one multiplier")?;
-        let duals = vec![in rt.alloc(); parse(first.as_bytes())?, parse(second.as_bytes())?]?;
-        assert_eq!(rt; duals.len(), program.rows().len());
-        let found = match is_ray(&program, &duals) {
-            Ok(true) => "shows",
-            Ok(false) => "none",
-            Err(_passed) => "passes",
-        };
-        assert_eq!(rt; found, expected, "{line}");
+    for row in MULTIPLIERS.lines() {
+        is_found(&rt, &program, row)?;
     }
     Ok(())
 }

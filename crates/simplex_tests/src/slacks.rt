@@ -110,14 +110,27 @@ fn own(rt: &impl Abort, alloc: Global, limits: &Limits, words: &str) -> Result<V
     Ok(out)
 }
 
+/// The equations are as stated.
+fn has_equations(rt: &impl Abort, alloc: Global, limits: &Limits) -> Result<(), Fail>
+    requires { IsLimits limits.now }
+{
+    let standard = standard(alloc, limits)?;
+    let equations = text(alloc, &standard)?;
+    assert_eq!(rt; equations.as_slice(), EQUATIONS.as_bytes());
+    Ok(())
+}
+
+/// The multipliers of the rows are as stated.
+fn has_multipliers(rt: &impl Abort, alloc: Global, limits: &Limits) -> Result<(), Fail> {
+    let (words, expected) = MULTIPLIERS.split_once('=').ok_or("no multipliers")?;
+    let own = own(rt, alloc, limits, words)?;
+    assert_eq!(rt; own.as_slice(), expected.as_bytes());
+    Ok(())
+}
+
 #[test]
 fn four_rows(rt: HostRuntime) -> Result<(), Fail> {
     let limits = limits(&rt, rt.alloc())?;
-    let standard = standard(rt.alloc(), &limits)?;
-    let equations = text(rt.alloc(), &standard)?;
-    assert_eq!(rt; equations.as_slice(), EQUATIONS.as_bytes());
-    let (words, expected) = MULTIPLIERS.split_once('=').ok_or("no multipliers")?;
-    let own = own(&rt, rt.alloc(), &limits, words)?;
-    assert_eq!(rt; own.as_slice(), expected.as_bytes());
-    Ok(())
+    has_equations(&rt, rt.alloc(), &limits)?;
+    has_multipliers(&rt, rt.alloc(), &limits)
 }

@@ -1,6 +1,7 @@
 //! Lists of words, and what they ask for. The table is a text, since each member of an array is a step of the proof.
 use command_words::{Budget, Command, Page, Plan, Sources, Task, read_words};
 use std::alloc::{AllocError, Global};
+use std::process::Abort;
 use std::test::Fail;
 
 /// In each line the words, and behind the bar what they ask for: the command; of a task on files the names of the files, and of `solve`
@@ -87,28 +88,32 @@ solve --core F --branches 2|";
 fn told(alloc: Global, command: Option<Command<'_>>) -> Result<String, AllocError> {
     match command {
         None => Ok(String::new(alloc)),
-        Some(Command::OnFiles { sources, task }) => {
-            let files = files(alloc, sources)?;
-            match task {
-                Task::Solve(Budget { solves, pivots }) => {
-                    format!(in alloc; "solve {files} {solves} {pivots}")
-                }
-                Task::Check => format!(in alloc; "check {files}"),
-                Task::Show => format!(in alloc; "show {files}"),
-            }
-        }
-        Some(Command::Make(plan)) => {
-            let Plan {
-                start,
-                stages,
-                branches,
-                size,
-                page,
-            } = plan;
-            let page = page_word(page);
-            format!(in alloc; "make {start} {stages} {branches} {size} {page}")
-        }
+        Some(Command::OnFiles { sources, task }) => told_on_files(alloc, sources, task),
+        Some(Command::Make(plan)) => told_plan(alloc, plan),
     }
+}
+
+fn told_on_files(alloc: Global, sources: Sources<'_>, task: Task) -> Result<String, AllocError> {
+    let files = files(alloc, sources)?;
+    match task {
+        Task::Solve(Budget { solves, pivots }) => {
+            format!(in alloc; "solve {files} {solves} {pivots}")
+        }
+        Task::Check => format!(in alloc; "check {files}"),
+        Task::Show => format!(in alloc; "show {files}"),
+    }
+}
+
+fn told_plan(alloc: Global, plan: Plan) -> Result<String, AllocError> {
+    let Plan {
+        start,
+        stages,
+        branches,
+        size,
+        page,
+    } = plan;
+    let page = page_word(page);
+    format!(in alloc; "make {start} {stages} {branches} {size} {page}")
 }
 
 fn page_word(page: Option<Page>) -> &'static str {
@@ -129,17 +134,28 @@ fn files(alloc: Global, sources: Sources<'_>) -> Result<String, AllocError> {
     format!(in alloc; "{core} {time} {stoch} {edits} {report}")
 }
 
+/// The words of a line.
+fn words_of(alloc: Global, line: &str) -> Result<Vec<String>, AllocError> {
+    let mut words = Vec::new(alloc);
+    for word in line.split_whitespace() {
+        words.push(String::from_str(alloc, word)?)?;
+    }
+    Ok(words)
+}
+
+/// A row of the table holds.
+fn is_read_so(rt: &impl Abort, alloc: Global, row: &str) -> Result<(), Fail> {
+    let (line, expected) = row.split_once('|').unwrap_or(("", "no bar"));
+    let words = words_of(alloc, line)?;
+    let found = told(alloc, read_words(alloc, &words)?)?;
+    assert_eq!(rt; found.as_str(), expected);
+    Ok(())
+}
+
 #[test]
 fn words_are_read_or_refused(rt: HostRuntime) -> Result<(), Fail> {
-    let alloc = rt.alloc();
     for row in WORDS.lines() {
-        let (text, expected) = row.split_once('|').unwrap_or(("", "no bar"));
-        let mut words = Vec::new(alloc);
-        for word in text.split_whitespace() {
-            words.push(String::from_str(alloc, word)?)?;
-        }
-        let found = told(alloc, read_words(alloc, &words)?)?;
-        assert_eq!(rt; found.as_str(), expected);
+        is_read_so(&rt, rt.alloc(), row)?;
     }
     Ok(())
 }
