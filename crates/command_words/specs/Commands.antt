@@ -10,7 +10,8 @@ use Rattle.command_words.specs.declared.command.Task.TheVariants as task
 use Rattle.command_words.specs.declared.command.Page.{Page}
 use Rattle.command_words.specs.declared.command.Page.TheVariants as page
 use Rattle.command_words.specs.declared.command.Plan.{Plan}
-use Rattle.command_words.specs.Words.{Given, same_text, then_some, settings_of, value_with, are_once, verb_named, option_number, budget_of}
+use Rattle.command_words.specs.Words.{Given, Values, same_text, then_some, settings_of, value_with, are_once}
+use Rattle.command_words.specs.Words.{verb_named, option_number, budget_of}
 
 -- a task takes the names of the files, `check` also that of reports; `solve` takes numbers, and `make` others
 abbrev pub allows : Verb → Flag → Bool
@@ -66,20 +67,15 @@ sources_by (Some core) None (Some stoch) edits report = None
 sources_by (Some core) None None edits report = Some (file_names core None None edits report)
 sources_by (Some core) (Some time) stoch edits report = Some (file_names core (Some time) stoch edits report)
 
-abbrev pub sources_of : List Given → Option FileNames
-sources_of settings = sources_by
-    (value_with Core settings)
-    (value_with Time settings)
-    (value_with Stoch settings)
-    (value_with Edits settings)
-    (value_with Report settings)
+abbrev pub sources_of : Values → Option FileNames
+sources_of value = sources_by (value Core) (value Time) (value Stoch) (value Edits) (value Report)
 
 -- `check` needs reports; `make` is no task on files
-abbrev pub task_of : Verb → List Given → Option Task
-task_of Solve settings = then_some (budget_of settings) (λ budget. Some (task.Solve budget))
-task_of Check settings = then_some (value_with Report settings) (λ name. Some task.Check)
-task_of Show settings = Some task.Show
-task_of Make settings = None
+abbrev pub task_of : Verb → Values → Option Task
+task_of Solve value = then_some (budget_of value) (λ budget. Some (task.Solve budget))
+task_of Check value = then_some (value Report) (λ name. Some task.Check)
+task_of Show value = Some task.Show
+task_of Make value = None
 
 -- ---- workloads
 
@@ -94,17 +90,17 @@ page_by None = Some None
 page_by (Some word) = then_some (page_named word) (λ found. Some (Some found))
 
 -- the text that is asked for, if one is
-abbrev pub page_of : List Given → Option (Option Page)
-page_of settings = page_by (value_with Text settings)
+abbrev pub page_of : Values → Option (Option Page)
+page_of value = page_by (value Text)
 
 -- all four numbers are needed, each within its range
-abbrev pub plan_of : List Given → Option Plan
-plan_of settings =
-    then_some (option_number 0 65536 (value_with Start settings)) (λ s.
-    then_some (option_number 2 6 (value_with Stages settings)) (λ t.
-    then_some (option_number 2 4 (value_with Branches settings)) (λ b.
-    then_some (option_number 1 20 (value_with Size settings)) (λ k.
-    then_some (page_of settings) (λ found.
+abbrev pub plan_of : Values → Option Plan
+plan_of value =
+    then_some (option_number 0 65536 (value Start)) (λ s.
+    then_some (option_number 2 6 (value Stages)) (λ t.
+    then_some (option_number 2 4 (value Branches)) (λ b.
+    then_some (option_number 1 20 (value Size)) (λ k.
+    then_some (page_of value) (λ found.
     Some (record { start = s; stages = t; branches = b; size = k; page = found }))))))
 
 -- ---- commands
@@ -114,20 +110,25 @@ pub data Asked : Type 0 where
   OnFiles : FileNames → Task → Asked
   MakeThis : Plan → Asked
 
-abbrev pub on_files : Verb → List Given → Option Asked
-on_files verb settings =
-    then_some (sources_of settings) (λ names. then_some (task_of verb settings) (λ found. Some (OnFiles names found)))
+abbrev pub on_files : Verb → Values → Option Asked
+on_files verb value = then_some (sources_of value) (λ names. then_some (task_of verb value) (λ found. Some (OnFiles names found)))
 
-abbrev pub asked_with : Verb → List Given → Option Asked
-asked_with Solve settings = on_files Solve settings
-asked_with Check settings = on_files Check settings
-asked_with Show settings = on_files Show settings
-asked_with Make settings = then_some (plan_of settings) (λ plan. Some (MakeThis plan))
+-- what a verb asks for with these values of its options
+abbrev pub asked_with : Verb → Values → Option Asked
+asked_with Solve value = on_files Solve value
+asked_with Check value = on_files Check value
+asked_with Show value = on_files Show value
+asked_with Make value = then_some (plan_of value) (λ plan. Some (MakeThis plan))
 
 abbrev pub command_with : Verb → List Given → Option Asked
-command_with verb settings = if all_allowed verb settings && are_once settings then asked_with verb settings else None
+command_with verb settings =
+    if all_allowed verb settings && are_once settings then asked_with verb (λ flag. value_with flag settings) else None
+
+-- the command of a verb with the words of its options
+abbrev pub command_by : Verb → List (List ℕ) → Option Asked
+command_by verb words = then_some (settings_of words) (command_with verb)
 
 -- The command that the words are: the first is its name, and options follow in any order, each at most once.
 abbrev pub command_of : List (List ℕ) → Option Asked
 command_of [] = None
-command_of (word ∷ words) = then_some (verb_named word) (λ verb. then_some (settings_of words) (command_with verb))
+command_of (word ∷ words) = then_some (verb_named word) (λ verb. command_by verb words)

@@ -1,3 +1,5 @@
 pub mod Words
 pub mod Commands
 pub mod Views
+pub mod Options
+pub mod Plain

@@ -1,8 +1,9 @@
 -- The words of a command.
-use Rattle.std.specs.Prelude.{ℕ, ◌+◌, ◌*◌, ◌-◌, Bool, true, false, List, [], ◌∷◌, ◌++◌, length, Option, Some, None}
-use Rattle.std.specs.Prelude.{is_none}
+use Rattle.std.specs.Prelude.{◌≡◌, ℕ, ◌+◌, ◌*◌, ◌-◌, Bool, true, false, List, [], ◌∷◌, ◌++◌, length, Option, Some, None}
+use Rattle.std.specs.Prelude.{is_none, map, option_map}
 use Rattle.std.specs.Prelude.{if◌then◌else◌, nat_eq, leb, ltb, ◌==◌, not, ◌&&◌, codes}
 use Rattle.std.specs.Cmp.Lexicographic.{pointwise}
+use Rattle.std.specs.Coded.{Coded-set, coded_list, coded_option, coded_ℕ}
 use Rattle.std.specs.List.{position_or_len, before_first, after_first}
 use Rattle.command_words.specs.declared.flag.Flag.{Flag}
 use Rattle.command_words.specs.declared.flag.Flag.TheVariants.{Core, Time, Stoch, Edits, Report, Solves, Pivots, Workers}
@@ -76,6 +77,30 @@ valued (Some flag) value = if is_value value then Some (record { flag = flag; va
 abbrev pub setting_of : List ℕ → List ℕ → Option Given
 setting_of name value = valued (flag_named name) value
 
+-- the name of an option, without its two minuses
+abbrev pub flag_text : Flag → List ℕ
+flag_text Core = codes "core"
+flag_text Time = codes "time"
+flag_text Stoch = codes "stoch"
+flag_text Edits = codes "edits"
+flag_text Report = codes "report"
+flag_text Solves = codes "solves"
+flag_text Pivots = codes "pivots"
+flag_text Workers = codes "workers"
+flag_text Start = codes "start"
+flag_text Stages = codes "stages"
+flag_text Branches = codes "branches"
+flag_text Size = codes "size"
+flag_text Text = codes "text"
+
+-- options are told apart by their names
+abbrev pub same_flag : Flag → Flag → Bool
+same_flag one other = same_text (flag_text one) (flag_text other)
+
+-- an option with its value in one word, `--name=value`
+abbrev pub plain_word : Given → List ℕ
+plain_word s = 45 ∷ 45 ∷ (flag_text s.flag ++ 61 ∷ s.value)
+
 abbrev pub is_equals : ℕ → Bool
 is_equals byte = byte == 61
 
@@ -107,24 +132,13 @@ settings_from done (word ∷ next ∷ words) =
 abbrev pub settings_of : List (List ℕ) → Option (List Given)
 settings_of = settings_from []
 
--- options are told apart by a number
-abbrev pub flag_number : Flag → ℕ
-flag_number Core = 0
-flag_number Time = 1
-flag_number Stoch = 2
-flag_number Edits = 3
-flag_number Report = 4
-flag_number Solves = 5
-flag_number Pivots = 6
-flag_number Workers = 7
-flag_number Start = 8
-flag_number Stages = 9
-flag_number Branches = 10
-flag_number Size = 11
-flag_number Text = 12
+-- the words are options, each with its value in one word
+abbrev pub ArePlain : List (List ℕ) → Type 0
+ArePlain words = option_map (map plain_word) (settings_of words) ≡ Some words
 
-abbrev pub same_flag : Flag → Flag → Bool
-same_flag one other = nat_eq (flag_number one) (flag_number other)
+pub ArePlain-prop : (words : List (List ℕ)) → IsProp (ArePlain words)
+ArePlain-prop words =
+    Coded-set (coded_option (coded_list (coded_list coded_ℕ))) (option_map (map plain_word) (settings_of words)) (Some words)
 
 -- the value of the first setting of this option
 abbrev pub value_with : Flag → List Given → Option (List ℕ)
@@ -159,9 +173,13 @@ abbrev pub budget_by : Option ℕ → Option ℕ → Option ℕ → Option Budge
 budget_by solves pivots workers =
     then_some solves (λ s. then_some pivots (λ p. then_some workers (λ w. Some (record { solves = s; pivots = p }))))
 
+-- what each option has as its value, if it is there
+abbrev pub Values : Type 0
+Values = Flag → Option (List ℕ)
+
 -- of solves and of pivots 100,000 where the words don't say how many, and 1,000,000,000 at most; one worker
-abbrev pub budget_of : List Given → Option Budget
-budget_of settings = budget_by
-    (number_or 100000 1000000000 (value_with Solves settings))
-    (number_or 100000 1000000000 (value_with Pivots settings))
-    (number_or 1 1 (value_with Workers settings))
+abbrev pub budget_of : Values → Option Budget
+budget_of value = budget_by
+    (number_or 100000 1000000000 (value Solves))
+    (number_or 100000 1000000000 (value Pivots))
+    (number_or 1 1 (value Workers))

@@ -1,15 +1,15 @@
 //! The commands.
-ghost use Rattle.std.specs.Prelude.{◌≡◌, ℕ, List, map, string_bytes, IfOk};
+ghost use Rattle.std.specs.Prelude.{◌≡◌, is_some};
 ghost use Rattle.std.specs.Option.{option_map};
-ghost use Rattle.command_words.specs.Words.{verb_named, value_with, number_or, option_number, budget_of};
+ghost use Rattle.command_words.specs.Words.{verb_named, number_or, option_number, budget_of};
 ghost use Rattle.command_words.specs.Commands.{allows, all_allowed, sources_of, task_of, page_named, page_of, plan_of};
-ghost use Rattle.command_words.specs.Commands.{on_files, command_with, command_of};
+ghost use Rattle.command_words.specs.Commands.{on_files, asked_with, command_with};
 ghost use Rattle.command_words.specs.Views.{asked, all_given, sources_view};
 
 use crate::flag::Flag;
-use crate::settings::{Setting, are_once, settings, value_with};
+use crate::settings::{Setting, are_once};
 use crate::value::number_within;
-use std::alloc::{AllocError, Global};
+use crate::values::Values;
 
 /// The first word of a command.
 #[derive(Clone, Copy, Debug, PartialEq, Eq)]
@@ -98,7 +98,7 @@ const MOST_WORKERS: u64 = 1;
 /// What a workload is drawn from, at most.
 const MOST_START: u32 = 65_536;
 
-fn verb_named(word: &str) -> Option<Verb>
+pub(crate) fn verb_named(word: &str) -> Option<Verb>
     ensures { result ≡ verb_named word.now }
 {
     match word {
@@ -111,7 +111,7 @@ fn verb_named(word: &str) -> Option<Verb>
 }
 
 /// Whether a command takes this option.
-fn allows(verb: Verb, flag: Flag) -> bool
+pub(crate) fn allows(verb: Verb, flag: Flag) -> bool
     ensures { result ≡ allows verb flag }
 {
     match flag {
@@ -136,14 +136,14 @@ fn all_allowed(verb: Verb, settings: &[Setting<'_>]) -> bool
 }
 
 /// The files: a core is needed, and a stoch file goes with a time file alone.
-fn named_sources<'a>(settings: &[Setting<'a>]) -> Option<Sources<'a>>
-    ensures { option_map sources_view result ≡ sources_of (all_given settings.now) }
+fn named_sources<'a, V: Values<'a>>(values: &V) -> Option<Sources<'a>>
+    ensures { option_map sources_view result ≡ sources_of (V.values values.now) }
 {
-    let core = value_with(settings, Flag::Core)?;
-    let time = value_with(settings, Flag::Time);
-    let stoch = value_with(settings, Flag::Stoch);
-    let edits = value_with(settings, Flag::Edits);
-    let report = value_with(settings, Flag::Report);
+    let core = values.value(Flag::Core)?;
+    let time = values.value(Flag::Time);
+    let stoch = values.value(Flag::Stoch);
+    let edits = values.value(Flag::Edits);
+    let report = values.value(Flag::Report);
     if time.is_none() && stoch.is_some() {
         return None;
     }
@@ -157,45 +157,45 @@ fn named_sources<'a>(settings: &[Setting<'a>]) -> Option<Sources<'a>>
 }
 
 /// The number that an option has, up to the most that it may be; `absent` where the option isn't there.
-fn number_or(settings: &[Setting<'_>], flag: Flag, absent: u64, most: u64) -> Option<u64>
-    ensures { result ≡ number_or absent most (value_with flag (all_given settings.now)) }
+fn number_or<'a, V: Values<'a>>(values: &V, flag: Flag, absent: u64, most: u64) -> Option<u64>
+    ensures { result ≡ number_or absent most (V.values values.now flag) }
 {
-    match value_with(settings, flag) {
+    match values.value(flag) {
         None => Some(absent),
         Some(value) => number_within(value.as_bytes(), 1, most),
     }
 }
 
 /// The number that an option has, within its range; none where the option isn't there.
-fn option_number(settings: &[Setting<'_>], flag: Flag, least: u32, most: u32) -> Option<u32>
-    ensures { result ≡ option_number least most (value_with flag (all_given settings.now)) }
+fn option_number<'a, V: Values<'a>>(values: &V, flag: Flag, least: u32, most: u32) -> Option<u32>
+    ensures { result ≡ option_number least most (V.values values.now flag) }
 {
-    let value = value_with(settings, flag)?;
+    let value = values.value(flag)?;
     let number = number_within(value.as_bytes(), least as u64, most as u64)?;
     Some(number as u32)
 }
 
 /// How much may be done for a report, with the one worker that there may be.
-fn budget_given(settings: &[Setting<'_>]) -> Option<Budget>
-    ensures { result ≡ budget_of (all_given settings.now) }
+fn budget_given<'a, V: Values<'a>>(values: &V) -> Option<Budget>
+    ensures { result ≡ budget_of (V.values values.now) }
 {
-    let solves = number_or(settings, Flag::Solves, BUDGET, MOST)?;
-    let pivots = number_or(settings, Flag::Pivots, BUDGET, MOST)?;
-    let _workers = number_or(settings, Flag::Workers, 1, MOST_WORKERS)?;
+    let solves = number_or(values, Flag::Solves, BUDGET, MOST)?;
+    let pivots = number_or(values, Flag::Pivots, BUDGET, MOST)?;
+    let _workers = number_or(values, Flag::Workers, 1, MOST_WORKERS)?;
     Some(Budget { solves, pivots })
 }
 
 /// The task of a verb; none of `check` without reports, and of `make`.
-fn task_given(verb: Verb, settings: &[Setting<'_>]) -> Option<Task>
-    ensures { result ≡ task_of verb (all_given settings.now) }
+fn task_given<'a, V: Values<'a>>(verb: Verb, values: &V) -> Option<Task>
+    ensures { result ≡ task_of verb (V.values values.now) }
 {
     match verb {
         Verb::Solve => {
-            let budget = budget_given(settings)?;
+            let budget = budget_given(values)?;
             Some(Task::Solve(budget))
         }
         Verb::Check => {
-            let _report = value_with(settings, Flag::Report)?;
+            let _report = values.value(Flag::Report)?;
             Some(Task::Check)
         }
         Verb::Show => Some(Task::Show),
@@ -215,10 +215,10 @@ fn page_named(word: &str) -> Option<Page>
 }
 
 /// The text that is asked for, if one is; none where the word is no text's.
-fn page_given(settings: &[Setting<'_>]) -> Option<Option<Page>>
-    ensures { result ≡ page_of (all_given settings.now) }
+fn page_given<'a, V: Values<'a>>(values: &V) -> Option<Option<Page>>
+    ensures { result ≡ page_of (V.values values.now) }
 {
-    match value_with(settings, Flag::Text) {
+    match values.value(Flag::Text) {
         None => Some(None),
         Some(word) => {
             let page = page_named(word)?;
@@ -228,14 +228,14 @@ fn page_given(settings: &[Setting<'_>]) -> Option<Option<Page>>
 }
 
 /// The workload: all four numbers are needed.
-fn plan_given(settings: &[Setting<'_>]) -> Option<Plan>
-    ensures { result ≡ plan_of (all_given settings.now) }
+fn plan_given<'a, V: Values<'a>>(values: &V) -> Option<Plan>
+    ensures { result ≡ plan_of (V.values values.now) }
 {
-    let start = option_number(settings, Flag::Start, 0, MOST_START)?;
-    let stages = option_number(settings, Flag::Stages, 2, 6)?;
-    let branches = option_number(settings, Flag::Branches, 2, 4)?;
-    let size = option_number(settings, Flag::Size, 1, 20)?;
-    let page = page_given(settings)?;
+    let start = option_number(values, Flag::Start, 0, MOST_START)?;
+    let stages = option_number(values, Flag::Stages, 2, 6)?;
+    let branches = option_number(values, Flag::Branches, 2, 4)?;
+    let size = option_number(values, Flag::Size, 1, 20)?;
+    let page = page_given(values)?;
     Some(Plan {
         start,
         stages,
@@ -246,44 +246,30 @@ fn plan_given(settings: &[Setting<'_>]) -> Option<Plan>
 }
 
 /// A task on files with these options.
-fn on_files<'a>(verb: Verb, settings: &[Setting<'a>]) -> Option<Command<'a>>
-    ensures { option_map asked result ≡ on_files verb (all_given settings.now) }
+fn on_files<'a, V: Values<'a>>(verb: Verb, values: &V) -> Option<Command<'a>>
+    ensures { option_map asked result ≡ on_files verb (V.values values.now) }
 {
-    let sources = named_sources(settings)?;
-    let task = task_given(verb, settings)?;
+    let sources = named_sources(values)?;
+    let task = task_given(verb, values)?;
     Some(Command::OnFiles { sources, task })
 }
 
-/// The command of this verb with these options.
-fn command_with<'a>(verb: Verb, settings: &[Setting<'a>]) -> Option<Command<'a>>
-    ensures { option_map asked result ≡ command_with verb (all_given settings.now) }
+/// What a verb asks for with these values of its options.
+pub(crate) fn asked_with<'a, V: Values<'a>>(verb: Verb, values: &V) -> Option<Command<'a>>
+    ensures { option_map asked result ≡ asked_with verb (V.values values.now) }
 {
-    if !all_allowed(verb, settings) || !are_once(settings) {
-        return None;
-    }
     match verb {
-        Verb::Solve | Verb::Check | Verb::Show => on_files(verb, settings),
+        Verb::Solve | Verb::Check | Verb::Show => on_files(verb, values),
         Verb::Make => {
-            let plan = plan_given(settings)?;
+            let plan = plan_given(values)?;
             Some(Command::Make(plan))
         }
     }
 }
 
-/// The command that the words are, without the program's own name. None where they are none: the first word is the
-/// command, and options follow in any order, each at most once, as `--name value` or `--name=value`. A value isn't empty
-/// and doesn't begin with a minus; a number has 1 to 10 decimal digits.
-pub fn read_words<'a>(alloc: Global, words: &'a [String]) -> Result<Option<Command<'a>>, AllocError>
-    ensures { IfOk result (λ command. option_map asked command ≡ command_of (map string_bytes words.now)) }
+/// Whether a verb with these options is a command.
+pub(crate) fn is_command(verb: Verb, settings: &Vec<Setting<'_>>) -> bool
+    ensures { result ≡ is_some (command_with verb (all_given settings.now.items)) }
 {
-    let [word, rest @ ..] = words else {
-        return Ok(None);
-    };
-    let Some(verb) = verb_named(word.as_str()) else {
-        return Ok(None);
-    };
-    match settings(alloc, rest)? {
-        Some(settings) => Ok(command_with(verb, &settings)),
-        None => Ok(None),
-    }
+    all_allowed(verb, settings) && are_once(settings) && asked_with(verb, settings).is_some()
 }

@@ -1,6 +1,6 @@
 //! The names of options.
 ghost use Rattle.std.specs.Prelude.{◌≡◌};
-ghost use Rattle.command_words.specs.Words.{flag_named, flag_number, same_flag};
+ghost use Rattle.command_words.specs.Words.{flag_named, flag_text, same_flag};
 
 /// An option of a command.
 #[derive(Clone, Copy, Debug, PartialEq, Eq)]
@@ -33,6 +33,23 @@ pub enum Flag {
     Text,
 }
 
+/// All options.
+pub(crate) const FLAGS: [Flag; 13] = [
+    Flag::Core,
+    Flag::Time,
+    Flag::Stoch,
+    Flag::Edits,
+    Flag::Report,
+    Flag::Solves,
+    Flag::Pivots,
+    Flag::Workers,
+    Flag::Start,
+    Flag::Stages,
+    Flag::Branches,
+    Flag::Size,
+    Flag::Text,
+];
+
 /// The option of that name, with its two minuses.
 pub(crate) fn flag_named(name: &str) -> Option<Flag>
     ensures { result ≡ flag_named name.now }
@@ -55,24 +72,24 @@ pub(crate) fn flag_named(name: &str) -> Option<Flag>
     }
 }
 
-/// The number that tells an option from all others.
-fn number(flag: Flag) -> u32
-    ensures { result ≡ flag_number flag }
+/// The name of an option, without its two minuses.
+pub(crate) fn name(flag: Flag) -> &'static str
+    ensures { result.now ≡ flag_text flag }
 {
     match flag {
-        Flag::Core => 0,
-        Flag::Time => 1,
-        Flag::Stoch => 2,
-        Flag::Edits => 3,
-        Flag::Report => 4,
-        Flag::Solves => 5,
-        Flag::Pivots => 6,
-        Flag::Workers => 7,
-        Flag::Start => 8,
-        Flag::Stages => 9,
-        Flag::Branches => 10,
-        Flag::Size => 11,
-        Flag::Text => 12,
+        Flag::Core => "core",
+        Flag::Time => "time",
+        Flag::Stoch => "stoch",
+        Flag::Edits => "edits",
+        Flag::Report => "report",
+        Flag::Solves => "solves",
+        Flag::Pivots => "pivots",
+        Flag::Workers => "workers",
+        Flag::Start => "start",
+        Flag::Stages => "stages",
+        Flag::Branches => "branches",
+        Flag::Size => "size",
+        Flag::Text => "text",
     }
 }
 
@@ -80,5 +97,5 @@ fn number(flag: Flag) -> u32
 pub(crate) fn is_same(one: Flag, other: Flag) -> bool
     ensures { result ≡ same_flag one other }
 {
-    number(one) == number(other)
+    name(one) == name(other)
 }

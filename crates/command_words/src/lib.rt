@@ -1,11 +1,16 @@
-//! The words of a command, read exactly.
+//! The words of a command, read exactly: a reader of its own decides which words are a command, and the library for command lines
+//! finds the values in the plain form of those that are.
 #![tactic(auto)]
 
 mod command;
 mod flag;
+mod plain;
+mod reader;
 mod settings;
 mod value;
+mod values;
 
-pub use command::{Budget, Command, Page, Plan, Sources, Task, Verb, read_words};
+pub use command::{Budget, Command, Page, Plan, Sources, Task, Verb};
 pub use flag::Flag;
+pub use plain::PlainWords;
 pub use settings::Setting;

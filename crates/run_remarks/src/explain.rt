@@ -4,7 +4,7 @@ use crate::files::read_again;
 use crate::noted::Noted;
 use crate::refusal::{file_start, put_refusal, put_too_long, put_unread};
 use crate::words::put_word_fault;
-use command_words::{Command, Sources, Task, read_words};
+use command_words::{Command, PlainWords, Sources, Task};
 use input_files::FileKind;
 use line_remarks::put_unused;
 use run_status::Status;
@@ -53,15 +53,16 @@ pub fn explanation<R: Runtime>(
     noted: Noted,
 ) -> Result<String, AllocError> {
     let mut text = String::new(alloc);
-    match read_words(alloc, words)? {
-        Some(Command::OnFiles { sources, task }) => {
+    let Some(plain) = PlainWords::read(alloc, words)? else {
+        text.push_str(NO_COMMAND)?;
+        put_word_fault(alloc, &mut text, words)?;
+        return Ok(text);
+    };
+    match plain.command(alloc)? {
+        Command::OnFiles { sources, task } => {
             put_on_files(rt, alloc, &mut text, &sources, task, status, noted)?;
         }
-        Some(Command::Make(_)) => put_made(&mut text, status, noted)?,
-        None => {
-            text.push_str(NO_COMMAND)?;
-            put_word_fault(alloc, &mut text, words)?;
-        }
+        Command::Make(_) => put_made(&mut text, status, noted)?,
     }
     Ok(text)
 }

@@ -17,7 +17,7 @@ use crate::check::checked;
 use crate::make::made;
 use crate::show::shown;
 use crate::solve::solved;
-use command_words::{Command, Sources, Task, read_words};
+use command_words::{Command, PlainWords, Sources, Task};
 use core_defs::Core;
 use frac128::Memory;
 use input_files::{Texts, Unfetched, fetched_texts};
@@ -93,10 +93,12 @@ pub(crate) fn answered<R: Runtime, H: Shelf>(
         (H.fetches shelf.new) }
     ensures none_fetched { command_of (map string_bytes words.now) ≡ None → H.fetches shelf.new ≡ H.fetches shelf.old }
 {
-    match read_words(alloc, words)? {
-        None => one_line(alloc, Status::Words),
-        Some(Command::OnFiles { sources, task }) => on_files(rt, alloc, &sources, task, shelf),
-        Some(Command::Make(plan)) => made(alloc, plan),
+    let Some(plain) = PlainWords::read(alloc, words)? else {
+        return one_line(alloc, Status::Words);
+    };
+    match plain.command(alloc)? {
+        Command::OnFiles { sources, task } => on_files(rt, alloc, &sources, task, shelf),
+        Command::Make(plan) => made(alloc, plan),
     }
 }
 

@@ -1,5 +1,5 @@
 //! Lists of words, and what they ask for. The table is a text, since each member of an array is a step of the proof.
-use command_words::{Budget, Command, Page, Plan, Sources, Task, read_words};
+use command_words::{Budget, Command, Page, PlainWords, Plan, Sources, Task};
 use std::alloc::{AllocError, Global};
 use std::process::Abort;
 use std::test::Fail;
@@ -85,11 +85,10 @@ check --core F --report R --stages 2|
 solve --core F --branches 2|";
 
 /// What a command asks for, as the table says it.
-fn told(alloc: Global, command: Option<Command<'_>>) -> Result<String, AllocError> {
+fn told(alloc: Global, command: Command<'_>) -> Result<String, AllocError> {
     match command {
-        None => Ok(String::new(alloc)),
-        Some(Command::OnFiles { sources, task }) => told_on_files(alloc, sources, task),
-        Some(Command::Make(plan)) => told_plan(alloc, plan),
+        Command::OnFiles { sources, task } => told_on_files(alloc, sources, task),
+        Command::Make(plan) => told_plan(alloc, plan),
     }
 }
 
@@ -143,11 +142,19 @@ fn words_of(alloc: Global, line: &str) -> Result<Vec<String>, AllocError> {
     Ok(words)
 }
 
+/// What words ask for, as the table says it; nothing where they are refused.
+fn asked(alloc: Global, words: &[String]) -> Result<String, AllocError> {
+    match PlainWords::read(alloc, words)? {
+        Some(plain) => told(alloc, plain.command(alloc)?),
+        None => Ok(String::new(alloc)),
+    }
+}
+
 /// A row of the table holds.
 fn is_read_so(rt: &impl Abort, alloc: Global, row: &str) -> Result<(), Fail> {
     let (line, expected) = row.split_once('|').unwrap_or(("", "no bar"));
     let words = words_of(alloc, line)?;
-    let found = told(alloc, read_words(alloc, &words)?)?;
+    let found = asked(alloc, &words)?;
     assert_eq!(rt; found.as_str(), expected);
     Ok(())
 }
