@@ -5,6 +5,7 @@ use proved_report::{Claim, Open, report};
 use rationals::Op;
 use scen_model::{Finding, Place, Program, Report, Values};
 use std::alloc::Global;
+use std::process::Abort;
 use std::test::Fail;
 
 /// A policy and a dual, each as node, index and value, `-` for none; then the finding, the lower and the upper end.
@@ -122,31 +123,38 @@ fn claims_on_a_tree(rt: HostRuntime) -> Result<(), Fail> {
     Ok(())
 }
 
+/// What is claimed where the sum of a number with itself is told to pass.
+fn told(alloc: Global, cover: &Program, number: Frac) -> Result<Report, Fail> {
+    let passed = Passed {
+        a: number,
+        b: number,
+        op: Op::Add,
+    };
+    let none = Claim::Ends {
+        policy: None,
+        dual: None,
+    };
+    claimed(alloc, cover, none, Open::Passed(Place::Solve(2), passed))
+}
+
+/// An operation that is told is answered so.
+fn is_told_so(
+    rt: &impl Abort,
+    alloc: Global,
+    cover: &Program,
+    number: Frac,
+    expected: &str,
+) -> Result<(), Fail> {
+    let report = told(alloc, cover, number)?;
+    assert!(rt; agrees(alloc, &report, expected)?, "{expected}");
+    Ok(())
+}
+
 /// An operation that is told passes: 1 + 1 doesn't, twice 2^127 - 1 does.
 #[test]
 fn told_operations_pass(rt: HostRuntime) -> Result<(), Fail> {
     let cover = cover(rt.alloc())?;
     let large = Frac::new(i128::MAX, 1).ok_or("too wide")?;
-    for (number, expected) in [
-        (Frac::one(), "solves none none"),
-        (large, "passed none none"),
-    ] {
-        let passed = Passed {
-            a: number,
-            b: number,
-            op: Op::Add,
-        };
-        let none = Claim::Ends {
-            policy: None,
-            dual: None,
-        };
-        let report = claimed(
-            rt.alloc(),
-            &cover,
-            none,
-            Open::Passed(Place::Solve(2), passed),
-        )?;
-        assert!(rt; agrees(rt.alloc(), &report, expected)?, "{expected}");
-    }
-    Ok(())
+    is_told_so(&rt, rt.alloc(), &cover, Frac::one(), "solves none none")?;
+    is_told_so(&rt, rt.alloc(), &cover, large, "passed none none")
 }

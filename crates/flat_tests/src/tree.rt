@@ -6,6 +6,7 @@ use scen_model::{
     Kind, Program, Values, cost, derive, dual_value, feasible, fits, is_direction, zero_value,
 };
 use std::alloc::Global;
+use std::process::Abort;
 use std::test::Fail;
 
 /// Values of columns, each as node, column and value; whether they fit, are feasible and are a direction, and
@@ -141,22 +142,28 @@ fn agrees_at_dual(
     Ok(line.as_slice() == expected.as_bytes())
 }
 
+/// A row of `POINTS` holds.
+fn is_point_row(rt: &impl Abort, alloc: Global, cover: &Program, row: &str) -> Result<(), Fail> {
+    let (text, expected) = row.split_once('|').ok_or("no answer")?;
+    assert!(rt; agrees_at_point(alloc, cover, text, expected)?, "{row}");
+    Ok(())
+}
+
+/// A row of `DUALS` holds.
+fn is_dual_row(rt: &impl Abort, alloc: Global, cover: &Program, row: &str) -> Result<(), Fail> {
+    let (text, expected) = row.split_once('|').ok_or("no answer")?;
+    assert!(rt; agrees_at_dual(alloc, cover, text, expected)?, "{row}");
+    Ok(())
+}
+
 #[test]
 fn calls_on_a_tree(rt: HostRuntime) -> Result<(), Fail> {
     let cover = cover(rt.alloc())?;
-    for line in POINTS.lines() {
-        let (text, expected) = line.split_once('|').ok_or("no answer")?;
-        assert!(rt;
-            agrees_at_point(rt.alloc(), &cover, text, expected)?,
-            "{line}"
-        );
+    for row in POINTS.lines() {
+        is_point_row(&rt, rt.alloc(), &cover, row)?;
     }
-    for line in DUALS.lines() {
-        let (text, expected) = line.split_once('|').ok_or("no answer")?;
-        assert!(rt;
-            agrees_at_dual(rt.alloc(), &cover, text, expected)?,
-            "{line}"
-        );
+    for row in DUALS.lines() {
+        is_dual_row(&rt, rt.alloc(), &cover, row)?;
     }
     Ok(())
 }

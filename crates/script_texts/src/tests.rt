@@ -55,48 +55,72 @@ fn is_judged_so(alloc: Global, source: Source<'_>, list: &str, wanted: &str) -> 
     Ok(given.as_slice() == wanted.as_bytes())
 }
 
-/// There are at most 10,000 commands, and a further one is refused whatever it is. There are at most 10,000 scenarios and 20,000
-/// nodes: 9,999 scenarios over two periods behind the first have 19,999 nodes.
-fn long_lists_are_judged(alloc: Global) -> Result<bool, Fail> {
+/// There are at most 10,000 commands, and a further one is refused whatever it is.
+fn many_commands_are_judged(alloc: Global) -> Result<bool, Fail> {
     let most = repeated(alloc, "WORK 1\n", 10_000)?;
     let more = format!(in alloc; "{most}* the last but one\nNONE")?;
-    let full = many_scenarios(alloc, 10_000)?;
-    let nearly = many_scenarios(alloc, 9_999)?;
-    let wide = Source {
-        stoch: full.as_str(),
+    Ok(
+        is_judged_so(alloc, COVER, most.as_str(), "0 SOLVE")?
+            && is_judged_so(alloc, COVER, more.as_str(), "10002: 56")?,
+    )
+}
+
+/// Whether a further scenario is refused where there are 10,000.
+fn no_more_scenarios(alloc: Global) -> Result<bool, Fail> {
+    let stoch = many_scenarios(alloc, 10_000)?;
+    let full = Source {
+        stoch: stoch.as_str(),
         ..COVER
     };
-    let deep = Source {
-        stoch: nearly.as_str(),
+    is_judged_so(alloc, full, "ADD Z s0 1/2 P2", "1: 49")
+}
+
+/// Whether further nodes are refused where there are 20,000 at most: 9,999 scenarios over two periods behind the first have 19,999.
+fn no_more_nodes(alloc: Global) -> Result<bool, Fail> {
+    let stoch = many_scenarios(alloc, 9_999)?;
+    let full = Source {
+        stoch: stoch.as_str(),
         ..THREE
     };
     Ok(
-        is_judged_so(alloc, COVER, most.as_str(), "0 SOLVE")?
-            && is_judged_so(alloc, COVER, more.as_str(), "10002: 56")?
-            && is_judged_so(alloc, wide, "ADD Z s0 1/2 P2", "1: 49")?
-            && is_judged_so(alloc, deep, "ADD Z s0 1/2 P2", "1: 49")?
-            && is_judged_so(alloc, deep, "ADD Z s0 1/2 P3\nADD Y s0 1/2 P3", "2: 49")?,
+        is_judged_so(alloc, full, "ADD Z s0 1/2 P2", "1: 49")?
+            && is_judged_so(alloc, full, "ADD Z s0 1/2 P3\nADD Y s0 1/2 P3", "2: 49")?,
     )
+}
+
+/// Whether a program is told so.
+fn is_program(alloc: Global, program: &Program, wanted: &str) -> Result<bool, Fail> {
+    let text = program_text(alloc, program)?;
+    Ok(text.as_slice() == wanted.as_bytes())
+}
+
+/// Whether an edit list is read so, and leaves this program.
+fn is_read_so(alloc: Global, row: &str) -> Result<bool, Fail> {
+    let (head, parts) = row.split_once('\n').ok_or("a row without a list")?;
+    let (name, wanted) = head.split_once('|').ok_or("a row without a program")?;
+    let (list, after) = parts.split_once('%').ok_or("a row without its program")?;
+    let (given, program) = result_of(alloc, program_named(alloc, name)?, list)?;
+    Ok(given.as_slice() == wanted.as_bytes() && is_program(alloc, &program, after)?)
+}
+
+/// Whether an edit list is refused so.
+fn is_refused_so(alloc: Global, row: &str) -> Result<bool, Fail> {
+    let (head, list) = row.split_once('\n').ok_or("a row without a list")?;
+    let (name, wanted) = head.split_once('|').ok_or("a row without a program")?;
+    let (given, _) = result_of(alloc, program_named(alloc, name)?, list)?;
+    Ok(given.as_slice() == wanted.as_bytes())
 }
 
 #[test]
 fn edit_lists_are_read_or_refused(rt: HostRuntime) -> Result<(), Fail> {
-    let alloc = rt.alloc();
     for row in READ.split('#') {
-        let (head, parts) = row.split_once('\n').ok_or("a row without a list")?;
-        let (name, wanted) = head.split_once('|').ok_or("a row without a program")?;
-        let (list, after) = parts.split_once('%').ok_or("a row without its program")?;
-        let (given, program) = result_of(alloc, program_named(alloc, name)?, list)?;
-        assert!(rt; given.as_slice() == wanted.as_bytes(), "{row}");
-        let text = program_text(alloc, &program)?;
-        assert!(rt; text.as_slice() == after.as_bytes(), "{row}");
+        assert!(rt; is_read_so(rt.alloc(), row)?, "{row}");
     }
     for row in REFUSED.split('#') {
-        let (head, list) = row.split_once('\n').ok_or("a row without a list")?;
-        let (name, wanted) = head.split_once('|').ok_or("a row without a program")?;
-        let (given, _) = result_of(alloc, program_named(alloc, name)?, list)?;
-        assert!(rt; given.as_slice() == wanted.as_bytes(), "{row}");
+        assert!(rt; is_refused_so(rt.alloc(), row)?, "{row}");
     }
-    assert!(rt; long_lists_are_judged(alloc)?);
+    assert!(rt; many_commands_are_judged(rt.alloc())?);
+    assert!(rt; no_more_scenarios(rt.alloc())?);
+    assert!(rt; no_more_nodes(rt.alloc())?);
     Ok(())
 }
