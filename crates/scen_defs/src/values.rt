@@ -1,5 +1,5 @@
 // Numbers at nodes: points and multipliers.
-ghost use Rattle.std.specs.Prelude.{◌≡◌, ◌≢◌, ◌↔◌, IsTrue, [], ◌∷◌, ◌++◌, OnOk, OnErr, IfOk};
+ghost use Rattle.std.specs.Prelude.{◌≡◌, ◌≢◌, ◌↔◌, ◌<◌, ◌≤◌, IsTrue, [], ◌∷◌, ◌++◌, OnOk, OnErr, IfOk, length};
 ghost use Rattle.rationals.specs.Rational.{zero_ℚ};
 ghost use Rattle.scen_defs.specs.Values.{at, IsAt, IsBefore, EndsBefore, Rises};
 
@@ -71,15 +71,52 @@ fn end_before(items: &[Value], node: u32, index: u32) -> bool
     is_before(last, node as u64, index as u64)
 }
 
-/// The number at a node and an index, 0 where there is none: by halving.
+/// How many places behind the first of some numbers the one at a node and an index stands, where all nodes have as many numbers each,
+/// and those of a node have indices one behind the other.
+fn guess(first: Value, last: Value, most: usize, node: u64, index: u64) -> usize {
+    let from = first.node as u64;
+    let to = last.node as u64;
+    if node < from {
+        0
+    } else if node == from {
+        index.saturating_sub(first.index as u64) as usize
+    } else if node > to {
+        most
+    } else if node == to {
+        most.saturating_sub((last.index as u64).saturating_sub(index) as usize)
+    } else {
+        let behind = node.saturating_sub(from) as usize;
+        let span = to.saturating_sub(from) as usize;
+        most.saturating_mul(behind).checked_div(span).unwrap_or(0)
+    }
+}
+
+/// The place that is looked at next, of those from `low` on and below `high`: one that is guessed, and each fourth time the one half way,
+/// so that no list takes many more looks than halving does.
+fn probe(items: &[Value], low: usize, high: usize, node: u64, index: u64, round: u32) -> usize
+    requires some { low < high }
+    requires within { high ≤ length items.now }
+    ensures from { low ≤ result }
+    ensures below { result < high }
+{
+    if round % 4 == 3 {
+        return low + (high - low) / 2;
+    }
+    let most = high - 1 - low;
+    low + guess(items[low], items[high - 1], most, node, index).min(most)
+}
+
+/// The number at a node and an index, 0 where there is none.
 fn value_in(items: &[Value], node: u64, index: u64) -> Frac
     requires { Rises items.now }
     ensures { result ≡ at items.now node index }
 {
     let mut low = 0;
     let mut high = items.len();
+    let mut round = 0u32;
     'search: while low < high {
-        let middle = low + (high - low) / 2;
+        let middle = probe(items, low, high, node, index, round);
+        round = round.wrapping_add(1);
         let item = items[middle];
         if is_before(item, node, index) {
             low = middle + 1;

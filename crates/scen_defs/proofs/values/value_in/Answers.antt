@@ -1,11 +1,11 @@
-use Rattle.std.proofs.Common.{◌≡◌, ◌<◌, drop, ◌+◌, ◌-◌, ◌/◌, length, sym, ap, ◌∙◌, arith}
+use Rattle.std.proofs.Common.{◌≡◌, ◌<◌, drop, length, sym, ap, ◌∙◌, arith}
 use Rattle.scen_defs.specs.Values.{At, at}
 use Rattle.scen_defs.proofs.ValueLaws.{passes-over, nothing-from, found-at}
 use Rattle.scen_defs.proofs.values.value_in.Goals as goal
 
 pub search-preserved-then-is_before : goal.search-preserved-then-is_before
 search-preserved-then-is_before c =
-    let in_range : c.search.low + (c.search.high - c.search.low) / 2 < length c.args.items.now = omega arith in
+    let in_range : c.probe-middle.result < length c.args.items.now = omega arith in
     record {
       order = omega arith;
       within = c.search.invariant.within;
@@ -15,13 +15,13 @@ search-preserved-then-is_before c =
 
 pub returns-then-stands_at : goal.returns-then-stands_at
 returns-then-stands_at c =
-    let in_range : c.search.low + (c.search.high - c.search.low) / 2 < length c.args.items.now = omega arith in
+    let in_range : c.probe-middle.result < length c.args.items.now = omega arith in
     let here = c.stands_at.ensures.0 c.if-stands_at.true in
     ap (λ (a : At). a.value) c.item.view_is ∙ found-at c.args.node c.args.index _ c.args.items.now c.index-items-middle.result c.requires in_range c.index-items-middle.is here.node here.index
 
 pub search-preserved : goal.search-preserved
 search-preserved c =
-    let in_range : c.search.low + (c.search.high - c.search.low) / 2 < length c.args.items.now = omega arith in
+    let in_range : c.probe-middle.result < length c.args.items.now = omega arith in
     record {
       order = omega arith;
       within = omega arith;
