@@ -91,23 +91,44 @@ fn guess(first: Value, last: Value, most: usize, node: u64, index: u64) -> usize
     }
 }
 
-/// The place that is looked at next, of those from `low` on and below `high`: one that is guessed, and each fourth time the one half way,
-/// so that no list takes many more looks than halving does.
-fn probe(items: &[Value], low: usize, high: usize, node: u64, index: u64, round: u32) -> usize
+/// The place where the number at a node and an index is looked for first, where nothing else is known.
+fn first_guess(items: &[Value], node: u64, index: u64) -> usize {
+    let count = items.len();
+    if count == 0 {
+        return 0;
+    }
+    guess(items[0], items[count - 1], count - 1, node, index)
+}
+
+/// The place that is looked at next, of those from `low` on and below `high`: first the one where the number is expected, then the one
+/// beside it, then one that is guessed, and each fourth time the one half way, so that no list takes many more looks than halving does.
+fn probe(
+    items: &[Value],
+    low: usize,
+    high: usize,
+    node: u64,
+    index: u64,
+    near: usize,
+    round: u32,
+) -> usize
     requires some { low < high }
     requires within { high ≤ length items.now }
     ensures from { low ≤ result }
     ensures below { result < high }
 {
+    let most = high - 1 - low;
+    if round < 2 {
+        return low + near.saturating_sub(low).min(most);
+    }
     if round % 4 == 3 {
         return low + (high - low) / 2;
     }
-    let most = high - 1 - low;
     low + guess(items[low], items[high - 1], most, node, index).min(most)
 }
 
-/// The number at a node and an index, 0 where there is none.
-fn value_in(items: &[Value], node: u64, index: u64) -> Frac
+/// The number at a node and an index, 0 where there is none. It is expected at the place `near`, which becomes the one behind it, or the
+/// one where it would stand.
+fn value_in(items: &[Value], node: u64, index: u64, near: &mut usize) -> Frac
     requires { Rises items.now }
     ensures { result ≡ at items.now node index }
 {
@@ -115,17 +136,19 @@ fn value_in(items: &[Value], node: u64, index: u64) -> Frac
     let mut high = items.len();
     let mut round = 0u32;
     'search: while low < high {
-        let middle = probe(items, low, high, node, index, round);
+        let middle = probe(items, low, high, node, index, *near, round);
         round = round.wrapping_add(1);
         let item = items[middle];
         if is_before(item, node, index) {
             low = middle + 1;
         } else if stands_at(item, node, index) {
+            *near = middle + 1;
             return item.value;
         } else {
             high = middle;
         }
     }
+    *near = low;
     Frac::zero()
 }
 
@@ -161,7 +184,16 @@ impl Values {
     pub fn get(&self, node: u64, index: u64) -> Frac
         ensures { result ≡ at self.now node index }
     {
-        value_in(&self.items, node, index)
+        let mut near = first_guess(&self.items, node, index);
+        value_in(&self.items, node, index, &mut near)
+    }
+
+    /// The same. `near` is where the last number was met, at first 0: numbers that are asked for in rising order are met one behind the
+    /// other and not looked up. Whatever stands in `near`, the answer is the same.
+    pub fn get_near(&self, node: u64, index: u64, near: &mut usize) -> Frac
+        ensures { result ≡ at self.now node index }
+    {
+        value_in(&self.items, node, index, near)
     }
 
     /// The same numbers in memory of their own.

@@ -14,13 +14,13 @@ use frac128::{Frac, Memory, Passed, Term};
 use scen_defs::{Halt, Place, Program, Scenario, Values};
 use std::alloc::Global;
 
-/// The cost of a node's values, column by column.
-fn node_cost(costs: &[Term], values: &Values, node: u64) -> Result<Frac, Passed>
+/// The cost of a node's values, column by column; they are met from the place `near` on.
+fn node_cost(costs: &[Term], values: &Values, node: u64, near: &mut usize) -> Result<Frac, Passed>
     ensures { result ≡ product_from (at values.now node) zero_ℚ costs.now }
 {
     let mut sum = Frac::zero();
     for term in costs {
-        sum = sum.add_product(term.value, values.get(node, term.column))?;
+        sum = sum.add_product(term.value, values.get_near(node, term.column, near))?;
     }
     Ok(sum)
 }
@@ -31,11 +31,12 @@ fn add_node(
     costs: &[Term],
     values: &Values,
     node: u64,
+    near: &mut usize,
     sum: Frac,
 ) -> Result<Frac, Passed>
     ensures { result ≡ cost_step (scenarios_content scenarios.now) costs.now (at values.now node) node sum }
 {
-    let cost = node_cost(costs, values, node)?;
+    let cost = node_cost(costs, values, node, near)?;
     let total = total(scenarios, node)?;
     sum.add_product(total, cost)
 }
@@ -45,10 +46,18 @@ fn add_nodes(program: &Program, values: &Values) -> Result<Frac, Passed>
     ensures { result ≡ costs_walk (view_of (content program.now)) (at values.now) }
 {
     let mut sum = Frac::zero();
+    let mut near = 0;
     for (place, slot) in program.nodes.iter().enumerate() {
         if let Some(node) = slot {
             let costs = node.cost.terms();
-            sum = add_node(&program.scenarios, costs, values, place as u64, sum)?;
+            sum = add_node(
+                &program.scenarios,
+                costs,
+                values,
+                place as u64,
+                &mut near,
+                sum,
+            )?;
         }
     }
     Ok(sum)
@@ -60,11 +69,12 @@ fn add_cost(
     costs: &[Term],
     values: &Values,
     node: u64,
+    near: &mut usize,
     sum: Frac,
 ) -> Result<Frac, Passed>
     ensures { result ≡ cost_step_with total costs.now (at values.now node) sum }
 {
-    let cost = node_cost(costs, values, node)?;
+    let cost = node_cost(costs, values, node, near)?;
     sum.add_product(total, cost)
 }
 
@@ -73,10 +83,12 @@ fn add_costs(program: &Program, totals: &[Frac], values: &Values) -> Result<Frac
     ensures { result ≡ costs_with (view_of (content program.now)) totals.now (at values.now) }
 {
     let mut sum = Frac::zero();
+    let mut near = 0;
     for (place, slot) in program.nodes.iter().enumerate() {
         if let Some(node) = slot {
             let costs = node.cost.terms();
-            sum = add_cost(number_at(totals, place), costs, values, place as u64, sum)?;
+            let total = number_at(totals, place);
+            sum = add_cost(total, costs, values, place as u64, &mut near, sum)?;
         }
     }
     Ok(sum)

@@ -65,13 +65,19 @@ fn test_number(ends: Ends, low: Option<Frac>, high: Option<Frac>, number: Frac) 
     test(is_between(end_of(ends, low), end_of(ends, high), number))
 }
 
-/// The sum of entry times value along the path of a node.
-fn row_sum(program: &Program, entries: &[Term], values: &Values, node: u64) -> Result<Frac, Passed>
+/// The sum of entry times value along the path of a node; values of one node are met one behind the other, from the place `near` on.
+fn row_sum(
+    program: &Program,
+    entries: &[Term],
+    values: &Values,
+    node: u64,
+    near: &mut usize,
+) -> Result<Frac, Passed>
     ensures { result ≡ product_from (along (view_of (content program.now)) (at values.now) node) zero_ℚ entries.now }
 {
     let mut sum = Frac::zero();
     for term in entries {
-        let value = values.get(home(program, node, term.column), term.column);
+        let value = values.get_near(home(program, node, term.column), term.column, near);
         sum = sum.add_product(term.value, value)?;
     }
     Ok(sum)
@@ -84,11 +90,12 @@ fn test_rows(
     rows: &[NodeRow],
     values: &Values,
     node: u64,
+    near: &mut usize,
 ) -> Result<(), Stop>
     ensures { result ≡ rows_test (end_of ends) (along (view_of (content program.now)) (at values.now) node) rows.now }
 {
     for row in rows {
-        let sum = row_sum(program, row.entries.terms(), values, node)?;
+        let sum = row_sum(program, row.entries.terms(), values, node, near)?;
         test_number(ends, row.low, row.high, sum)?;
     }
     Ok(())
@@ -98,22 +105,29 @@ fn test_rows(
 fn test_all_rows(program: &Program, ends: Ends, values: &Values) -> Result<(), Stop>
     ensures { result ≡ all_rows_test (end_of ends) (view_of (content program.now)) (at values.now) }
 {
+    let mut near = 0;
     for (place, slot) in program.nodes.iter().enumerate() {
         if let Some(node) = slot {
-            test_rows(program, ends, &node.rows, values, place as u64)?;
+            test_rows(program, ends, &node.rows, values, place as u64, &mut near)?;
         }
     }
     Ok(())
 }
 
 /// The bounds of the columns of a node's stage.
-fn test_bounds(program: &Program, ends: Ends, values: &Values, node: u64) -> Result<(), Stop>
+fn test_bounds(
+    program: &Program,
+    ends: Ends,
+    values: &Values,
+    node: u64,
+    near: &mut usize,
+) -> Result<(), Stop>
     ensures { result ≡ bounds_test (end_of ends) (view_of (content program.now)) (at values.now) node }
 {
     let stage = stage(program, node);
     for (place, column) in program.columns.iter().enumerate() {
         if column.stage == stage {
-            let value = values.get(node, place as u64);
+            let value = values.get_near(node, place as u64, near);
             test_number(ends, column.lower, column.upper, value)?;
         }
     }
@@ -124,9 +138,10 @@ fn test_bounds(program: &Program, ends: Ends, values: &Values, node: u64) -> Res
 fn test_all_bounds(program: &Program, ends: Ends, values: &Values) -> Result<(), Stop>
     ensures { result ≡ all_bounds_test (end_of ends) (view_of (content program.now)) (at values.now) }
 {
+    let mut near = 0;
     for (place, slot) in program.nodes.iter().enumerate() {
         if slot.is_some() {
-            test_bounds(program, ends, values, place as u64)?;
+            test_bounds(program, ends, values, place as u64, &mut near)?;
         }
     }
     Ok(())

@@ -94,11 +94,12 @@ fn less_rows(
     rows: &[NodeRow],
     values: &Values,
     node: u64,
+    near: &mut usize,
 ) -> Result<(), Unfinished>
     ensures { OnOk result (Moves (is_of columns.now stage) (λ j s. less_from j (at values.now node) s rows.now) numbers.old numbers.new) }
 {
     for row in rows {
-        let multiplier = values.get(node, row.row as u64);
+        let multiplier = values.get_near(node, row.row as u64, near);
         less_row(numbers, columns, stage, row, multiplier)?;
     }
     Ok(())
@@ -111,13 +112,17 @@ fn less_node(
     stage: u32,
     values: &Values,
     node: u64,
+    near: &mut usize,
 ) -> Result<(), Unfinished>
     ensures { let v = view_of (content program.now) in
         OnOk result
         (Moves (is_of program.now.columns.items stage) (λ j s. less_from j (at values.now node) s (v.rows node)) numbers.old numbers.new) }
 {
     match find(&program.nodes, node) {
-        Some(found) => less_rows(numbers, &program.columns, stage, &found.rows, values, node),
+        Some(found) => {
+            let rows = &found.rows;
+            less_rows(numbers, &program.columns, stage, rows, values, node, near)
+        }
         None => Ok(()),
     }
 }
@@ -129,6 +134,7 @@ fn less_nodes(
     stage: u32,
     values: &Values,
     nodes: &[u64],
+    near: &mut usize,
 ) -> Result<(), Unfinished>
     ensures { let v = view_of (content program.now) in
         OnOk result
@@ -136,7 +142,7 @@ fn less_nodes(
         (λ j s. fold_walk (λ t n. less_from j (at values.now n) t (v.rows n)) s nodes.now) numbers.old numbers.new) }
 {
     for node in nodes {
-        less_node(numbers, program, stage, values, *node)?;
+        less_node(numbers, program, stage, values, *node, near)?;
     }
     Ok(())
 }
@@ -202,6 +208,14 @@ pub(crate) fn reduced_costs(
 {
     let stage = stage(program, node);
     let mut numbers = all_priced(alloc, program, costs, node, stage, total)?;
-    less_nodes(numbers.as_mut_slice(), program, stage, values, below)?;
+    let mut near = 0;
+    less_nodes(
+        numbers.as_mut_slice(),
+        program,
+        stage,
+        values,
+        below,
+        &mut near,
+    )?;
     Ok(numbers)
 }

@@ -10,12 +10,18 @@ use frac128::Frac;
 use scen_defs::{NodeRow, Program, Values};
 
 /// The sum, and row by row the multiplier times the end that it uses.
-fn add_rows(rows: &[NodeRow], values: &Values, node: u64, start: Frac) -> Result<Frac, Stop>
+fn add_rows(
+    rows: &[NodeRow],
+    values: &Values,
+    node: u64,
+    near: &mut usize,
+    start: Frac,
+) -> Result<Frac, Stop>
     ensures { result ≡ rows_from (at values.now node) start rows.now }
 {
     let mut sum = start;
     for row in rows {
-        let multiplier = values.get(node, row.row as u64);
+        let multiplier = values.get_near(node, row.row as u64, near);
         sum = add_worth(row.low, row.high, multiplier, sum)?;
     }
     Ok(sum)
@@ -26,9 +32,10 @@ pub(crate) fn add_all_rows(program: &Program, values: &Values) -> Result<Frac, S
     ensures { result ≡ all_rows (view_of (content program.now)) (at values.now) }
 {
     let mut sum = Frac::zero();
+    let mut near = 0;
     for (place, slot) in program.nodes.iter().enumerate() {
         if let Some(node) = slot {
-            sum = add_rows(&node.rows, values, place as u64, sum)?;
+            sum = add_rows(&node.rows, values, place as u64, &mut near, sum)?;
         }
     }
     Ok(sum)

@@ -22,13 +22,13 @@ pub returns-in_err-sum : goal.returns-in_err-sum
 returns-in_err-sum c =
     let p = err_from_is_err_and c.from_residual.result c.from_residual.ensures.1 in
     rw (p.1, p.2) (stop_live _ _ _ _ c.deref-slot-items.ensures.value _ _ c.loop-place.invariant c.slot-item.result c.in-Some.node _ c.loop-place-test.true c.slot-item.is c.in-Some.is
-    (sym c.in_err-sum.was ∙ c.add_cost.ensures ∙ step_is c.args.program.now _ c.deref-slot-items.ensures.value _ c.slot-item.result c.in-Some.node c.loop-place-test.true c.slot-item.is c.in-Some.is _ _ c.number_at.ensures _ c.terms-costs.ensures _ _))
+    (sym c.in_err-sum.was ∙ c.add_cost.ensures ∙ step_is c.args.program.now _ c.deref-slot-items.ensures.value _ c.slot-item.result c.in-Some.node c.loop-place-test.true c.slot-item.is c.in-Some.is _ _ c.number_at-total.ensures _ c.terms-costs.ensures _ _))
 
 pub loop-place-preserved : goal.loop-place-preserved
 loop-place-preserved c = elim c.match-slot.branch [
   | in-Some+in_ok-sum w ↦
       next_live _ _ _ _ c.deref-slot-items.ensures.value _ _ c.loop-place.invariant c.slot-item.result w.in-Some.node c.match-slot.sum c.loop-place-test.true c.slot-item.is w.in-Some.is
-      (ap Ok w.sum-is ∙ sym w.in_ok-sum.was ∙ w.add_cost.ensures ∙ step_is c.args.program.now _ c.deref-slot-items.ensures.value _ c.slot-item.result w.in-Some.node c.loop-place-test.true c.slot-item.is w.in-Some.is _ _ w.number_at.ensures _ w.terms-costs.ensures _ _)
+      (ap Ok w.sum-is ∙ sym w.in_ok-sum.was ∙ w.add_cost.ensures ∙ step_is c.args.program.now _ c.deref-slot-items.ensures.value _ c.slot-item.result w.in-Some.node c.loop-place-test.true c.slot-item.is w.in-Some.is _ _ w.number_at-total.ensures _ w.terms-costs.ensures _ _)
   | in_default w ↦
       ap (λ s. fold_walk (λ s n. cost_step_with (get_or c.args.totals.now n zero_ℚ) ((view_of (content c.args.program.now)).cost n) (at c.args.values.now n) s) s (live_from (c.loop-place.place + 1) c.args.program.now.nodes.items)) w.sum-is
       ∙ next_dead _ _ _ _ c.deref-slot-items.ensures.value _ _ c.loop-place.invariant c.slot-item.result c.loop-place-test.true c.slot-item.is w.in_default.is

@@ -23,13 +23,13 @@ pub returns-in_err-test_number : goal.returns-in_err-test_number
 returns-in_err-test_number c =
     let p = err_from_is_err_and c.from_residual.result c.from_residual.ensures.1 in
     rw (p.1, p.2) (stop_place _ _ _ _ _ c.deref-column-items.ensures.value _ _ c.loop-place.invariant c.column-item.result _ c.loop-place-test.true c.column-item.is (eq-eqb _ _ (c.if-column-stage.true ∙ c.stage-stage.ensures))
-    (sym c.in_err-test_number.was ∙ c.test_number.ensures ∙ step_is c.args.program.now _ c.deref-column-items.ensures.value c.loop-place.place c.column-item.result c.loop-place-test.true c.column-item.is c.args.ends _ _ c.get-value.ensures))
+    (sym c.in_err-test_number.was ∙ c.test_number.ensures ∙ step_is c.args.program.now _ c.deref-column-items.ensures.value c.loop-place.place c.column-item.result c.loop-place-test.true c.column-item.is c.args.ends _ _ c.get_near-value.ensures))
 
 pub loop-place-preserved : goal.loop-place-preserved
 loop-place-preserved c = elim c.if-column-stage.branch [
   | then-column-stage+in_ok-test_number w ↦
       next_place _ _ _ _ _ c.deref-column-items.ensures.value _ _ c.loop-place.invariant c.column-item.result tt c.loop-place-test.true c.column-item.is (eq-eqb _ _ (w.if-column-stage.true ∙ c.stage-stage.ensures))
-      (sym w.in_ok-test_number.was ∙ w.test_number.ensures ∙ step_is c.args.program.now _ c.deref-column-items.ensures.value c.loop-place.place c.column-item.result c.loop-place-test.true c.column-item.is c.args.ends _ _ w.get-value.ensures)
+      (sym w.in_ok-test_number.was ∙ w.test_number.ensures ∙ step_is c.args.program.now _ c.deref-column-items.ensures.value c.loop-place.place c.column-item.result c.loop-place-test.true c.column-item.is c.args.ends _ _ w.get_near-value.ensures)
   | else-column-stage w ↦
       skip_place _ _ _ _ _ c.deref-column-items.ensures.value _ _ c.loop-place.invariant c.column-item.result c.loop-place-test.true c.column-item.is (ne_eqb _ _ (λ q. w.if-column-stage.false (q ∙ sym c.stage-stage.ensures)))
 ]
