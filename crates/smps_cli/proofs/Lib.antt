@@ -5,3 +5,4 @@ pub mod GivenLemmas
 pub mod EndLemmas
 pub mod WriteLemmas
 pub mod Few
+pub mod OnTrees

@@ -1,5 +1,5 @@
 -- What `solve` prints.
-use Rattle.std.specs.Prelude.{◌≡◌, ℕ, Bool, false, ◌||◌, List, [], ◌∷◌}
+use Rattle.std.specs.Prelude.{◌≡◌, ℕ, ◌≤◌, Bool, false, ◌||◌, List, [], ◌∷◌, length}
 use Rattle.std.specs.List.{flat_map}
 use Rattle.scen_defs.specs.Program.{Program}
 use Rattle.edit_defs.specs.declared.edit.Item.{Item}
@@ -11,6 +11,7 @@ use Rattle.program_files.specs.Edited.{MeansScript}
 use Rattle.tree_method.specs.Stands.{HasFewNodes}
 use Rattle.smps_session.specs.declared.told.Told.{Told}
 use Rattle.smps_session.specs.Told.{IsScripted}
+use Rattle.smps_session.specs.Comes.{IsOnTree}
 use Rattle.run_status.specs.declared.status.Status.{Status}
 use Rattle.smps_cli.specs.Ends.{MayEnd, RefusesTexts}
 use Rattle.run_status.specs.Findings.{is_open_finding, open_status}
@@ -26,14 +27,16 @@ any_open (told ∷ tolds) = is_open_finding told.finding || any_open tolds
 -- The output is the texts of reports, one for each SOLVE of the edit list, each of them true of the program after the edits before its
 -- SOLVE. Their findings give the status.
 pub record PrintsReports (budget : Budget) (texts : Texts) (status : Status) (output : List ℕ) : Type 0 where
-  -- the program that the texts mean, which has few nodes, and whose rows with two finite ends have the widths of their ranges
+  -- the program that the texts mean, which has few nodes, is on a tree, and whose rows with two finite ends have the widths of their ranges
   pub program : Program
   pub means : MeansProgram texts program
   pub few : HasFewNodes program
+  pub tree : IsOnTree program
   pub widths : HasWidths program
-  -- what the edit list means for it
+  -- what the edit list means for it: few items
   pub items : List Item
   pub script : MeansScript texts program items
+  pub short : length items ≤ 10001
   -- the reports, all of them
   pub tolds : List Told
   pub told : IsScripted (record { solves = budget.solves; pivots = budget.pivots }) program items tolds

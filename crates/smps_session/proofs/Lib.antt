@@ -1,3 +1,4 @@
+pub mod EditedPrograms
 pub mod ToldLemmas
 pub mod ReasonLemmas
 pub mod ComeLemmas

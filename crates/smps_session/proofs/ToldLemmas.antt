@@ -23,7 +23,7 @@ use Rattle.smps_session.specs.Told.{IsTold, AreTold}
 use Rattle.tree_method.specs.declared.method.Method.{Method}
 use Rattle.tree_method.specs.Stands.{HasFewNodes, Begins, WorksBySolves, WorksAsAsked, GoesOn, StandsCleared}
 use Rattle.tree_method.proofs.Numbers.{edits_cleared}
-use Rattle.smps_session.specs.Comes.{ComesOf, TakesEdit, IsUnderWay}
+use Rattle.smps_session.specs.Comes.{ComesOf, IsOnTree, TakesEdit, IsUnderWay}
 use Rattle.smps_session.specs.Courses.{Course, course_at, TellsOne, IsBehind}
 
 pub on_ok : {X E : Type 0} (r : Result X E) (A : Type 0) → A → OnOk r A
@@ -80,9 +80,9 @@ item_allowed p item items some first h =
 -- what a method does at an edit
 pub takes_edit : {A E : Type 0} (result : Result A E) (p : Program) (work : ℕ) (e : Edit) (old worked new : Method)
     → (HasFewNodes p → WorksBySolves p old worked) → (HasFewNodes p → WorksAsAsked p work old worked) → OnOk result (GoesOn p e worked new)
-    → OnOk result (TakesEdit p work e old new)
-takes_edit (Ok x) p work e old worked new w a g = record { worked = worked; works = w; amount = a; goes = g }
-takes_edit (Err x) p work e old worked new w a g = tt
+    → HasFewNodes (after p e) → (IsOnTree p → IsOnTree (after p e)) → OnOk result (TakesEdit p work e old new)
+takes_edit (Ok x) p work e old worked new w a g few tree = record { worked = worked; works = w; amount = a; goes = g; few = few; tree = tree }
+takes_edit (Err x) p work e old worked new w a g few tree = tt
 
 -- and that its reasons are cleared behind it
 pub changed_cleared : {A E : Type 0} (result : Result A E) (p q : Program) (e : Edit) (worked new : Method) → OnOk result (q ≡ after p e)

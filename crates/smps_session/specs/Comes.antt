@@ -1,5 +1,5 @@
 -- How a report comes of the method: of its solves, of what it claims behind them, and of the test of that.
-use Rattle.std.specs.Prelude.{◌≡◌, ◌⊎◌, ◌&&◌, ◌<◌, ◌^◌, ℕ, Bool, true, false, not}
+use Rattle.std.specs.Prelude.{◌≡◌, ◌⊎◌, ◌&&◌, ◌<◌, ◌^◌, ℕ, Bool, true, false, not, Ok}
 use Rattle.scen_defs.specs.Program.{Program, content, view_of}
 use Rattle.scen_defs.specs.declared.program.Program.{Program as ProgramOf}
 use Rattle.scen_defs.specs.declared.report.Finding.{Finding}
@@ -16,7 +16,9 @@ use Rattle.proved_report.specs.Open.{given}
 use Rattle.proved_report.specs.Reports.{IsClaimed}
 use Rattle.claim_laws.specs.Held.{PassesInClaim}
 use Rattle.run_ends.specs.Claims.{EndsAssembly}
+use Rattle.scen_tree.specs.Trees.{Tree, tree_walk}
 use Rattle.edit_defs.specs.declared.edit.Edit.{Edit}
+use Rattle.edit_defs.specs.After.{after}
 use Rattle.edit_defs.specs.Shifts.{HasWidths}
 use Rattle.pass_core.specs.declared.budget.Budget.{Budget}
 use Rattle.pass_core.specs.declared.state.State.{State}
@@ -108,12 +110,19 @@ pub record ComesOfAll (budget : Budget) (program : ProgramOf) (report : Report) 
   pub begins : Begins (content program) budget method
   pub comes : ComesOf budget (content program) 0 program method report next
 
--- a method solves nodes of the program before an edit, so many as are asked for where it can go on, and goes on behind the edit
+-- no operation of the totals and shares of the program's nodes passes
+abbrev pub IsOnTree : Program → Type 0
+IsOnTree p = (tree : Tree) × (tree_walk p ≡ Ok tree)
+
+-- A method solves nodes of the program before an edit, so many as are asked for where it can go on, and goes on behind the edit. The
+-- program behind it has no more nodes than have numbers, and is on a tree where the one before it is.
 pub record TakesEdit (p : Program) (work : ℕ) (e : Edit) (old new : Method) : Type 0 where
   pub worked : Method
   pub works : HasFewNodes p → WorksBySolves p old worked
   pub amount : HasFewNodes p → WorksAsAsked p work old worked
   pub goes : GoesOn p e worked new
+  pub few : HasFewNodes (after p e)
+  pub tree : IsOnTree p → IsOnTree (after p e)
 
 -- behind so many items of a script the method is on its way, where the rows of the first program have the widths of their ranges, and few
 -- items came

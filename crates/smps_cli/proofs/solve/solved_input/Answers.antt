@@ -8,6 +8,7 @@ use Rattle.run_status.specs.Findings.{open_status}
 use Rattle.smps_cli.specs.Solved.{PrintsReports, told_text, any_open}
 use Rattle.width_laws.proofs.Widths.{meant_have_widths}
 use Rattle.smps_cli.proofs.Few.{few_nodes}
+use Rattle.smps_cli.proofs.OnTrees.{on_tree}
 use Rattle.smps_cli.proofs.solve.solved_input.Goals as goal
 
 pub returns : goal.returns
@@ -18,9 +19,11 @@ returns c =
       program = content c.args.input.now.program;
       means = c.requires.means;
       few = few_nodes (texts_view c.args.texts.now) (content c.args.input.now.program) c.requires.means;
+      tree = on_tree (texts_view c.args.texts.now) (content c.args.input.now.program) c.requires.means;
       widths = meant_have_widths (texts_view c.args.texts.now) (content c.args.input.now.program) c.requires.means;
       items = c.args.input.now.script.items.items;
       script = c.requires.script;
+      short = c.requires.few;
       tolds = c.in_ok-tolds.tolds.items;
       told = c.in_ok-tolds.ensures;
       text = h.0 ∙ ap (flat_map told_text) all;

@@ -1,5 +1,6 @@
 use Rattle.scen_defs.specs.Program.{content}
 use Rattle.smps_session.proofs.ToldLemmas.{takes_edit, changed_cleared}
+use Rattle.smps_session.proofs.EditedPrograms.{allowed_few, allowed_tree}
 use Rattle.smps_session.proofs.WayLemmas.{changed_way}
 use Rattle.smps_session.proofs.items.Progress.change.Goals as goal
 
@@ -11,6 +12,8 @@ returns-clause-takes c = λ budget stands.
     takes_edit c.edit.result (content c.args.program.now) c.args.work c.args.edit.now c.args.self.now.method c.work.new.self c.edit.new.self
     (λ few. c.in_ok-work.ensures.solves budget few stands)
     (λ few. c.in_ok-work.ensures.amount budget few stands) c.edit.ensures.method
+    (allowed_few (content c.args.program.now) c.args.edit.now c.args.program.now.keeps c.requires.allowed)
+    (allowed_tree (content c.args.program.now) c.args.edit.now c.requires.allowed)
 
 pub returns-clause-cleared : goal.returns-clause-cleared
 returns-clause-cleared c = λ few.
