@@ -34,10 +34,11 @@ built_on_tree core p scenarios firsts program e =
     let nodes = then_is (nodes_from core p firsts [] firsts) _ program chances.2 in
     let same : program ≡ program_of core p nodes.0 paths.0 = fine_is (program_of core p nodes.0 paths.0) program nodes.2 in
     let places : map place_of nodes.0 ≡ map (position_of firsts) firsts = nodes_placed core p firsts [] firsts nodes.0 nodes.1 in
-    subst IsOnTree (sym same)
-    (tree_by (map place_of nodes.0) chances.0,
-    ap (λ (positions : List Position). then_walk (chances_walk positions paths.0) (λ c. Ok (tree_by (map place_of nodes.0) c))) places
-    ∙ ap (λ walk. then_walk walk (λ c. Ok (tree_by (map place_of nodes.0) c))) chances.1)
+    subst IsOnTree (sym same) (
+      tree_by (map place_of nodes.0) chances.0,
+      ap (λ (positions : List Position). then_walk (chances_walk positions paths.0) (λ c. Ok (tree_by (map place_of nodes.0) c))) places
+          ∙ ap (λ walk. then_walk walk (λ c. Ok (tree_by (map place_of nodes.0) c))) chances.1,
+    )
 
 pub on_tree : (texts : Texts) (program : Program) → MeansProgram texts program → IsOnTree program
 on_tree texts program m =

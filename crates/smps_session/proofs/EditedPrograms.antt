@@ -61,9 +61,11 @@ positions-stay zero f (Some x ∷ nodes) same = ap (λ (parent : Option ℕ). po
 positions-stay (suc n) f (place ∷ nodes) same = ap (λ positions. position_of place ∷ positions) (positions-stay n f nodes same)
 
 pub allowed_tree : (p : Program) (e : Edit) → IsAllowed p e → IsOnTree p → IsOnTree (after p e)
-allowed_tree p (Set name entry v) h t =
-    (t.0, ap (λ positions. then_walk (chances_walk positions p.scenarios) (λ chances. Ok (tree_by positions chances)))
-    (positions-stay (home_of p name entry) (with_value p entry v) p.nodes (with-parent p entry v)) ∙ t.1)
+allowed_tree p (Set name entry v) h t = (
+  t.0,
+  ap (λ positions. then_walk (chances_walk positions p.scenarios) (λ chances. Ok (tree_by positions chances)))
+      (positions-stay (home_of p name entry) (with_value p entry v) p.nodes (with-parent p entry v)) ∙ t.1,
+)
 allowed_tree p (Prob name q) h t =
     ended-ok (first_passing (probability_operations p (Prob name q))) (tree_walk (after p (Prob name q))) (no-passing p (Prob name q) h.no_cause)
 allowed_tree p (Drop name) h t =
