@@ -14,5 +14,6 @@ pub mod FieldLemmas
 pub mod CoreLemmas
 pub mod MeansLemmas
 pub mod OneMeaning
+pub mod MeantCore
 pub mod Texts
 pub mod Examples

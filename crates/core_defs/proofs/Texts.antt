@@ -1,15 +1,17 @@
 -- What reading a text gives, and that it gives nothing else.
-use Rattle.std.proofs.Common.{inl, inr, ◌≡◌, ◌∙◌, ◌++◌, ap, ℕ, Bool, true, false, List, [], ◌∷◌, None, Result, Ok, Err, refl, sym, subst, append_assoc, append-nil, if◌then◌else◌}
+use Rattle.std.proofs.Common.{inl, inr, ◌≡◌, ◌∙◌, ◌++◌, ◌<◌, ◌^◌, ap, ℕ, Bool, true, false, List, [], ◌∷◌, None, Result, Ok, Err, length, refl, sym, subst, append_assoc, append-nil, arith, if◌then◌else◌}
 use Rattle.std.specs.List.{AllByRecursion}
 use Rattle.smps_words.specs.Line.{TextLine, reading_of}
 use Rattle.smps_words.proofs.FieldLemmas.{HasFields, text_fields}
 use Rattle.core_defs.specs.declared.cause.Cause.TheVariants as cause
 use Rattle.core_defs.specs.declared.cause.Refusal.{Refusal}
+use Rattle.core_defs.specs.declared.program.Core.{Core}
 use Rattle.core_defs.specs.declared.section.Section.TheVariants as sections
 use Rattle.core_defs.specs.Fault.{fault, NoFaultBehind, IsCoreFile, IsFirstFault, IsMissing, IsFault}
 use Rattle.core_defs.specs.Filed.{Filed, nothing_filed}
 use Rattle.core_defs.specs.Laws.{IsFiledCore, IsReading, CoreFileLaws}
 use Rattle.core_defs.specs.Lines.{last_section, has_section}
+use Rattle.core_defs.specs.Means.{TextMeans}
 use Rattle.core_defs.specs.Section.{is_end}
 use Rattle.core_defs.specs.Step.{on_line, finish, read_from, filed_text}
 use Rattle.core_defs.proofs.CoreLemmas.{column_names_are, core_is}
@@ -17,6 +19,7 @@ use Rattle.core_defs.proofs.FieldLemmas.{row_fields, column_fields}
 use Rattle.core_defs.proofs.Gathered.{data_on, filed_of, Sound, judged}
 use Rattle.core_defs.proofs.Judged.{no_fault_snoc, end_more, has_more, data_behind, IsFiled, Judged, Behind, judged_text}
 use Rattle.core_defs.proofs.MeansLemmas.{means}
+use Rattle.core_defs.proofs.MeantCore.{free_within, meaning_of}
 use Rattle.core_defs.proofs.OneMeaning.{one_meaning}
 use Rattle.core_defs.proofs.Steps.{step_is, step_sound, nothing_sound}
 
@@ -154,8 +157,16 @@ reading_by lines end_line (Err refusal) fields judged = ((λ file. no_fault line
 pub reading : (text : List ℕ) → IsReading (reading_of 0 text).lines (reading_of 0 text).end_line (filed_text text)
 reading text = reading_by (reading_of 0 text).lines (reading_of 0 text).end_line (filed_text text) (text_fields text) (judged_text (reading_of 0 text).end_line (reading_of 0 text).lines)
 
+-- a core file that memory can hold means a core
+meaning : (text : List ℕ) → length text < 2 ^ 63 → IsCoreFile (reading_of 0 text).lines → (core : Core) × TextMeans text core
+meaning text short file =
+    let lines : List TextLine = (reading_of 0 text).lines in
+    let given = file_given (reading_of 0 text).end_line lines file in
+    let filed : IsFiled lines given.0 = subst (Judged lines (reading_of 0 text).end_line) given.1 (judged_text (reading_of 0 text).end_line lines) in
+    meaning_of lines given.0 (text_fields text) filed (omega (arith, free_within text, short))
+
 pub core_file_laws : CoreFileLaws
-core_file_laws = record { reading = reading; one_fault = one_fault; no_fault = no_fault; one_meaning = one_meaning }
+core_file_laws = record { reading = reading; one_fault = one_fault; no_fault = no_fault; meaning = meaning; one_meaning = one_meaning }
 
 -- the same of what is given
 pub reading_as : (text : List ℕ) (given : Result Filed Refusal) → filed_text text ≡ given → IsReading (reading_of 0 text).lines (reading_of 0 text).end_line given

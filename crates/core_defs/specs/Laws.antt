@@ -1,5 +1,5 @@
 -- What reading a core file line by line gives, in the words of all of its lines.
-use Rattle.std.specs.Prelude.{◌≡◌, ℕ, ◌≤◌, List, Result, Ok, Err, length}
+use Rattle.std.specs.Prelude.{◌≡◌, ℕ, ◌<◌, ◌≤◌, ◌^◌, List, Result, Ok, Err, length}
 use Rattle.smps_words.specs.Line.{TextLine, reading_of}
 use Rattle.core_defs.specs.declared.cause.Refusal.{Refusal}
 use Rattle.core_defs.specs.declared.program.Core.{Core}
@@ -7,7 +7,7 @@ use Rattle.core_defs.specs.Core.{column_names, IsCore}
 use Rattle.core_defs.specs.Fault.{IsCoreFile, IsFault}
 use Rattle.core_defs.specs.Filed.{Filed, closed}
 use Rattle.core_defs.specs.Finished.{row_defs, column_defs, IsCoreOf}
-use Rattle.core_defs.specs.Means.{Means}
+use Rattle.core_defs.specs.Means.{Means, TextMeans}
 use Rattle.core_defs.specs.Step.{most_rows, most_columns, filed_text}
 
 -- what is filed of a core file: its core is the one that the lines mean
@@ -40,5 +40,7 @@ pub record CoreFileLaws : Type 0 where
       → one ≡ other
   pub no_fault : (lines : List TextLine) (end_line : ℕ) (refusal : Refusal) → IsCoreFile lines
       → IsFault lines end_line refusal → ⊥
-  -- lines mean one core
+  -- a core file that memory can hold means a core
+  pub meaning : (text : List ℕ) → length text < 2 ^ 63 → IsCoreFile (reading_of 0 text).lines → (core : Core) × TextMeans text core
+  -- and lines mean one core at most
   pub one_meaning : (lines : List TextLine) (one other : Core) → Means lines one → Means lines other → AreSame one other

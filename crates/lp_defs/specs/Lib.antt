@@ -13,3 +13,4 @@ pub mod Solution
 pub mod Placed
 pub mod Stages
 pub mod Meaning
+pub mod Merges

@@ -3,6 +3,7 @@
 
 ghost use Rattle.lp_defs.specs.Certificates.{PivotsAreBounded, SolutionsAreCertified, UnitColumnsAreFeasible};
 ghost use Rattle.lp_defs.specs.Meaning.{CertificatesHold};
+ghost use Rattle.lp_defs.specs.Merges.{MergesAgree};
 ghost use Rattle.lp_defs.specs.Trace.{NoBasisTwice, NoBasisTwiceOnPath};
 
 /// An optimum has a point and duals of equal value, an infeasible program multipliers that show it, an
@@ -35,4 +36,9 @@ pub fn no_basis_twice_on_path()
 /// So a path has at most twice as many pivots as there are sets of columns, and one more for each row.
 pub fn pivots_are_bounded()
     ensures { PivotsAreBounded }
+{}
+
+/// A row less a multiple of another is the row plus that multiple with the other sign.
+pub fn merges_agree()
+    ensures { MergesAgree }
 {}
