@@ -5,6 +5,6 @@ pub mod CostEnds
 pub mod DualEnds
 pub mod FeasibleEnds
 pub mod Gathers
-pub mod BelowLemmas
 pub mod Reduces
+pub mod Homes
 pub mod QuickLemmas

@@ -21,6 +21,15 @@ dead_read nodes i place h e d = ap (places is_live i) (nodes_read nodes i place 
 pub some_read : (nodes : List (Option NodeOf)) (i : ℕ) (place : Option NodeOf) (n : NodeOf) → place ≡ get_or nodes i place → place ≡ Some n → Some n ≡ get_or nodes i (Some n)
 some_read nodes i place n e d = subst (λ (q : Option NodeOf). q ≡ get_or nodes i q) d e
 
+-- `items` is the slice that a loop reads
+pub live_there : (nodes items : List (Option NodeOf)) → items ≡ nodes → (i : ℕ) (place : Option NodeOf) (n : NodeOf) → i < length items → place ≡ get_or items i place → place ≡ Some n
+    → live_from i nodes ≡ i ∷ live_from (i + 1) nodes
+live_there nodes items same i place n h e d = subst (λ (l : List (Option NodeOf)). live_from i l ≡ i ∷ live_from (i + 1) l) same (live_read items i n h (some_read items i place n e d))
+
+pub dead_there : (nodes items : List (Option NodeOf)) → items ≡ nodes → (i : ℕ) (place : Option NodeOf) → i < length items → place ≡ get_or items i place → place ≡ None
+    → live_from i nodes ≡ live_from (i + 1) nodes
+dead_there nodes items same i place h e d = subst (λ (l : List (Option NodeOf)). live_from i l ≡ live_from (i + 1) l) same (dead_read items i place h e d)
+
 -- the node of that number
 pub node_is : (nodes items : List (Option NodeOf)) → items ≡ nodes → (i : ℕ) (place : Option NodeOf) (n : NodeOf) → i < length items → place ≡ get_or items i place → place ≡ Some n
     → node_at (nodes_content nodes) i ≡ node_content n

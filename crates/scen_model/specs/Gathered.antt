@@ -1,16 +1,16 @@
 -- The sums of many places at once, and when they are those of the walks by place.
-use Rattle.std.specs.Prelude.{◌≡◌, ℕ, ◌<◌, Bool, true, false, not, eqb, List, [], ◌∷◌, map, length, Vec, Result, Ok, Err}
+use Rattle.std.specs.Prelude.{◌≡◌, ℕ, ◌<◌, Bool, true, false, not, ◌&&◌, eqb, List, [], ◌∷◌, map, length, Vec, Result, Ok, Err}
 use Rattle.std.specs.Prelude.{⊤, slice_index_or}
 use Rattle.std.specs.declared.alloc.Global.{Global}
 use Rattle.rationals.specs.Replies.{Reply, IsReply, reply_by}
 use Rattle.rationals.specs.Replies.Reply.{Says, Silent}
 use Rattle.rationals.specs.Rational.{ℚ, zero_ℚ, at_most}
-use Rattle.rationals.specs.Passes.{Operation, too_wide, less_product_walk, add_product_walk, then_walk}
-use Rattle.rationals.specs.Sparse.{Entry}
+use Rattle.rationals.specs.Passes.{Operation, too_wide, mul_walk, less_product_walk, add_product_walk, then_walk}
+use Rattle.rationals.specs.Sparse.{Entry, coefficient}
 use Rattle.scen_defs.specs.declared.program.Column.{Column}
 use Rattle.scen_defs.specs.Lists.{passes_at, pick}
 use Rattle.scen_defs.specs.Program.{View}
-use Rattle.scen_defs.specs.Flat.{subtree}
+use Rattle.scen_defs.specs.Flat.{home}
 use Rattle.scen_model.specs.declared.stop.Stop.{Stop}
 use Rattle.scen_model.specs.declared.stop.Stop.TheVariants.{Decided as DecidedStop}
 use Rattle.scen_model.specs.declared.unfinished.Ended.{Ended}
@@ -45,23 +45,79 @@ costs_with v totals x = fold_walk (λ s n. cost_step_with (slice_index_or totals
 abbrev pub falls_walk : View → (ℕ → ℕ → ℚ) → Result (Unit {0}) Stop
 falls_walk v d = then_walk (stopping (cost_walk v d)) (λ c. test (not (at_most zero_ℚ c)))
 
--- lists of numbers
-abbrev pub lists_in : List (Vec ℕ Global) → List (List ℕ)
-lists_in lists = map (λ (list : Vec ℕ Global). list.items) lists
-
--- the list at each place has the node of that number and all nodes below it, rising
-abbrev pub AreSubtrees : View → List (List ℕ) → Type 0
-AreSubtrees v lists = (m : ℕ) → m < length lists → slice_index_or lists m [] ≡ subtree v m
+-- ---- the columns of each stage, and the numbers of columns at nodes
+abbrev pub lists_in : {X : Type 0} → List (Vec X Global) → List (List X)
+lists_in {X} lists = map (λ (list : Vec X Global). list.items) lists
 
 -- whether column j is of stage s
 abbrev pub is_of : List Column → ℕ → ℕ → Bool
 is_of columns s j = passes_at (λ (c : Column). eqb c.stage s) j columns
 
--- the number at the place of each column of stage s is the walk's
-abbrev pub AreAt : {P : Type 0} → List Column → ℕ → (ℕ → Result ℚ P) → List ℚ → Type 0
-AreAt columns s walk numbers =
-    (j : ℕ) (d : ℚ) → j < length numbers → is_of columns s j ≡ true
-    → (walk j ≡ Ok (slice_index_or numbers j d)) × Fits (slice_index_or numbers j d)
+-- of each column of stage s the seat: a place of the stage's list, where the column itself stands
+pub record IsSeated (own : List (List ℕ)) (seats : List ℕ) (s j : ℕ) : Type 0 where
+  pub within : slice_index_or seats j 0 < length (slice_index_or own s [])
+  pub there : slice_index_or (slice_index_or own s []) (slice_index_or seats j 0) 0 ≡ j
+
+abbrev pub AreSeated : List Column → List (List ℕ) → List ℕ → Type 0
+AreSeated columns own seats = (s j : ℕ) → is_of columns s j ≡ true → IsSeated own seats s j
+
+-- two columns of one stage have different seats
+abbrev pub AreApart : List Column → List ℕ → Type 0
+AreApart columns seats =
+    (s i j : ℕ) → is_of columns s i ≡ true → is_of columns s j ≡ true
+    → slice_index_or seats i 0 ≡ slice_index_or seats j 0 → i ≡ j
+
+-- the number at a seat of node k; 0 where there is none
+abbrev pub number_in : List (List ℚ) → ℕ → ℕ → ℚ
+number_in numbers k seat = slice_index_or (slice_index_or numbers k []) seat zero_ℚ
+
+-- the number of column j at node k, which stands in the node's list at the column's seat
+abbrev pub number_of : List (List ℚ) → List ℕ → ℕ → ℕ → ℚ
+number_of numbers seats k j = number_in numbers k (slice_index_or seats j 0)
+
+-- a product is taken away from the number at a place, and all others stay
+abbrev pub LessAt : ℕ → ℚ → ℚ → List ℚ → List ℚ → Type 0
+LessAt place value y old new =
+    (i : ℕ) → Fits (slice_index_or old i zero_ℚ)
+    → (pick (eqb place i) (less_product_walk (slice_index_or old i zero_ℚ) value y) (Ok (slice_index_or old i zero_ℚ))
+    ≡ Ok (slice_index_or new i zero_ℚ)) × Fits (slice_index_or new i zero_ℚ)
+
+-- the same of the number at a seat of a node
+abbrev pub LessIn : ℕ → ℕ → ℚ → ℚ → List (List ℚ) → List (List ℚ) → Type 0
+LessIn node seat value y old new =
+    (k i : ℕ) → Fits (number_in old k i)
+    → (pick (eqb node k && eqb seat i) (less_product_walk (number_in old k i) value y) (Ok (number_in old k i))
+    ≡ Ok (number_in new k i)) × Fits (number_in new k i)
+
+-- for each node k and each column j of its stage, the walk comes from the old number to the new one
+abbrev pub AllMove : {P : Type 0} → View → List Column → List ℕ → (ℕ → ℕ → ℚ → Result ℚ P) → List (List ℚ) → List (List ℚ) → Type 0
+AllMove v columns seats walk old new =
+    (k j : ℕ) → is_of columns (v.stage k) j ≡ true → Fits (number_of old seats k j)
+    → (walk k j (number_of old seats k j) ≡ Ok (number_of new seats k j)) × Fits (number_of new seats k j)
+
+-- for each node k and each column j of its stage, the number is the walk's
+abbrev pub AreAll : {P : Type 0} → View → List Column → List ℕ → ℕ → (ℕ → ℕ → Result ℚ P) → List (List ℚ) → Type 0
+AreAll v columns seats count walk numbers =
+    (k j : ℕ) → k < count → is_of columns (v.stage k) j ≡ true
+    → (walk k j ≡ Ok (number_of numbers seats k j)) × Fits (number_of numbers seats k j)
+
+-- the number at each place is the total times the cost of the column at that place
+abbrev pub ArePriced : ℚ → List Entry → List ℕ → List ℚ → Type 0
+ArePriced total costs own numbers =
+    (i : ℕ) → i < length numbers
+    → (mul_walk total (coefficient costs (slice_index_or own i 0)) ≡ Ok (slice_index_or numbers i zero_ℚ))
+    × Fits (slice_index_or numbers i zero_ℚ)
+
+-- the same of each node's list, which has a number for each column of the node's stage
+abbrev pub AllPriced : View → (ℕ → List Entry) → List ℚ → List (List ℕ) → ℕ → List (List ℚ) → Type 0
+AllPriced v costs totals own count numbers =
+    (k : ℕ) → k < count
+    → (length (slice_index_or numbers k []) ≡ length (slice_index_or own (v.stage k) []))
+    × ArePriced (slice_index_or totals k zero_ℚ) (costs k) (slice_index_or own (v.stage k) []) (slice_index_or numbers k [])
+
+-- a walk at the nodes below k alone
+abbrev pub at_home : {P : Type 0} → View → ℕ → ℕ → ℕ → ℚ → Result ℚ P → Result ℚ P
+at_home v n k j s walk = pick (eqb (home v n j) k) walk (Ok s)
 
 -- s less an entry times y, where the entry stands in column j
 abbrev pub entry_from : Entry → ℚ → ℕ → ℚ → Result ℚ Operation
@@ -72,10 +128,9 @@ abbrev pub entries_from : ℚ → ℕ → ℚ → List Entry → Result ℚ Oper
 entries_from y j s [] = Ok s
 entries_from y j s (e ∷ es) = then_walk (entry_from e y j s) (λ t. entries_from y j t es)
 
--- s and, column by column of the node's stage, the number at its place times the bound that it uses
-abbrev pub columns_with : View → List ℚ → ℚ → ℕ → Result ℚ Stop
-columns_with v numbers s m =
-    fold_walk (λ t j. worth_step (v.lower j) (v.upper j) (slice_index_or numbers j zero_ℚ) t) s (v.columns (v.stage m))
+-- s and, column by column of the node's stage, the column's number times the bound that it uses
+abbrev pub columns_with : View → (ℕ → ℚ) → ℚ → ℕ → Result ℚ Stop
+columns_with v number s m = fold_walk (λ t j. worth_step (v.lower j) (v.upper j) (number j) t) s (v.columns (v.stage m))
 
 -- the walk step by step gives the answer, or memory is wanting
 abbrev pub IsLeft : Ended → Type 0

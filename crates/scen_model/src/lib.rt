@@ -1,7 +1,6 @@
 //! What points and multipliers of a program on a tree cost, meet and are worth.
 #![tactic(auto)]
 
-mod below;
 mod charges;
 mod costs;
 mod duals;
@@ -11,6 +10,7 @@ mod laws;
 mod quick;
 mod reduced;
 mod rows;
+mod seats;
 mod stop;
 mod totals;
 mod unfinished;

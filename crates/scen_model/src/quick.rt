@@ -1,16 +1,15 @@
-// What multipliers are worth, with the totals of all nodes and the reduced costs of a node each taken at once.
-ghost use Rattle.std.specs.Prelude.{◌≡◌, Ok, length};
+// What multipliers are worth, with the totals of all nodes and the reduced costs of all nodes each taken at once.
+ghost use Rattle.std.specs.Prelude.{◌≡◌, [], slice_index_or};
 ghost use Rattle.scen_defs.specs.Values.{at};
-ghost use Rattle.scen_defs.specs.Flat.{subtree};
 ghost use Rattle.scen_defs.specs.Program.{content, view_of};
-ghost use Rattle.scen_model.specs.Walks.{total_walk, costs_of, columns_step, all_columns, dual_by};
-ghost use Rattle.scen_model.specs.Gathered.{AreTotals, AreSubtrees, lists_in, columns_with, Finishes};
+ghost use Rattle.scen_model.specs.Walks.{fold_walk, costs_of, dual_by};
+ghost use Rattle.scen_model.specs.Gathered.{lists_in, number_of, columns_with, Finishes};
 
-use crate::below::subtrees;
 use crate::charges::Costs;
 use crate::ends::{add_worth, number_at};
-use crate::reduced::reduced_costs;
+use crate::reduced::{reduced_costs, seat_at};
 use crate::rows::add_all_rows;
+use crate::seats::seated;
 use crate::stop::Stop;
 use crate::totals::all_totals;
 use crate::unfinished::Ended;
@@ -19,15 +18,35 @@ use scen_defs::{Program, Values};
 use scen_nodes::stage;
 use std::alloc::Global;
 
-/// The sum, and for each column of a node's stage the number at its place times the bound that it uses.
-fn add_numbers(program: &Program, numbers: &[Frac], node: u64, start: Frac) -> Result<Frac, Stop>
-    ensures { result ≡ columns_with (view_of (content program.now)) numbers.now start node }
+/// The list at a place, an empty one where there is none.
+fn list_at(lists: &[Vec<Frac>], place: usize) -> &[Frac]
+    ensures { result.now ≡ slice_index_or (lists_in lists.now) place [] }
+{
+    if place < lists.len() {
+        lists[place].as_slice()
+    } else {
+        &[]
+    }
+}
+
+/// The sum, and for each column of a node's stage the number at its seat times the bound that it uses.
+fn add_numbers(
+    program: &Program,
+    seats: &[usize],
+    numbers: &[Vec<Frac>],
+    node: u64,
+    start: Frac,
+) -> Result<Frac, Stop>
+    ensures { let v = view_of (content program.now) in
+        result ≡ columns_with v (number_of (lists_in numbers.now) seats.now node) start node }
 {
     let stage = stage(program, node);
+    let list = list_at(numbers, node as usize);
     let mut sum = start;
     for (place, column) in program.columns.iter().enumerate() {
         if column.stage == stage {
-            sum = add_worth(column.lower, column.upper, number_at(numbers, place), sum)?;
+            let number = number_at(list, seat_at(seats, place as u64));
+            sum = add_worth(column.lower, column.upper, number, sum)?;
         }
     }
     Ok(sum)
@@ -44,56 +63,20 @@ fn followed(walk: Result<Frac, Stop>) -> Result<Frac, Ended>
     }
 }
 
-/// The sum, and for each column of a node's stage its reduced cost times the bound that it uses.
-fn add_reduced(
-    alloc: Global,
-    program: &Program,
-    costs: Costs,
-    values: &Values,
-    node: u64,
-    total: Frac,
-    below: &[u64],
-    start: Frac,
-) -> Result<Frac, Ended>
-    requires total { total_walk (view_of (content program.now)) node ≡ Ok total }
-    requires below { below.now ≡ subtree (view_of (content program.now)) node }
-    ensures { let v = view_of (content program.now) in Finishes (columns_step (costs_of costs v) v (at values.now) start node) result }
-{
-    let numbers = reduced_costs(alloc, program, costs, values, node, total, below)?;
-    followed(add_numbers(program, numbers.as_slice(), node, start))
-}
-
-/// The same for all nodes.
+/// The sum, and for each column of each node's stage its reduced cost times the bound that it uses.
 fn add_all_reduced(
-    alloc: Global,
     program: &Program,
-    costs: Costs,
-    values: &Values,
-    totals: &[Frac],
-    below: &[Vec<u64>],
+    seats: &[usize],
+    numbers: &[Vec<Frac>],
     start: Frac,
-) -> Result<Frac, Ended>
-    requires totals { AreTotals (view_of (content program.now)) totals.now }
-    requires all_totals { length totals.now ≡ length program.now.nodes.items }
-    requires below { AreSubtrees (view_of (content program.now)) (lists_in below.now) }
-    requires all_below { length below.now ≡ length program.now.nodes.items }
-    ensures { let v = view_of (content program.now) in Finishes (all_columns (costs_of costs v) v (at values.now) start) result }
+) -> Result<Frac, Stop>
+    ensures { let v = view_of (content program.now) in
+        result ≡ fold_walk (λ s n. columns_with v (number_of (lists_in numbers.now) seats.now n) s n) start v.live }
 {
     let mut sum = start;
     for (place, slot) in program.nodes.iter().enumerate() {
         if slot.is_some() {
-            let total = number_at(totals, place);
-            let list = below[place].as_slice();
-            sum = add_reduced(
-                alloc,
-                program,
-                costs,
-                values,
-                place as u64,
-                total,
-                list,
-                sum,
-            )?;
+            sum = add_numbers(program, seats, numbers, place as u64, sum)?;
         }
     }
     Ok(sum)
@@ -109,12 +92,13 @@ pub(crate) fn quick_value(
     ensures { let v = view_of (content program.now) in Finishes (dual_by (costs_of costs v) v (at values.now)) result }
 {
     let totals = all_totals(alloc, program)?;
-    let below = subtrees(alloc, program)?;
+    let seating = seated(alloc, program)?;
+    let totals = totals.as_slice();
+    let numbers = reduced_costs(alloc, program, costs, values, totals, &seating)?;
     match add_all_rows(program, values) {
         Ok(sum) => {
-            let totals = totals.as_slice();
-            let below = below.as_slice();
-            add_all_reduced(alloc, program, costs, values, totals, below, sum)
+            let seats = seating.seats.as_slice();
+            followed(add_all_reduced(program, seats, numbers.as_slice(), sum))
         }
         Err(Stop::Decided) => Err(Ended::Decided),
         Err(Stop::Passed(_)) => Err(Ended::Walk),

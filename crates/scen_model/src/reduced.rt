@@ -1,32 +1,40 @@
-// The reduced costs of a node's columns, all in one pass over the nodes below it.
-ghost use Rattle.std.specs.Prelude.{◌≡◌, Ok, true, eqb, length, IfOk, OnOk};
-ghost use Rattle.rationals.specs.Passes.{less_product_walk, mul_walk};
+// The reduced costs of all nodes' columns, in one pass over the rows of all nodes.
+ghost use Rattle.std.specs.Prelude.{◌≡◌, [], length, IfOk, OnOk, slice_index_or};
+ghost use Rattle.rationals.specs.Rational.{zero_ℚ};
+ghost use Rattle.rationals.specs.Passes.{less_product_walk};
 ghost use Rattle.rationals.specs.Sparse.{coefficient};
-ghost use Rattle.scen_defs.specs.Lists.{pick};
 ghost use Rattle.scen_defs.specs.Values.{at};
-ghost use Rattle.scen_defs.specs.Flat.{subtree};
 ghost use Rattle.scen_defs.specs.Program.{content, view_of};
-ghost use Rattle.scen_model.specs.Walks.{total_walk, fold_walk, less_from, costs_of, reduced_walk};
-ghost use Rattle.scen_model.specs.Gathered.{Moves, everywhere, is_of, AreAt, entry_from, entries_from};
+ghost use Rattle.scen_model.specs.Walks.{less_from, less_all, costs_of, reduced_walk};
+ghost use Rattle.scen_model.specs.Gathered.{lists_in, at_home, entry_from, entries_from};
+ghost use Rattle.scen_model.specs.Gathered.{AreTotals, AreSeated, AreApart, LessAt, LessIn, AllMove, ArePriced, AllPriced, AreAll};
 
 use crate::charges::{Costs, cost_at};
+use crate::ends::number_at;
+use crate::seats::Seating;
 use crate::unfinished::Unfinished;
-use frac128::{Frac, Passed, Term};
-use scen_defs::{Column, NodeRow, Program, Values};
-use scen_nodes::{find, is_column_of, stage};
+use frac128::{Frac, Term};
+use scen_defs::{NodeRow, Program, Values};
+use scen_nodes::{home, is_column_of, stage};
 use std::alloc::Global;
+
+/// The seat of a column, 0 where there is none.
+pub(crate) fn seat_at(seats: &[usize], column: u64) -> usize
+    ensures { result ≡ slice_index_or seats.now column 0 }
+{
+    let place = column as usize;
+    if place < seats.len() { seats[place] } else { 0 }
+}
 
 /// Takes a product away from the number at a place.
 fn less_at(
     numbers: &mut [Frac],
-    column: u64,
+    place: usize,
     value: Frac,
     multiplier: Frac,
 ) -> Result<(), Unfinished>
-    ensures { OnOk result
-        (Moves everywhere (λ j s. pick (eqb column j) (less_product_walk s value multiplier) (Ok s)) numbers.old numbers.new) }
+    ensures { OnOk result (LessAt place value multiplier numbers.old numbers.new) }
 {
-    let place = column as usize;
     if place >= numbers.len() {
         return Err(Unfinished::Walk);
     }
@@ -34,188 +42,244 @@ fn less_at(
     Ok(())
 }
 
-/// Takes an entry times a multiplier away, where its column is of the stage.
+/// Takes a product away from the number at a seat of a node.
+fn less_in(
+    numbers: &mut [Vec<Frac>],
+    node: u64,
+    seat: usize,
+    value: Frac,
+    multiplier: Frac,
+) -> Result<(), Unfinished>
+    ensures { OnOk result (LessIn node seat value multiplier (lists_in numbers.old) (lists_in numbers.new)) }
+{
+    let place = node as usize;
+    if place >= numbers.len() {
+        return Err(Unfinished::Walk);
+    }
+    less_at(numbers[place].as_mut_slice(), seat, value, multiplier)?;
+    Ok(())
+}
+
+/// Takes an entry of a node's row times a multiplier away from the number of its column, at the node of the path that decides it.
 fn less_entry(
-    numbers: &mut [Frac],
-    columns: &[Column],
-    stage: u32,
+    numbers: &mut [Vec<Frac>],
+    program: &Program,
+    seats: &[usize],
+    node: u64,
     entry: Term,
     multiplier: Frac,
 ) -> Result<(), Unfinished>
-    ensures { OnOk result (Moves (is_of columns.now stage) (entry_from entry multiplier) numbers.old numbers.new) }
+    requires { AreApart program.now.columns.items seats.now }
+    ensures { let v = view_of (content program.now) in
+        OnOk result
+        (AllMove v program.now.columns.items seats.now
+        (λ k j s. at_home v node k j s (entry_from entry multiplier j s)) (lists_in numbers.old) (lists_in numbers.new)) }
 {
-    if is_column_of(columns, stage, entry.column) {
-        less_at(numbers, entry.column, entry.value, multiplier)
-    } else {
+    let at = home(program, node, entry.column);
+    if is_column_of(&program.columns, stage(program, at), entry.column) {
+        let seat = seat_at(seats, entry.column);
+        less_in(numbers, at, seat, entry.value, multiplier)?;
         Ok(())
+    } else {
+        Err(Unfinished::Walk)
     }
 }
 
-/// Takes entries times a multiplier away from the numbers of the stage's columns.
+/// The same for entries in order.
 fn less_entries(
-    numbers: &mut [Frac],
-    columns: &[Column],
-    stage: u32,
+    numbers: &mut [Vec<Frac>],
+    program: &Program,
+    seats: &[usize],
+    node: u64,
     entries: &[Term],
     multiplier: Frac,
 ) -> Result<(), Unfinished>
-    ensures { OnOk result (Moves (is_of columns.now stage) (λ j s. entries_from multiplier j s entries.now) numbers.old numbers.new) }
+    requires { AreApart program.now.columns.items seats.now }
+    ensures { let v = view_of (content program.now) in
+        OnOk result
+        (AllMove v program.now.columns.items seats.now
+        (λ k j s. at_home v node k j s (entries_from multiplier j s entries.now)) (lists_in numbers.old) (lists_in numbers.new)) }
 {
     for entry in entries {
-        less_entry(numbers, columns, stage, *entry, multiplier)?;
+        less_entry(numbers, program, seats, node, *entry, multiplier)?;
     }
     Ok(())
 }
 
 /// Takes a row times its multiplier away.
 fn less_row(
-    numbers: &mut [Frac],
-    columns: &[Column],
-    stage: u32,
+    numbers: &mut [Vec<Frac>],
+    program: &Program,
+    seats: &[usize],
+    node: u64,
     row: &NodeRow,
     multiplier: Frac,
 ) -> Result<(), Unfinished>
-    ensures { OnOk result
-        (Moves (is_of columns.now stage) (λ j s. less_product_walk s (coefficient row.now.entries j) multiplier) numbers.old numbers.new) }
+    requires { AreApart program.now.columns.items seats.now }
+    ensures { let v = view_of (content program.now) in
+        OnOk result
+        (AllMove v program.now.columns.items seats.now
+        (λ k j s. at_home v node k j s (less_product_walk s (coefficient row.now.entries j) multiplier))
+        (lists_in numbers.old) (lists_in numbers.new)) }
 {
     if multiplier.is_zero() {
         return Ok(());
     }
     row.entries.keeps_order();
-    less_entries(numbers, columns, stage, row.entries.terms(), multiplier)?;
+    less_entries(
+        numbers,
+        program,
+        seats,
+        node,
+        row.entries.terms(),
+        multiplier,
+    )?;
     Ok(())
 }
 
 /// Takes the rows of a node away.
 fn less_rows(
-    numbers: &mut [Frac],
-    columns: &[Column],
-    stage: u32,
+    numbers: &mut [Vec<Frac>],
+    program: &Program,
+    seats: &[usize],
     rows: &[NodeRow],
     values: &Values,
     node: u64,
     near: &mut usize,
 ) -> Result<(), Unfinished>
-    ensures { OnOk result (Moves (is_of columns.now stage) (λ j s. less_from j (at values.now node) s rows.now) numbers.old numbers.new) }
+    requires { AreApart program.now.columns.items seats.now }
+    ensures { let v = view_of (content program.now) in
+        OnOk result
+        (AllMove v program.now.columns.items seats.now
+        (λ k j s. at_home v node k j s (less_from j (at values.now node) s rows.now)) (lists_in numbers.old) (lists_in numbers.new)) }
 {
     for row in rows {
         let multiplier = values.get_near(node, row.row as u64, near);
-        less_row(numbers, columns, stage, row, multiplier)?;
+        less_row(numbers, program, seats, node, row, multiplier)?;
     }
     Ok(())
 }
 
-/// The same, where the node is live.
-fn less_node(
-    numbers: &mut [Frac],
+/// Takes the rows of all nodes away.
+fn less_all(
+    numbers: &mut [Vec<Frac>],
     program: &Program,
-    stage: u32,
+    seats: &[usize],
     values: &Values,
-    node: u64,
-    near: &mut usize,
 ) -> Result<(), Unfinished>
+    requires { AreApart program.now.columns.items seats.now }
     ensures { let v = view_of (content program.now) in
         OnOk result
-        (Moves (is_of program.now.columns.items stage) (λ j s. less_from j (at values.now node) s (v.rows node)) numbers.old numbers.new) }
+        (AllMove v program.now.columns.items seats.now
+        (λ k j s. less_all v (at values.now) k j s) (lists_in numbers.old) (lists_in numbers.new)) }
 {
-    match find(&program.nodes, node) {
-        Some(found) => {
-            let rows = &found.rows;
-            less_rows(numbers, &program.columns, stage, rows, values, node, near)
+    let mut near = 0;
+    for (place, slot) in program.nodes.iter().enumerate() {
+        if let Some(node) = slot {
+            less_rows(
+                numbers,
+                program,
+                seats,
+                &node.rows,
+                values,
+                place as u64,
+                &mut near,
+            )?;
         }
-        None => Ok(()),
-    }
-}
-
-/// The same for nodes in order.
-fn less_nodes(
-    numbers: &mut [Frac],
-    program: &Program,
-    stage: u32,
-    values: &Values,
-    nodes: &[u64],
-    near: &mut usize,
-) -> Result<(), Unfinished>
-    ensures { let v = view_of (content program.now) in
-        OnOk result
-        (Moves (is_of program.now.columns.items stage)
-        (λ j s. fold_walk (λ t n. less_from j (at values.now n) t (v.rows n)) s nodes.now) numbers.old numbers.new) }
-{
-    for node in nodes {
-        less_node(numbers, program, stage, values, *node, near)?;
     }
     Ok(())
 }
 
-/// A total times the cost of a column of the stage; 0 of another.
+/// A node's total times the costs of the columns of its stage.
 fn priced(
-    program: &Program,
-    costs: Costs,
-    node: u64,
-    stage: u32,
-    column: u64,
-    total: Frac,
-) -> Result<Frac, Passed>
-    ensures { let cost = coefficient (costs_of costs (view_of (content program.now)) node) column in
-        is_of program.now.columns.items stage column ≡ true → result ≡ mul_walk total cost }
-{
-    if is_column_of(&program.columns, stage, column) {
-        total.mul(cost_at(program, costs, node, column))
-    } else {
-        Ok(Frac::zero())
-    }
-}
-
-/// The same for all columns.
-fn all_priced(
     alloc: Global,
     program: &Program,
     costs: Costs,
     node: u64,
-    stage: u32,
     total: Frac,
+    own: &[u64],
 ) -> Result<Vec<Frac>, Unfinished>
-    ensures length { IfOk result (λ numbers. length numbers.items ≡ length program.now.columns.items) }
+    ensures length { IfOk result (λ numbers. length numbers.items ≡ length own.now) }
     ensures priced { let v = view_of (content program.now) in
-        IfOk result (λ numbers.
-        AreAt program.now.columns.items stage (λ j. mul_walk total (coefficient (costs_of costs v node) j)) numbers.items) }
+        IfOk result (λ numbers. ArePriced total (costs_of costs v node) own.now numbers.items) }
 {
-    let count = program.columns.len();
-    let mut numbers = Vec::with_capacity(alloc, count)?;
-    for column in 0..count {
-        let number = priced(program, costs, node, stage, column as u64, total)?;
+    let mut numbers = Vec::with_capacity(alloc, own.len())?;
+    for column in own {
+        let number = total.mul(cost_at(program, costs, node, *column))?;
         numbers.push(number)?;
     }
     Ok(numbers)
 }
 
-/// The reduced costs of the columns of a node's stage, each at its column's place.
+/// The same for the node at a place, where the columns stand by stage.
+fn node_priced(
+    alloc: Global,
+    program: &Program,
+    costs: Costs,
+    totals: &[Frac],
+    own: &[Vec<u64>],
+    node: u64,
+) -> Result<Vec<Frac>, Unfinished>
+    ensures length { let v = view_of (content program.now) in
+        IfOk result (λ numbers. length numbers.items ≡ length (slice_index_or (lists_in own.now) (v.stage node) [])) }
+    ensures priced { let v = view_of (content program.now) in
+        IfOk result (λ numbers.
+        ArePriced (slice_index_or totals.now node zero_ℚ) (costs_of costs v node) (slice_index_or (lists_in own.now) (v.stage node) [])
+        numbers.items) }
+{
+    let row = stage(program, node) as usize;
+    if row >= own.len() {
+        return Err(Unfinished::Walk);
+    }
+    let total = number_at(totals, node as usize);
+    priced(alloc, program, costs, node, total, own[row].as_slice())
+}
+
+/// The same for all nodes.
+fn all_priced(
+    alloc: Global,
+    program: &Program,
+    costs: Costs,
+    totals: &[Frac],
+    own: &[Vec<u64>],
+) -> Result<Vec<Vec<Frac>>, Unfinished>
+    ensures { let v = view_of (content program.now) in
+        IfOk result (λ numbers.
+        AllPriced v (costs_of costs v) totals.now (lists_in own.now) (length program.now.nodes.items) (lists_in numbers.items)) }
+{
+    let count = program.nodes.len();
+    let mut numbers = Vec::with_capacity(alloc, count)?;
+    for node in 0..count {
+        let list = node_priced(alloc, program, costs, totals, own, node as u64)?;
+        numbers.push(list)?;
+    }
+    Ok(numbers)
+}
+
+/// The reduced costs of all nodes' columns: each in the list of its node, at the seat of its column.
 pub(crate) fn reduced_costs(
     alloc: Global,
     program: &Program,
     costs: Costs,
     values: &Values,
-    node: u64,
-    total: Frac,
-    below: &[u64],
-) -> Result<Vec<Frac>, Unfinished>
-    requires total { total_walk (view_of (content program.now)) node ≡ Ok total }
-    requires below { below.now ≡ subtree (view_of (content program.now)) node }
-    ensures length { IfOk result (λ numbers. length numbers.items ≡ length program.now.columns.items) }
-    ensures reduced { let v = view_of (content program.now) in
+    totals: &[Frac],
+    seating: &Seating,
+) -> Result<Vec<Vec<Frac>>, Unfinished>
+    requires totals { AreTotals (view_of (content program.now)) totals.now }
+    requires all_totals { length totals.now ≡ length program.now.nodes.items }
+    requires seated { AreSeated program.now.columns.items (lists_in seating.now.own.items) seating.now.seats.items }
+    ensures { let v = view_of (content program.now) in
         IfOk result (λ numbers.
-        AreAt program.now.columns.items (v.stage node) (reduced_walk (costs_of costs v) v (at values.now) node) numbers.items) }
+        AreAll v program.now.columns.items seating.now.seats.items (length program.now.nodes.items)
+        (reduced_walk (costs_of costs v) v (at values.now)) (lists_in numbers.items)) }
 {
-    let stage = stage(program, node);
-    let mut numbers = all_priced(alloc, program, costs, node, stage, total)?;
-    let mut near = 0;
-    less_nodes(
+    let own = seating.own.as_slice();
+    let mut numbers = all_priced(alloc, program, costs, totals, own)?;
+    less_all(
         numbers.as_mut_slice(),
         program,
-        stage,
+        seating.seats.as_slice(),
         values,
-        below,
-        &mut near,
     )?;
     Ok(numbers)
 }

@@ -1,0 +1,72 @@
+// The columns of each stage, and of each column its seat: its place among the columns of its stage.
+ghost use Rattle.std.specs.Prelude.{◌≡◌, IsTrue, IfOk, true};
+ghost use Rattle.scen_model.specs.Gathered.{lists_in, is_of, IsSeated, AreSeated};
+
+use crate::unfinished::Unfinished;
+use scen_defs::{Column, Program};
+use std::alloc::Global;
+
+/// The columns by stage, each stage's in rising order, and the seats by column.
+#[derive(Drop)]
+pub(crate) struct Seating {
+    pub(crate) own: Vec<Vec<u64>>,
+    pub(crate) seats: Vec<usize>,
+}
+
+/// Puts a column behind the others of its stage; gives its seat.
+fn put(own: &mut Vec<Vec<u64>>, stage: u32, column: u64) -> Result<usize, Unfinished> {
+    let place = stage as usize;
+    if place >= own.len() {
+        return Err(Unfinished::Walk);
+    }
+    let list = &mut own[place];
+    let seat = list.len();
+    list.push(column)?;
+    Ok(seat)
+}
+
+/// Whether a column stands at its seat.
+fn is_seated(own: &[Vec<u64>], seats: &[usize], stage: u32, column: u64) -> bool
+    ensures { IsTrue result → IsSeated (lists_in own.now) seats.now stage column }
+{
+    let row = stage as usize;
+    let place = column as usize;
+    if row >= own.len() || place >= seats.len() {
+        return false;
+    }
+    let list = own[row].as_slice();
+    let seat = seats[place];
+    seat < list.len() && list[seat] == column
+}
+
+/// Whether each column stands at its seat.
+fn are_seated(columns: &[Column], own: &[Vec<u64>], seats: &[usize]) -> bool
+    ensures { IsTrue result → AreSeated columns.now (lists_in own.now) seats.now }
+{
+    for (place, column) in columns.iter().enumerate() {
+        if !is_seated(own, seats, column.stage, place as u64) {
+            return false;
+        }
+    }
+    true
+}
+
+/// The columns of each stage, and of each column its seat.
+pub(crate) fn seated(alloc: Global, program: &Program) -> Result<Seating, Unfinished>
+    ensures { IfOk result (λ s. AreSeated program.now.columns.items (lists_in s.own.items) s.seats.items) }
+{
+    let mut own = Vec::with_capacity(alloc, program.periods.len())?;
+    for _period in &program.periods {
+        own.push(Vec::new(alloc))?;
+    }
+    let mut seats = Vec::with_capacity(alloc, program.columns.len())?;
+    for (place, column) in program.columns.iter().enumerate() {
+        let seat = put(&mut own, column.stage, place as u64)?;
+        seats.push(seat)?;
+    }
+    if are_seated(&program.columns, own.as_slice(), seats.as_slice()) {
+        Ok(Seating { own, seats })
+    } else {
+        Err(Unfinished::Walk)
+    }
+}
