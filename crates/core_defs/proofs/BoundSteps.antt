@@ -7,9 +7,10 @@ use Rattle.frac128.specs.declared.text.NumFault.{NumFault}
 use Rattle.smps_words.specs.Line.{TextLine}
 use Rattle.smps_words.specs.Names.{same_name, place_of}
 use Rattle.smps_words.proofs.NumberedNames.{same_name_refl}
+use Rattle.refusals.specs.declared.cause.Cause.{Cause}
+use Rattle.refusals.specs.declared.cause.Cause.TheVariants as cause
+use Rattle.refusals.specs.Results.{◌>>=◌, needs, unless_refused}
 use Rattle.core_defs.specs.declared.bounds.ColumnBounds.{ColumnBounds}
-use Rattle.core_defs.specs.declared.cause.Cause.{Cause}
-use Rattle.core_defs.specs.declared.cause.Cause.TheVariants as cause
 use Rattle.core_defs.specs.declared.kinds.BoundKind.{BoundKind}
 use Rattle.core_defs.specs.declared.section.Section.TheVariants as sections
 use Rattle.core_defs.specs.Bounds.{bound_kind, Bound, has_value, with_word, without_word, bound_of, bound_on, bounds_on, first_bound_set, bounds_used, bounded, bounds_after, first_bounds, bounds_by, bounds_in}
@@ -19,9 +20,9 @@ use Rattle.core_defs.specs.Lines.{first_word}
 use Rattle.core_defs.specs.Number.{number_or_cause, cause_of}
 use Rattle.core_defs.specs.Section.{rank}
 use Rattle.core_defs.specs.Stated.{columns, number_in, number_or_zero, same_set, chosen}
-use Rattle.core_defs.specs.Step.{◌>>=◌, needs, choosing_bound, in_bound_set, is_sudden, are_crossed, with_bound_at, with_bound, without_bound, value_line, plain_line, bound_line}
+use Rattle.core_defs.specs.Step.{choosing_bound, in_bound_set, is_sudden, are_crossed, with_bound_at, with_bound, without_bound, value_line, plain_line, bound_line}
 use Rattle.core_defs.proofs.NameLemmas.{Changes, name_is, place_at, map_set, map_get, all_distinct}
-use Rattle.core_defs.proofs.Gathered.{Data, data_on, names_in, filed_of, Sound, judged}
+use Rattle.core_defs.proofs.Gathered.{Data, data_on, names_in, filed_of, Sound}
 use Rattle.core_defs.proofs.PairLemmas.{orelse_none}
 
 -- ---- one more line
@@ -90,13 +91,13 @@ used_filed d bound place is at =
 -- ---- a line
 
 by_bounds : (sudden crosses : Bool) (f g : Filed) → f ≡ g →
-    (if sudden then Err cause.UpperNegative else (if crosses then Err cause.BoundsCross else Ok f)) ≡ judged (if sudden then Some cause.UpperNegative else (if crosses then Some cause.BoundsCross else None)) g
+    (if sudden then Err cause.UpperNegative else (if crosses then Err cause.BoundsCross else Ok f)) ≡ unless_refused (if sudden then Some cause.UpperNegative else (if crosses then Some cause.BoundsCross else None)) g
 by_bounds true crosses f g e = refl
 by_bounds false true f g e = refl
 by_bounds false false f g e = ap Ok e
 
 at_step : (before : List TextLine) (bound : Bound) (place : ℕ) (value : ℚ) → is_used_bound (bounds_on before) bound ≡ true → place_of (columns before) bound.column ≡ Some place → value ≡ number_in bound.word →
-    with_bound_at (choosing_bound (filed_of (data_on before)) bound.set) bound.kind place value ≡ judged (bounds_fault before bound) (filed_of (with_bounds (data_on before) (bound ∷ [])))
+    with_bound_at (choosing_bound (filed_of (data_on before)) bound.set) bound.kind place value ≡ unless_refused (bounds_fault before bound) (filed_of (with_bounds (data_on before) (bound ∷ [])))
 unfolding with_bound_at
 at_step before bound place value used at is =
     let all : List ColumnBounds = map (bounds_by (bounds_on before)) (columns before) in
@@ -118,42 +119,42 @@ known_fault before bound place read = if not (is_some place) then Some cause.Col
 
 value_by : (before : List TextLine) (kind : BoundKind) (used : Option (List ℕ)) (column word : List ℕ) (place : Option ℕ) (read : Result ℚ NumFault) → is_used_bound (bounds_on before) (bound_with kind used column word) ≡ true → place_of (columns before) column ≡ place → read_number word ≡ read →
     (needs cause.ColumnUnknown place >>= λ place. number_or_cause read >>= λ value. with_bound_at (choosing_bound (filed_of (data_on before)) used) kind place value)
-    ≡ judged (known_fault before (bound_with kind used column word) place (cause_of read)) (filed_of (with_bounds (data_on before) (bound_with kind used column word ∷ [])))
+    ≡ unless_refused (known_fault before (bound_with kind used column word) place (cause_of read)) (filed_of (with_bounds (data_on before) (bound_with kind used column word ∷ [])))
 value_by before kind used column word None read is at reads = refl
 value_by before kind used column word (Some place) (Err fault) is at reads = refl
 value_by before kind used column word (Some place) (Ok value) is at reads = at_step before (bound_with kind used column word) place value is at (sym (ap number_or_zero reads))
 
 plain_by : (before : List TextLine) (kind : BoundKind) (used : Option (List ℕ)) (column : List ℕ) (place : Option ℕ) → is_used_bound (bounds_on before) (bound_with kind used column []) ≡ true → place_of (columns before) column ≡ place →
     (needs cause.ColumnUnknown place >>= λ place. with_bound_at (choosing_bound (filed_of (data_on before)) used) kind place zero_ℚ)
-    ≡ judged (known_fault before (bound_with kind used column []) place None) (filed_of (with_bounds (data_on before) (bound_with kind used column [] ∷ [])))
+    ≡ unless_refused (known_fault before (bound_with kind used column []) place None) (filed_of (with_bounds (data_on before) (bound_with kind used column [] ∷ [])))
 plain_by before kind used column None is at = refl
 plain_by before kind used column (Some place) is at = at_step before (bound_with kind used column []) place zero_ℚ is at refl
 
 -- a line of the set, or of another one
-by_set : (used : Bool) (before : List TextLine) (bound : Bound) (r : Result Filed Cause) (c : Option Cause) → is_used_bound (bounds_on before) bound ≡ used → (used ≡ true → r ≡ judged c (filed_of (with_bounds (data_on before) (bound ∷ [])))) →
-    (if used then r else Ok (choosing_bound (filed_of (data_on before)) bound.set)) ≡ judged (if not used then None else c) (filed_of (with_bounds (data_on before) (bound ∷ [])))
+by_set : (used : Bool) (before : List TextLine) (bound : Bound) (r : Result Filed Cause) (c : Option Cause) → is_used_bound (bounds_on before) bound ≡ used → (used ≡ true → r ≡ unless_refused c (filed_of (with_bounds (data_on before) (bound ∷ [])))) →
+    (if used then r else Ok (choosing_bound (filed_of (data_on before)) bound.set)) ≡ unless_refused (if not used then None else c) (filed_of (with_bounds (data_on before) (bound ∷ [])))
 by_set true before bound r c is e = e refl
 by_set false before bound r c is e = ap Ok (unused_filed (data_on before) bound is)
 
 value_set_step : (before : List TextLine) (kind : BoundKind) (used : Option (List ℕ)) (column word : List ℕ) → has_value kind ≡ true →
-    in_bound_set (filed_of (data_on before)) used (λ g. with_bound g kind column word) ≡ judged (used_bound_fault before (bound_with kind used column word)) (filed_of (with_bounds (data_on before) (bound_with kind used column word ∷ [])))
+    in_bound_set (filed_of (data_on before)) used (λ g. with_bound g kind column word) ≡ unless_refused (used_bound_fault before (bound_with kind used column word)) (filed_of (with_bounds (data_on before) (bound_with kind used column word ∷ [])))
 unfolding with_bound
 value_set_step before kind used column word valued =
     let bound : Bound = bound_with kind used column word in
     by_set (is_used_bound (bounds_on before) bound) before bound _ (if not (is_there (columns before) column) then Some cause.ColumnUnknown else (word_fault bound orelse bounds_fault before bound)) refl
     (λ is. value_by before kind used column word (place_of (columns before) column) (read_number word) is refl refl
-    ∙ ap (λ has. judged (if not (is_there (columns before) column) then Some cause.ColumnUnknown else ((if has then cause_of (read_number word) else None) orelse bounds_fault before bound)) (filed_of (with_bounds (data_on before) (bound ∷ [])))) (sym valued))
+    ∙ ap (λ has. unless_refused (if not (is_there (columns before) column) then Some cause.ColumnUnknown else ((if has then cause_of (read_number word) else None) orelse bounds_fault before bound)) (filed_of (with_bounds (data_on before) (bound ∷ [])))) (sym valued))
 
 plain_set_step : (before : List TextLine) (kind : BoundKind) (used : Option (List ℕ)) (column : List ℕ) → has_value kind ≡ false →
-    in_bound_set (filed_of (data_on before)) used (λ g. without_bound g kind column) ≡ judged (used_bound_fault before (bound_with kind used column [])) (filed_of (with_bounds (data_on before) (bound_with kind used column [] ∷ [])))
+    in_bound_set (filed_of (data_on before)) used (λ g. without_bound g kind column) ≡ unless_refused (used_bound_fault before (bound_with kind used column [])) (filed_of (with_bounds (data_on before) (bound_with kind used column [] ∷ [])))
 unfolding without_bound
 plain_set_step before kind used column plain =
     let bound : Bound = bound_with kind used column [] in
     by_set (is_used_bound (bounds_on before) bound) before bound _ (if not (is_there (columns before) column) then Some cause.ColumnUnknown else (word_fault bound orelse bounds_fault before bound)) refl
     (λ is. plain_by before kind used column (place_of (columns before) column) is refl
-    ∙ ap (λ has. judged (if not (is_there (columns before) column) then Some cause.ColumnUnknown else ((if has then cause_of (read_number []) else None) orelse bounds_fault before bound)) (filed_of (with_bounds (data_on before) (bound ∷ [])))) (sym plain))
+    ∙ ap (λ has. unless_refused (if not (is_there (columns before) column) then Some cause.ColumnUnknown else ((if has then cause_of (read_number []) else None) orelse bounds_fault before bound)) (filed_of (with_bounds (data_on before) (bound ∷ [])))) (sym plain))
 
-value_line_step : (before : List TextLine) (kind : BoundKind) (rest : List (List ℕ)) → has_value kind ≡ true → value_line (filed_of (data_on before)) kind rest ≡ judged (first_bound_fault before (with_word kind rest)) (filed_of (with_bounds (data_on before) (with_word kind rest)))
+value_line_step : (before : List TextLine) (kind : BoundKind) (rest : List (List ℕ)) → has_value kind ≡ true → value_line (filed_of (data_on before)) kind rest ≡ unless_refused (first_bound_fault before (with_word kind rest)) (filed_of (with_bounds (data_on before) (with_word kind rest)))
 unfolding value_line
 value_line_step before kind [] valued = refl
 value_line_step before kind (_ ∷ []) valued = refl
@@ -161,7 +162,7 @@ value_line_step before kind (column ∷ word ∷ []) valued = value_set_step bef
 value_line_step before kind (used ∷ column ∷ word ∷ []) valued = value_set_step before kind (Some used) column word valued
 value_line_step before kind (_ ∷ _ ∷ _ ∷ _ ∷ _) valued = refl
 
-plain_line_step : (before : List TextLine) (kind : BoundKind) (rest : List (List ℕ)) → has_value kind ≡ false → plain_line (filed_of (data_on before)) kind rest ≡ judged (first_bound_fault before (without_word kind rest)) (filed_of (with_bounds (data_on before) (without_word kind rest)))
+plain_line_step : (before : List TextLine) (kind : BoundKind) (rest : List (List ℕ)) → has_value kind ≡ false → plain_line (filed_of (data_on before)) kind rest ≡ unless_refused (first_bound_fault before (without_word kind rest)) (filed_of (with_bounds (data_on before) (without_word kind rest)))
 unfolding plain_line
 plain_line_step before kind [] plain = refl
 plain_line_step before kind (column ∷ []) plain = plain_set_step before kind None column plain
@@ -171,17 +172,17 @@ plain_line_step before kind (_ ∷ _ ∷ _ ∷ _ ∷ _) plain = refl
 
 either_line : (before : List TextLine) (kind : BoundKind) (rest : List (List ℕ)) (has : Bool) → has_value kind ≡ has →
     (if has then value_line (filed_of (data_on before)) kind rest else plain_line (filed_of (data_on before)) kind rest)
-    ≡ judged (first_bound_fault before (if has then with_word kind rest else without_word kind rest)) (filed_of (with_bounds (data_on before) (if has then with_word kind rest else without_word kind rest)))
+    ≡ unless_refused (first_bound_fault before (if has then with_word kind rest else without_word kind rest)) (filed_of (with_bounds (data_on before) (if has then with_word kind rest else without_word kind rest)))
 either_line before kind rest true is = value_line_step before kind rest is
 either_line before kind rest false is = plain_line_step before kind rest is
 
 kind_step : (before : List TextLine) (rest : List (List ℕ)) (kind : Option BoundKind) →
     (needs cause.BoundKind kind >>= λ kind. if has_value kind then value_line (filed_of (data_on before)) kind rest else plain_line (filed_of (data_on before)) kind rest)
-    ≡ judged (if not (is_some kind) then Some cause.BoundKind else first_bound_fault before (bound_of kind rest)) (filed_of (with_bounds (data_on before) (bound_of kind rest)))
+    ≡ unless_refused (if not (is_some kind) then Some cause.BoundKind else first_bound_fault before (bound_of kind rest)) (filed_of (with_bounds (data_on before) (bound_of kind rest)))
 kind_step before rest None = refl
 kind_step before rest (Some kind) = either_line before kind rest (has_value kind) refl
 
-pub bound_step : (before : List TextLine) (fields : List (List ℕ)) → bound_line (filed_of (data_on before)) fields ≡ judged (bound_fault before fields) (filed_of (with_bounds (data_on before) (bound_on fields)))
+pub bound_step : (before : List TextLine) (fields : List (List ℕ)) → bound_line (filed_of (data_on before)) fields ≡ unless_refused (bound_fault before fields) (filed_of (with_bounds (data_on before) (bound_on fields)))
 unfolding bound_line
 bound_step before [] = refl
 bound_step before (word ∷ rest) = kind_step before rest (bound_kind word)

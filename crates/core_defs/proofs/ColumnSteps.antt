@@ -10,8 +10,9 @@ use Rattle.frac128.specs.Numbers.{read_number}
 use Rattle.frac128.specs.declared.text.NumFault.{NumFault}
 use Rattle.smps_words.specs.Line.{TextLine}
 use Rattle.smps_words.specs.Names.{same_name, place_of}
-use Rattle.core_defs.specs.declared.cause.Cause.{Cause}
-use Rattle.core_defs.specs.declared.cause.Cause.TheVariants as cause
+use Rattle.refusals.specs.declared.cause.Cause.{Cause}
+use Rattle.refusals.specs.declared.cause.Cause.TheVariants as cause
+use Rattle.refusals.specs.Results.{◌>>=◌, needs, unless_refused}
 use Rattle.core_defs.specs.declared.parts.ColumnPart.{ColumnPart}
 use Rattle.core_defs.specs.declared.section.Section.TheVariants as sections
 use Rattle.core_defs.specs.Bounds.{Bound, first_bound_set, bounds_by, first_bounds}
@@ -21,11 +22,11 @@ use Rattle.core_defs.specs.Lines.{last_section}
 use Rattle.core_defs.specs.Number.{number_or_cause, cause_of}
 use Rattle.core_defs.specs.Section.{rank}
 use Rattle.core_defs.specs.Stated.{constraint_kind, free_rows, constraints, Pair, pairs_after, columns, entry_pairs, number_in, number_or_zero, value_on, with_new}
-use Rattle.core_defs.specs.Step.{◌>>=◌, needs, most_columns, most_entries, is_named, place_among, opened, with_column, count_of, with_value_at, with_value, within_limits, column_line}
+use Rattle.core_defs.specs.Step.{most_columns, most_entries, is_named, place_among, opened, with_column, count_of, with_value_at, with_value, within_limits, column_line}
 use Rattle.core_defs.specs.Terms.{with_term}
 use Rattle.core_defs.proofs.NameLemmas.{At, Missing, Distinct, name_is, same_either_way, place_at, place_missing, not_there, missing_front, distinct_last, map_missing, front, front_last, last_none, last_snoc, front_snoc, distinct_from-snoc, all_distinct}
 use Rattle.core_defs.proofs.TermLemmas.{find_at, terms_missing, terms_same, terms_none, with_at}
-use Rattle.core_defs.proofs.Gathered.{Data, data_on, free_in, rows_in, names_in, values_of, last_values, part_in, filed_of, AreRows, AreColumns, Sound, judged}
+use Rattle.core_defs.proofs.Gathered.{Data, data_on, free_in, rows_in, names_in, values_of, last_values, part_in, filed_of, AreRows, AreColumns, Sound}
 use Rattle.core_defs.proofs.LineLemmas.{then_judged}
 use Rattle.core_defs.proofs.PairLemmas.{or_later, value_on-append, other_column, pair_of, pair_changes, first_value, count_snoc, no_more, orelse_assoc, orelse_none}
 
@@ -102,7 +103,7 @@ record IsOpened (before : List TextLine) (column : List ℕ) (names : List (List
 
 column_by : (before : List TextLine) (column : List ℕ) (last : Option (List ℕ)) (same there : Bool) → Sound (data_on before) → (data_on before).bounds ≡ [] → last_of (columns before) ≡ last → is_named last column ≡ same → is_some (place_of (columns before) column) ≡ there →
     (names : List (List ℕ)) × ((if not same && there then Some cause.ColumnSplit else None) ≡ None → IsOpened before column names)
-    × ((if same then Ok (filed_of (data_on before)) else (if there then Err cause.ColumnSplit else Ok (opened (filed_of (data_on before)) column))) ≡ judged (if not same && there then Some cause.ColumnSplit else None) (filed_by (data_on before) names (Some column) (entry_pairs before)))
+    × ((if same then Ok (filed_of (data_on before)) else (if there then Err cause.ColumnSplit else Ok (opened (filed_of (data_on before)) column))) ≡ unless_refused (if not same && there then Some cause.ColumnSplit else None) (filed_by (data_on before) names (Some column) (entry_pairs before)))
 column_by before column last true there sound none at named is =
     let found : there ≡ true = last_there (columns before) last column there at named is in
     let whole = known last named at in (
@@ -124,7 +125,7 @@ column_by before column last false false sound none at named is = (
 record ColumnStep (before : List TextLine) (column : List ℕ) : Type 0 where
   pub names : List (List ℕ)
   pub opened : split_fault before column ≡ None → IsOpened before column names
-  pub step : with_column (filed_of (data_on before)) column ≡ judged (split_fault before column) (filed_by (data_on before) names (Some column) (entry_pairs before))
+  pub step : with_column (filed_of (data_on before)) column ≡ unless_refused (split_fault before column) (filed_by (data_on before) names (Some column) (entry_pairs before))
 
 column_step : (before : List TextLine) (column : List ℕ) → Sound (data_on before) → (data_on before).bounds ≡ [] → ColumnStep before column
 unfolding with_column
@@ -179,13 +180,13 @@ entry_filed d names column row word pairs place value known distinct last at rea
     ∙ ap (λ (known : List ColumnPart). record (filed_by d names (Some column) more) { parts = known; entries = count_entries (rows_in d) pairs + count_of value }) (sym (parts_kept d names column row word pairs distinct last))
     ∙ ap (λ (known : ℕ). record (filed_by d names (Some column) more) { entries = known }) (sym entries)
 
-by_twice : (value known : Option ℚ) (taken : Bool) (f g : Filed) → value ≡ known → is_some known ≡ taken → (known ≡ None → f ≡ g) → (if is_some value then Err cause.EntryTwice else Ok f) ≡ judged (if is_some known then Some cause.EntryTwice else None) g
+by_twice : (value known : Option ℚ) (taken : Bool) (f g : Filed) → value ≡ known → is_some known ≡ taken → (known ≡ None → f ≡ g) → (if is_some value then Err cause.EntryTwice else Ok f) ≡ unless_refused (if is_some known then Some cause.EntryTwice else None) g
 by_twice value None taken f g e is later = ap (λ o. if is_some o then Err cause.EntryTwice else Ok f) e ∙ ap Ok (later refl)
 by_twice value (Some x) taken f g e is later = ap (λ o. if is_some o then Err cause.EntryTwice else Ok f) e
 
 value_by : (d : Data) (names : List (List ℕ)) (column row word : List ℕ) (pairs : List Pair) (in_rows in_free : Option ℕ) (read : Result ℚ NumFault) → AreRows (free_in d) (rows_in d) → Distinct names → last_of names ≡ Some column → place_of (rows_in d) row ≡ in_rows → place_of (free_in d) row ≡ in_free → read_number word ≡ read →
     (needs cause.RowUnknown (place_among in_rows in_free) >>= λ place. number_or_cause read >>= λ value. with_value_at (filed_by d names (Some column) pairs) value place)
-    ≡ judged (if not (is_some in_rows || is_some in_free) then Some cause.RowUnknown else (cause_of read orelse (if is_some (value_on pairs column row) then Some cause.EntryTwice else None))) (filed_by d names (Some column) (pairs ++ pair_of column row word ∷ []))
+    ≡ unless_refused (if not (is_some in_rows || is_some in_free) then Some cause.RowUnknown else (cause_of read orelse (if is_some (value_on pairs column row) then Some cause.EntryTwice else None))) (filed_by d names (Some column) (pairs ++ pair_of column row word ∷ []))
 value_by d names column row word pairs None None read known distinct last is_row is_free reads = refl
 value_by d names column row word pairs None (Some place) (Err fault) known distinct last is_row is_free reads = refl
 value_by d names column row word pairs None (Some place) (Ok value) known distinct last is_row is_free reads =
@@ -195,7 +196,7 @@ value_by d names column row word pairs (Some place) in_free (Ok value) known dis
     by_twice _ (value_on pairs column row) _ _ _ (find_at 0 place (rows_in d) place row (value_on pairs column) (place_at (rows_in d) row place is_row) (omega arith)) refl (λ none. entry_filed d names column row word pairs place value known distinct last is_row reads none)
 
 value_step : (before : List TextLine) (names : List (List ℕ)) (column row word : List ℕ) (pairs : List Pair) → AreRows (free_rows before) (constraints before) → Distinct names → last_of names ≡ Some column →
-    with_value (filed_by (data_on before) names (Some column) pairs) row word ≡ judged (pair_fault before pairs (pair_of column row word)) (filed_by (data_on before) names (Some column) (pairs ++ pair_of column row word ∷ []))
+    with_value (filed_by (data_on before) names (Some column) pairs) row word ≡ unless_refused (pair_fault before pairs (pair_of column row word)) (filed_by (data_on before) names (Some column) (pairs ++ pair_of column row word ∷ []))
 unfolding with_value
 value_step before names column row word pairs known distinct last =
     value_by (data_on before) names column row word pairs (place_of (constraints before) row) (place_of (free_rows before) row) (read_number word) known distinct last refl refl refl
@@ -209,11 +210,11 @@ limit_on d = nat_lt most_columns (length (names_in d)) || nat_lt most_entries (c
 abbrev limit_of : Data → Option Cause
 limit_of d = if limit_on d then Some cause.CoreLimit else None
 
-by_limit : (over : Bool) (f : Filed) → (if over then Err cause.CoreLimit else Ok f) ≡ judged (if over then Some cause.CoreLimit else None) f
+by_limit : (over : Bool) (f : Filed) → (if over then Err cause.CoreLimit else Ok f) ≡ unless_refused (if over then Some cause.CoreLimit else None) f
 by_limit true f = refl
 by_limit false f = refl
 
-limit_step : (d : Data) → within_limits (filed_of d) ≡ judged (limit_of d) (filed_of d)
+limit_step : (d : Data) → within_limits (filed_of d) ≡ unless_refused (limit_of d) (filed_of d)
 limit_step d = by_limit (limit_on d) (filed_of d)
 
 -- ---- a line
@@ -232,12 +233,12 @@ names_distinct : (before : List TextLine) (column : List ℕ) (names : List (Lis
 names_distinct before column names opened = subst Distinct opened.is (all_distinct [] ((data_on before).named ++ column ∷ []) tt)
 
 ending : (before : List TextLine) (column : List ℕ) (names : List (List ℕ)) (more : List Pair) → IsOpened before column names →
-    within_limits (filed_by (data_on before) names (Some column) (entry_pairs before ++ more)) ≡ judged (limit_of (with_pairs before column more)) (filed_of (with_pairs before column more))
+    within_limits (filed_by (data_on before) names (Some column) (entry_pairs before ++ more)) ≡ unless_refused (limit_of (with_pairs before column more)) (filed_of (with_pairs before column more))
 ending before column names more opened = ap within_limits (paired before column names more opened) ∙ limit_step (with_pairs before column more)
 
 one_pair : (before : List TextLine) (column row word : List ℕ) → Sound (data_on before) → (data_on before).bounds ≡ [] →
     (with_column (filed_of (data_on before)) column >>= λ g. with_value g row word >>= λ h. within_limits h)
-    ≡ judged (split_fault before column orelse (pairs_fault before (entry_pairs before) (pair_of column row word ∷ []) orelse limit_of (with_pairs before column (pair_of column row word ∷ [])))) (filed_of (with_pairs before column (pair_of column row word ∷ [])))
+    ≡ unless_refused (split_fault before column orelse (pairs_fault before (entry_pairs before) (pair_of column row word ∷ []) orelse limit_of (with_pairs before column (pair_of column row word ∷ [])))) (filed_of (with_pairs before column (pair_of column row word ∷ [])))
 one_pair before column row word sound none =
     let by = column_step before column sound none in
     let pair : Pair = pair_of column row word in
@@ -247,11 +248,11 @@ one_pair before column row word sound none =
     then_judged (with_column (filed_of (data_on before)) column) (λ g. with_value g row word >>= λ h. within_limits h) (split_fault before column) ((fault orelse None) orelse limit) _ g by.step (λ fine.
     let opened = by.opened fine in
     then_judged _ (λ h. within_limits h) fault limit _ g (value_step before by.names column row word (entry_pairs before) sound.rows (names_distinct before column by.names opened) opened.last) (λ fine. ending before column by.names (pair ∷ []) opened)
-    ∙ ap (λ first. judged (first orelse limit) g) (sym (no_more fault)))
+    ∙ ap (λ first. unless_refused (first orelse limit) g) (sym (no_more fault)))
 
 two_pairs : (before : List TextLine) (column row word second other : List ℕ) → Sound (data_on before) → (data_on before).bounds ≡ [] →
     (with_column (filed_of (data_on before)) column >>= λ g. with_value g row word >>= λ h. with_value h second other >>= λ i. within_limits i)
-    ≡ judged (split_fault before column orelse (pairs_fault before (entry_pairs before) (pair_of column row word ∷ pair_of column second other ∷ []) orelse limit_of (with_pairs before column (pair_of column row word ∷ pair_of column second other ∷ [])))) (filed_of (with_pairs before column (pair_of column row word ∷ pair_of column second other ∷ [])))
+    ≡ unless_refused (split_fault before column orelse (pairs_fault before (entry_pairs before) (pair_of column row word ∷ pair_of column second other ∷ []) orelse limit_of (with_pairs before column (pair_of column row word ∷ pair_of column second other ∷ [])))) (filed_of (with_pairs before column (pair_of column row word ∷ pair_of column second other ∷ [])))
 two_pairs before column row word second other sound none =
     let by = column_step before column sound none in
     let pair : Pair = pair_of column row word in
@@ -267,9 +268,9 @@ two_pairs before column row word second other sound none =
     then_judged _ (λ h. with_value h second other >>= λ i. within_limits i) fault (later orelse limit) _ g (value_step before by.names column row word pairs sound.rows distinct opened.last) (λ fine.
     then_judged _ (λ i. within_limits i) later limit _ g (value_step before by.names column second other (pairs ++ pair ∷ []) sound.rows distinct opened.last) (λ fine.
     ap (λ all. within_limits (filed_by (data_on before) by.names (Some column) all)) (append_assoc pairs (pair ∷ []) (next ∷ [])) ∙ ending before column by.names (pair ∷ next ∷ []) opened))
-    ∙ ap (λ all. judged all g) (ap (λ last. fault orelse (last orelse limit)) (sym (no_more later)) ∙ sym (orelse_assoc fault (later orelse None) limit)))
+    ∙ ap (λ all. unless_refused all g) (ap (λ last. fault orelse (last orelse limit)) (sym (no_more later)) ∙ sym (orelse_assoc fault (later orelse None) limit)))
 
-by_marker : (marker : Bool) (r : Result Filed Cause) (c : Option Cause) (g : Filed) → r ≡ judged c g → (if marker then Err cause.IntegerMarker else r) ≡ judged (if marker then Some cause.IntegerMarker else c) g
+by_marker : (marker : Bool) (r : Result Filed Cause) (c : Option Cause) (g : Filed) → r ≡ unless_refused c g → (if marker then Err cause.IntegerMarker else r) ≡ unless_refused (if marker then Some cause.IntegerMarker else c) g
 by_marker true r c g e = refl
 by_marker false r c g e = e
 
@@ -278,7 +279,7 @@ column_data_of before [] = data_on before
 column_data_of before (column ∷ rest) = with_pairs before column (pairs_after column rest)
 
 pub column_line_step : (before : List TextLine) (line : TextLine) (fields : List (List ℕ)) → Sound (data_on before) → last_section before ≡ sections.Columns → data_on (before ++ line ∷ []) ≡ column_data_of before fields →
-    column_line (filed_of (data_on before)) fields ≡ judged (column_fault before line fields) (filed_of (column_data_of before fields))
+    column_line (filed_of (data_on before)) fields ≡ unless_refused (column_fault before line fields) (filed_of (column_data_of before fields))
 unfolding column_line
 column_line_step before line [] sound at is = refl
 column_line_step before line (_ ∷ []) sound at is = refl
@@ -287,13 +288,13 @@ column_line_step before line (column ∷ row ∷ word ∷ []) sound at is =
     let none : (data_on before).bounds ≡ [] = sound.early.no_bounds (ap (λ section. nat_lt (rank section) 6) at) in
     by_marker (same_name row (codes "'MARKER'")) _ _ (filed_of (with_pairs before column (pair_of column row word ∷ [])))
     (one_pair before column row word sound none
-    ∙ ap (λ (d : Data). judged (split_fault before column orelse (pairs_fault before (entry_pairs before) (pair_of column row word ∷ []) orelse limit_of d)) (filed_of (with_pairs before column (pair_of column row word ∷ [])))) (sym is))
+    ∙ ap (λ (d : Data). unless_refused (split_fault before column orelse (pairs_fault before (entry_pairs before) (pair_of column row word ∷ []) orelse limit_of d)) (filed_of (with_pairs before column (pair_of column row word ∷ [])))) (sym is))
 column_line_step before line (_ ∷ _ ∷ _ ∷ _ ∷ []) sound at is = refl
 column_line_step before line (column ∷ row ∷ word ∷ second ∷ other ∷ []) sound at is =
     let none : (data_on before).bounds ≡ [] = sound.early.no_bounds (ap (λ section. nat_lt (rank section) 6) at) in
     let pairs : List Pair = pair_of column row word ∷ pair_of column second other ∷ [] in
     two_pairs before column row word second other sound none
-    ∙ ap (λ (d : Data). judged (split_fault before column orelse (pairs_fault before (entry_pairs before) pairs orelse limit_of d)) (filed_of (with_pairs before column pairs))) (sym is)
+    ∙ ap (λ (d : Data). unless_refused (split_fault before column orelse (pairs_fault before (entry_pairs before) pairs orelse limit_of d)) (filed_of (with_pairs before column pairs))) (sym is)
 column_line_step before line (_ ∷ _ ∷ _ ∷ _ ∷ _ ∷ _ ∷ _) sound at is = refl
 
 -- ---- what it keeps

@@ -1,8 +1,7 @@
 -- What counts of the lines so far, and how it is filed.
-use Rattle.std.proofs.Common.{◌≡◌, ◌≤◌, ℕ, Bool, true, false, List, [], Option, Some, None, Result, Ok, Err, map, flat_map, length, nat_lt}
+use Rattle.std.proofs.Common.{◌≡◌, ◌≤◌, ℕ, Bool, true, false, List, [], Option, Some, None, map, flat_map, length, nat_lt}
 use Rattle.rationals.specs.Sparse.{Entry}
 use Rattle.smps_words.specs.Line.{TextLine}
-use Rattle.core_defs.specs.declared.cause.Cause.{Cause}
 use Rattle.core_defs.specs.declared.parts.ColumnPart.{ColumnPart}
 use Rattle.core_defs.specs.declared.section.Section.{Section}
 use Rattle.core_defs.specs.declared.section.Section.TheVariants as sections
@@ -115,8 +114,3 @@ pub record Sound (d : Data) : Type 0 where
   pub early : IsEarly d.section d.named d.pairs d.rhs_set d.rhs_pairs d.range_set d.range_pairs d.bounds
   pub objective : d.has_columns ≡ true → nat_lt 0 (length (free_in d)) ≡ true
   pub in_order : (name : List ℕ) → are_crossed (bounds_by d.bounds name) ≡ false
-
--- the line is refused, or filed so
-abbrev pub judged : Option Cause → Filed → Result Filed Cause
-judged None f = Ok f
-judged (Some cause) f = Err cause

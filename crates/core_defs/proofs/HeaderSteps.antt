@@ -2,8 +2,9 @@
 use Rattle.std.proofs.Common.{◌≡◌, ◌∙◌, ◌++◌, ◌&&◌, ◌||◌, ap, length, ℕ, Bool, true, false, List, [], ◌∷◌, Option, Some, None, Result, Ok, Err, not, refl, sym, subst, nat_lt, arith, if◌then◌else◌}
 use Rattle.std.proofs.lemmas.Bool.Decides.{nat_tests}
 use Rattle.smps_words.specs.Line.{TextLine}
-use Rattle.core_defs.specs.declared.cause.Cause.{Cause}
-use Rattle.core_defs.specs.declared.cause.Cause.TheVariants as cause
+use Rattle.refusals.specs.declared.cause.Cause.{Cause}
+use Rattle.refusals.specs.declared.cause.Cause.TheVariants as cause
+use Rattle.refusals.specs.Results.{◌>>=◌, needs, unless_refused}
 use Rattle.core_defs.specs.declared.section.Section.{Section}
 use Rattle.core_defs.specs.declared.section.Section.TheVariants as sections
 use Rattle.core_defs.specs.Fault.{section_fault}
@@ -11,8 +12,8 @@ use Rattle.core_defs.specs.Filed.{Filed}
 use Rattle.core_defs.specs.Lines.{first_word, last_section, has_section}
 use Rattle.core_defs.specs.Section.{section_of, rank, same_section, is_end}
 use Rattle.core_defs.specs.Stated.{free_rows}
-use Rattle.core_defs.specs.Step.{◌>>=◌, needs, enter, header_word, header_line}
-use Rattle.core_defs.proofs.Gathered.{Data, data_on, free_in, filed_of, Sound, judged}
+use Rattle.core_defs.specs.Step.{enter, header_word, header_line}
+use Rattle.core_defs.proofs.Gathered.{Data, data_on, free_in, filed_of, Sound}
 use Rattle.core_defs.proofs.LineLemmas.{or_false, header_text, header_data}
 
 -- the section and whether COLUMNS was there
@@ -23,14 +24,14 @@ or_true : (b : Bool) → (b || true) ≡ true
 or_true true = refl
 or_true false = refl
 
-by_objective : (there : Bool) (f g : Filed) → f ≡ g → (if there then Ok f else Err cause.NoObjective) ≡ judged (if not there then Some cause.NoObjective else None) g
+by_objective : (there : Bool) (f g : Filed) → f ≡ g → (if there then Ok f else Err cause.NoObjective) ≡ unless_refused (if not there then Some cause.NoObjective else None) g
 by_objective true f g e = ap Ok e
 by_objective false f g e = refl
 
 plain_enter : (d : Data) (next : Section) → record (filed_of d) { section = next } ≡ record (filed_of d) { section = next; has_columns = d.has_columns || false }
 plain_enter d next = ap (λ has. record (filed_of d) { section = next; has_columns = has }) (sym (or_false d.has_columns))
 
-enter_step : (d : Data) (next : Section) → enter (filed_of d) next ≡ judged (if same_section next sections.Columns && not (nat_lt 0 (length (free_in d))) then Some cause.NoObjective else None) (filed_of (entered d next))
+enter_step : (d : Data) (next : Section) → enter (filed_of d) next ≡ unless_refused (if same_section next sections.Columns && not (nat_lt 0 (length (free_in d))) then Some cause.NoObjective else None) (filed_of (entered d next))
 enter_step d sections.Start = ap Ok (plain_enter d sections.Start)
 enter_step d sections.Name = ap Ok (plain_enter d sections.Name)
 enter_step d sections.Rows = ap Ok (plain_enter d sections.Rows)
@@ -40,19 +41,19 @@ enter_step d sections.Ranges = ap Ok (plain_enter d sections.Ranges)
 enter_step d sections.Bounds = ap Ok (plain_enter d sections.Bounds)
 enter_step d sections.End = ap Ok (plain_enter d sections.End)
 
-by_order : (after : Bool) (r : Result Filed Cause) (c : Option Cause) (g : Filed) → r ≡ judged c g → (if after then r else Err cause.SectionOrder) ≡ judged (if not after then Some cause.SectionOrder else c) g
+by_order : (after : Bool) (r : Result Filed Cause) (c : Option Cause) (g : Filed) → r ≡ unless_refused c g → (if after then r else Err cause.SectionOrder) ≡ unless_refused (if not after then Some cause.SectionOrder else c) g
 by_order true r c g e = e
 by_order false r c g e = refl
 
 word_step : (before : List TextLine) (next : Option Section) (g : Filed) → ((known : Section) → next ≡ Some known → filed_of (entered (data_on before) known) ≡ g) →
-    (needs cause.SectionUnknown next >>= λ known. if nat_lt (rank (last_section before)) (rank known) then enter (filed_of (data_on before)) known else Err cause.SectionOrder) ≡ judged (section_fault before next) g
+    (needs cause.SectionUnknown next >>= λ known. if nat_lt (rank (last_section before)) (rank known) then enter (filed_of (data_on before)) known else Err cause.SectionOrder) ≡ unless_refused (section_fault before next) g
 word_step before None g is = refl
 word_step before (Some next) g is =
     by_order (nat_lt (rank (last_section before)) (rank next)) (enter (filed_of (data_on before)) next) _ g
-    (enter_step (data_on before) next ∙ ap (judged (if same_section next sections.Columns && not (nat_lt 0 (length (free_rows before))) then Some cause.NoObjective else None)) (is next refl))
+    (enter_step (data_on before) next ∙ ap (unless_refused (if same_section next sections.Columns && not (nat_lt 0 (length (free_rows before))) then Some cause.NoObjective else None)) (is next refl))
 
 pub header_step : (before : List TextLine) (number : ℕ) (fields : List (List ℕ)) → is_end (last_section before) ≡ false →
-    header_line (filed_of (data_on before)) fields ≡ judged (section_fault before (section_of (first_word fields))) (filed_of (data_on (before ++ header_text number fields ∷ [])))
+    header_line (filed_of (data_on before)) fields ≡ unless_refused (section_fault before (section_of (first_word fields))) (filed_of (data_on (before ++ header_text number fields ∷ [])))
 unfolding header_word
 header_step before number [] open_ = refl
 header_step before number (word ∷ rest) open_ =

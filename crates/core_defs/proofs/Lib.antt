@@ -9,7 +9,7 @@ pub mod SetSteps
 pub mod BoundSteps
 pub mod HeaderSteps
 pub mod Steps
-pub mod Judged
+pub mod Ended
 pub mod FieldLemmas
 pub mod CoreLemmas
 pub mod MeansLemmas

@@ -3,7 +3,8 @@ use Rattle.std.proofs.Common.{◌≡◌, ◌∙◌, ◌++◌, ◌&&◌, ◌||◌
 use Rattle.std.specs.Option.{unwrap_or}
 use Rattle.std.proofs.lemmas.Grind.{flat_map-append}
 use Rattle.smps_words.specs.Line.{TextLine}
-use Rattle.core_defs.specs.declared.cause.Cause.{Cause}
+use Rattle.refusals.specs.declared.cause.Cause.{Cause}
+use Rattle.refusals.specs.Results.{◌>>=◌, unless_refused}
 use Rattle.core_defs.specs.declared.section.Section.{Section}
 use Rattle.core_defs.specs.declared.section.Section.TheVariants as sections
 use Rattle.core_defs.specs.Bounds.{bound_on}
@@ -12,15 +13,14 @@ use Rattle.core_defs.specs.Filed.{Filed}
 use Rattle.core_defs.specs.Lines.{first_word, section_behind, section_after, last_section, has_after, has_section, fields_in, data_in, data_of}
 use Rattle.core_defs.specs.Section.{section_of, same_section, is_end}
 use Rattle.core_defs.specs.Stated.{column_name, column_pairs, set_on, first_set, chosen, pairs_of_set, pairs_used}
-use Rattle.core_defs.specs.Step.{◌>>=◌}
-use Rattle.core_defs.proofs.Gathered.{Data, data_on, judged}
+use Rattle.core_defs.proofs.Gathered.{Data, data_on}
 
 -- a line adds its part
 pub flat_snoc : {A X : Type 0} (part : A → List X) (lines : List A) (line : A) → flat_map part (lines ++ line ∷ []) ≡ flat_map part lines ++ part line
 flat_snoc part lines line = flat_map-append part lines (line ∷ []) ∙ ap (λ last. flat_map part lines ++ last) (append-nil (part line))
 
 -- one step after another is refused where the first is, or else the second
-pub then_judged : (r : Result Filed Cause) (k : Filed → Result Filed Cause) (first second : Option Cause) (f g : Filed) → r ≡ judged first f → (first ≡ None → k f ≡ judged second g) → (r >>= k) ≡ judged (first orelse second) g
+pub then_judged : (r : Result Filed Cause) (k : Filed → Result Filed Cause) (first second : Option Cause) (f g : Filed) → r ≡ unless_refused first f → (first ≡ None → k f ≡ unless_refused second g) → (r >>= k) ≡ unless_refused (first orelse second) g
 then_judged r k None second f g e later = ap (λ known. known >>= k) e ∙ later refl
 then_judged r k (Some cause) second f g e later = ap (λ known. known >>= k) e
 

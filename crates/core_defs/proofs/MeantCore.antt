@@ -21,7 +21,6 @@ use Rattle.core_defs.specs.Stated.{name_of_set, use_of, free_with, free_name, fr
 use Rattle.core_defs.proofs.CoreLemmas.{core_is}
 use Rattle.core_defs.proofs.FieldLemmas.{row_fields, column_fields}
 use Rattle.core_defs.proofs.Gathered.{Data, data_on, filed_of, Sound}
-use Rattle.core_defs.proofs.Judged.{data_behind, IsFiled}
 use Rattle.core_defs.proofs.MeansLemmas.{means}
 
 -- ---- a core is made of its parts
@@ -117,10 +116,8 @@ with_objective : (f : Filed) (free : List (List ℕ)) → f.free ≡ free → na
 with_objective f [] is some few keeps = absurd (cc)
 with_objective f (objective ∷ skipped) is some few keeps = core_made f objective skipped is (omega (arith, few)) keeps (omega (arith, keeps.few_rows)) (omega (arith, keeps.few_columns))
 
-pub meaning_of : (lines : List TextLine) (f : Filed) → AllByRecursion HasFields lines → IsFiled lines f → length (free_rows lines) < 2 ^ 63 → (core : Core) × Means lines core
-meaning_of lines f fields filed few =
-    let same : data_on lines ≡ data_on filed.read = ap data_on filed.split ∙ data_behind filed.read filed.rest filed.end in
-    let sound : Sound (data_on lines) = subst Sound (sym same) filed.sound in
-    let whole : has_section sections.Columns lines ≡ true = ap (λ (d : Data). d.has_columns) same ∙ filed.whole in
-    let made = with_objective (filed_of (data_on lines)) (free_rows lines) refl (sound.objective whole) few (core_is (data_on lines) sound (row_fields lines fields) (column_fields lines fields)) in
+pub meaning_of : (lines : List TextLine) → AllByRecursion HasFields lines → Sound (data_on lines) → has_section sections.Columns lines ≡ true
+    → length (free_rows lines) < 2 ^ 63 → (core : Core) × Means lines core
+meaning_of lines fields sound columns few =
+    let made = with_objective (filed_of (data_on lines)) (free_rows lines) refl (sound.objective columns) few (core_is (data_on lines) sound (row_fields lines fields) (column_fields lines fields)) in
     (made.0, means lines made.0 sound made.1)

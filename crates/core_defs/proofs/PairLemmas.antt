@@ -4,7 +4,7 @@ use Rattle.rationals.specs.Rational.{ℚ}
 use Rattle.frac128.specs.Numbers.{read_number}
 use Rattle.smps_words.specs.Names.{same_name}
 use Rattle.smps_words.proofs.NumberedNames.{same_name_refl}
-use Rattle.core_defs.specs.declared.cause.Cause.{Cause}
+use Rattle.refusals.specs.declared.cause.Cause.{Cause}
 use Rattle.core_defs.specs.Fault.{◌orelse◌, counts, count_entries}
 use Rattle.core_defs.specs.Stated.{Pair, number_in, number_or_zero, value_on}
 use Rattle.core_defs.proofs.NameLemmas.{Changes}

@@ -5,8 +5,9 @@ use Rattle.std.proofs.lemmas.List.{map-append}
 use Rattle.smps_words.specs.Line.{TextLine}
 use Rattle.smps_words.specs.Names.{place_of}
 use Rattle.smps_words.specs.declared.row_kind.RowKind.{RowKind}
-use Rattle.core_defs.specs.declared.cause.Cause.{Cause}
-use Rattle.core_defs.specs.declared.cause.Cause.TheVariants as cause
+use Rattle.refusals.specs.declared.cause.Cause.{Cause}
+use Rattle.refusals.specs.declared.cause.Cause.TheVariants as cause
+use Rattle.refusals.specs.Results.{◌>>=◌, needs, unless_refused}
 use Rattle.core_defs.specs.declared.kinds.RowUse.{RowUse}
 use Rattle.core_defs.specs.declared.kinds.RowUse.TheVariants as uses
 use Rattle.core_defs.specs.declared.section.Section.TheVariants as sections
@@ -16,9 +17,9 @@ use Rattle.core_defs.specs.Filed.{Filed}
 use Rattle.core_defs.specs.Lines.{last_section, data_of}
 use Rattle.core_defs.specs.Section.{rank}
 use Rattle.core_defs.specs.Stated.{use_of, free_with, constraint_with, kind_with, free_name, constraint_name, constraint_kind, free_rows, constraints, Pair, value_on}
-use Rattle.core_defs.specs.Step.{◌>>=◌, needs, most_rows, place_among, row_at, with_free, with_row, with_use, row_of, row_line}
+use Rattle.core_defs.specs.Step.{most_rows, place_among, row_at, with_free, with_row, with_use, row_of, row_line}
 use Rattle.core_defs.proofs.NameLemmas.{At, Missing, not_there, missing_at, missing_snoc, distinct_snoc, at_snoc, name_is, same_either_way}
-use Rattle.core_defs.proofs.Gathered.{Data, data_on, free_in, rows_in, filed_of, AreRows, Sound, judged}
+use Rattle.core_defs.proofs.Gathered.{Data, data_on, free_in, rows_in, filed_of, AreRows, Sound}
 use Rattle.core_defs.proofs.LineLemmas.{flat_snoc}
 
 -- ---- a known name
@@ -120,29 +121,29 @@ row_filed d word name kind only is =
 
 -- ---- a line
 
-by_taken : (taken : Bool) (r : Result Filed Cause) (c : Option Cause) (g : Filed) → r ≡ judged c g → (if taken then Err cause.RowTwice else r) ≡ judged (if taken then Some cause.RowTwice else c) g
+by_taken : (taken : Bool) (r : Result Filed Cause) (c : Option Cause) (g : Filed) → r ≡ unless_refused c g → (if taken then Err cause.RowTwice else r) ≡ unless_refused (if taken then Some cause.RowTwice else c) g
 by_taken true r c g e = refl
 by_taken false r c g e = e
 
-by_room : (room : Bool) (f g : Filed) → f ≡ g → (if room then Ok f else Err cause.CoreLimit) ≡ judged (if room then None else Some cause.CoreLimit) g
+by_room : (room : Bool) (f g : Filed) → f ≡ g → (if room then Ok f else Err cause.CoreLimit) ≡ unless_refused (if room then None else Some cause.CoreLimit) g
 by_room true f g e = ap Ok e
 by_room false f g e = refl
 
 use_step : (before : List TextLine) (word name : List ℕ) (purpose : RowUse) → OnlyRows (data_on before) → use_of word ≡ Some purpose →
-    with_use (filed_of (data_on before)) name purpose ≡ judged (use_fault before purpose) (filed_of (with_line (data_on before) word name))
+    with_use (filed_of (data_on before)) name purpose ≡ unless_refused (use_fault before purpose) (filed_of (with_line (data_on before) word name))
 use_step before word name uses.Free only is = ap Ok (free_filed (data_on before) word name only is)
 use_step before word name (uses.Constraint kind) only is = by_room (nat_lt (length (constraints before)) most_rows) _ _ (row_filed (data_on before) word name kind only is)
 
 kind_step : (before : List TextLine) (word name : List ℕ) (u : Option RowUse) → OnlyRows (data_on before) → use_of word ≡ u →
     (needs cause.RowKind u >>= λ purpose. if is_some (row_at (free_rows before) (constraints before) name) then Err cause.RowTwice else with_use (filed_of (data_on before)) name purpose)
-    ≡ judged (kind_fault before name u) (filed_of (with_line (data_on before) word name))
+    ≡ unless_refused (kind_fault before name u) (filed_of (with_line (data_on before) word name))
 kind_step before word name None only is = refl
 kind_step before word name (Some purpose) only is =
     ap (λ taken. if taken then Err cause.RowTwice else with_use (filed_of (data_on before)) name purpose) (among_some (place_of (constraints before) name) (place_of (free_rows before) name))
     ∙ by_taken (is_row before name) (with_use (filed_of (data_on before)) name purpose) (use_fault before purpose) (filed_of (with_line (data_on before) word name)) (use_step before word name purpose only is)
 
 pub row_step : (before : List TextLine) (fields : List (List ℕ)) → Sound (data_on before) → last_section before ≡ sections.Rows →
-    row_line (filed_of (data_on before)) fields ≡ judged (row_fault before fields) (filed_of (record (data_on before) { rows = data_of sections.Rows before ++ fields ∷ [] }))
+    row_line (filed_of (data_on before)) fields ≡ unless_refused (row_fault before fields) (filed_of (record (data_on before) { rows = data_of sections.Rows before ++ fields ∷ [] }))
 unfolding row_line row_of
 row_step before [] sound at = refl
 row_step before (_ ∷ []) sound at = refl

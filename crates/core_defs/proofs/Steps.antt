@@ -1,6 +1,7 @@
 -- A line is filed, or refused as its fault says.
 use Rattle.std.proofs.Common.{◌≡◌, ◌∙◌, ◌++◌, ap, ℕ, Bool, true, false, List, [], ◌∷◌, None, refl, sym, subst, append-nil, arith}
 use Rattle.smps_words.specs.Line.{TextLine}
+use Rattle.refusals.specs.Results.{unless_refused}
 use Rattle.core_defs.specs.declared.section.Section.{Section}
 use Rattle.core_defs.specs.declared.section.Section.TheVariants as sections
 use Rattle.core_defs.specs.Fault.{row_fault, rhs_fault, range_fault, bound_fault, data_fault, fault}
@@ -8,7 +9,7 @@ use Rattle.core_defs.specs.Filed.{nothing_filed}
 use Rattle.core_defs.specs.Lines.{last_section}
 use Rattle.core_defs.specs.Section.{is_end}
 use Rattle.core_defs.specs.Step.{data_line, step}
-use Rattle.core_defs.proofs.Gathered.{Data, data_on, filed_of, Sound, judged}
+use Rattle.core_defs.proofs.Gathered.{Data, data_on, filed_of, Sound}
 use Rattle.core_defs.proofs.LineLemmas.{data_text, row_data, column_data, rhs_data, range_data, bound_data}
 use Rattle.core_defs.proofs.RowSteps.{row_step, row_sound}
 use Rattle.core_defs.proofs.ColumnSteps.{column_data_of, column_line_step, column_sound}
@@ -24,16 +25,16 @@ column_data_is before number [] at = column_data before number [] at ∙ none (d
 column_data_is before number (column ∷ rest) at = column_data before number (column ∷ rest) at
 
 data_step : (before : List TextLine) (number : ℕ) (fields : List (List ℕ)) (section : Section) → Sound (data_on before) → last_section before ≡ section →
-    data_line section (filed_of (data_on before)) fields ≡ judged (data_fault section before (data_text number fields)) (filed_of (data_on (before ++ data_text number fields ∷ [])))
+    data_line section (filed_of (data_on before)) fields ≡ unless_refused (data_fault section before (data_text number fields)) (filed_of (data_on (before ++ data_text number fields ∷ [])))
 data_step before number fields sections.Start sound at = refl
 data_step before number fields sections.Name sound at = refl
-data_step before number fields sections.Rows sound at = row_step before fields sound at ∙ ap (λ (d : Data). judged (row_fault before fields) (filed_of d)) (sym (row_data before number fields at))
+data_step before number fields sections.Rows sound at = row_step before fields sound at ∙ ap (λ (d : Data). unless_refused (row_fault before fields) (filed_of d)) (sym (row_data before number fields at))
 data_step before number fields sections.Columns sound at =
     let is = column_data_is before number fields at in
-    column_line_step before (data_text number fields) fields sound at is ∙ ap (λ (d : Data). judged (data_fault sections.Columns before (data_text number fields)) (filed_of d)) (sym is)
-data_step before number fields sections.Rhs sound at = rhs_line_step before fields sound ∙ ap (λ (d : Data). judged (rhs_fault before fields) (filed_of d)) (sym (rhs_data before number fields at))
-data_step before number fields sections.Ranges sound at = range_line_step before fields sound ∙ ap (λ (d : Data). judged (range_fault before fields) (filed_of d)) (sym (range_data before number fields at))
-data_step before number fields sections.Bounds sound at = bound_step before fields ∙ ap (λ (d : Data). judged (bound_fault before fields) (filed_of d)) (sym (bound_data before number fields at))
+    column_line_step before (data_text number fields) fields sound at is ∙ ap (λ (d : Data). unless_refused (data_fault sections.Columns before (data_text number fields)) (filed_of d)) (sym is)
+data_step before number fields sections.Rhs sound at = rhs_line_step before fields sound ∙ ap (λ (d : Data). unless_refused (rhs_fault before fields) (filed_of d)) (sym (rhs_data before number fields at))
+data_step before number fields sections.Ranges sound at = range_line_step before fields sound ∙ ap (λ (d : Data). unless_refused (range_fault before fields) (filed_of d)) (sym (range_data before number fields at))
+data_step before number fields sections.Bounds sound at = bound_step before fields ∙ ap (λ (d : Data). unless_refused (bound_fault before fields) (filed_of d)) (sym (bound_data before number fields at))
 data_step before number fields sections.End sound at = refl
 
 data_sound : (before : List TextLine) (number : ℕ) (fields : List (List ℕ)) (section : Section) → Sound (data_on before) → last_section before ≡ section → data_fault section before (data_text number fields) ≡ None → Sound (data_on (before ++ data_text number fields ∷ []))
@@ -52,7 +53,7 @@ abbrev line_with : ℕ → Bool → List (List ℕ) → TextLine
 line_with number header fields = record { number = number; header = header; fields = fields }
 
 step_by : (before : List TextLine) (number : ℕ) (header : Bool) (fields : List (List ℕ)) → Sound (data_on before) → is_end (last_section before) ≡ false →
-    step (filed_of (data_on before)) (line_with number header fields) ≡ judged (fault before (line_with number header fields)) (filed_of (data_on (before ++ line_with number header fields ∷ [])))
+    step (filed_of (data_on before)) (line_with number header fields) ≡ unless_refused (fault before (line_with number header fields)) (filed_of (data_on (before ++ line_with number header fields ∷ [])))
 step_by before number true fields sound open_ = header_step before number fields open_
 step_by before number false fields sound open_ = data_step before number fields (last_section before) sound refl
 
@@ -61,7 +62,7 @@ sound_by before number true fields sound open_ fine = header_sound before number
 sound_by before number false fields sound open_ fine = data_sound before number fields (last_section before) sound refl fine
 
 -- one more line
-pub step_is : (before : List TextLine) (line : TextLine) → Sound (data_on before) → is_end (last_section before) ≡ false → step (filed_of (data_on before)) line ≡ judged (fault before line) (filed_of (data_on (before ++ line ∷ [])))
+pub step_is : (before : List TextLine) (line : TextLine) → Sound (data_on before) → is_end (last_section before) ≡ false → step (filed_of (data_on before)) line ≡ unless_refused (fault before line) (filed_of (data_on (before ++ line ∷ [])))
 step_is before line sound open_ = step_by before line.number line.header line.fields sound open_
 
 pub step_sound : (before : List TextLine) (line : TextLine) → Sound (data_on before) → is_end (last_section before) ≡ false → fault before line ≡ None → Sound (data_on (before ++ line ∷ []))

@@ -1,15 +1,16 @@
 -- Which line of a core file is refused, and for which cause, by the lines before it.
 use Rattle.std.specs.Prelude.{◌≡◌, ℕ, ◌+◌, Bool, true, false, List, [], ◌∷◌, ◌++◌, Option, Some, None, Result, Ok}
-use Rattle.std.specs.Prelude.{Err, ◌&&◌, ◌||◌, ◌⊎◌}
+use Rattle.std.specs.Prelude.{Err, ◌&&◌, ◌||◌}
 use Rattle.std.specs.Prelude.{not, is_some, nat_lt, length, codes, if◌then◌else◌}
 use Rattle.rationals.specs.Forms.{is_zero}
 use Rattle.smps_words.specs.Line.{TextLine, reading_of}
 use Rattle.smps_words.specs.Names.{same_name, place_of}
-use Rattle.core_defs.specs.declared.cause.Cause.{Cause}
-use Rattle.core_defs.specs.declared.cause.Cause.TheVariants as cause
-use Rattle.core_defs.specs.declared.cause.ReadFail.{ReadFail}
-use Rattle.core_defs.specs.declared.cause.ReadFail.TheVariants as fail
-use Rattle.core_defs.specs.declared.cause.Refusal.{Refusal}
+use Rattle.refusals.specs.declared.cause.Cause.{Cause}
+use Rattle.refusals.specs.declared.cause.Cause.TheVariants as cause
+use Rattle.refusals.specs.declared.cause.ReadFail.{ReadFail}
+use Rattle.refusals.specs.declared.cause.ReadFail.TheVariants as fail
+use Rattle.refusals.specs.Results.{unless_refused}
+use Rattle.reader_defs.specs.Reader.{Reader, IsWhole, IsFault}
 use Rattle.core_defs.specs.declared.kinds.RowUse.{RowUse}
 use Rattle.core_defs.specs.declared.kinds.RowUse.TheVariants as uses
 use Rattle.core_defs.specs.declared.section.Section.{Section}
@@ -204,52 +205,26 @@ fault before line = if line.header then section_fault before (section_of (first_
 
 -- ---- texts
 
--- none of the lines is refused; some lines stand before them
-abbrev pub NoFaultBehind : List TextLine → List TextLine → Type 0
-NoFaultBehind before [] = Unit {0}
-NoFaultBehind before (line ∷ lines) = (fault before line ≡ None) × NoFaultBehind (before ++ line ∷ []) lines
-
-abbrev pub NoFault : List TextLine → Type 0
-NoFault lines = NoFaultBehind [] lines
+-- A core file as all of its lines have it: those up to ENDATA, among which COLUMNS must be; if it isn't, the line behind the last is named.
+abbrev pub core_file : Reader (List TextLine) (List TextLine)
+core_file = record {
+  stated = λ lines. lines;
+  step = λ before line. unless_refused (fault before line) (before ++ line ∷ []);
+  is_end = λ lines. is_end (last_section lines);
+  finish = λ end_line number lines. if has_section sections.Columns lines then Ok lines
+      else Err (record { line = end_line; cause = cause.SectionMissing });
+}
 
 -- The lines up to ENDATA are without fault, and neither COLUMNS nor ENDATA is missing.
 pub record IsCoreFile (lines : List TextLine) : Type 0 where
+  pub number : ℕ
   pub read : List TextLine
-  pub rest : List TextLine
-  pub split : lines ≡ read ++ rest
-  pub fit : NoFault read
-  pub end : is_end (last_section read) ≡ true
-  pub whole : has_section sections.Columns read ≡ true
-
--- the first line that is refused, with its cause; ENDATA wasn't there
-pub record IsFirstFault (lines : List TextLine) (refusal : Refusal) : Type 0 where
-  pub before : List TextLine
-  pub line : TextLine
-  pub after : List TextLine
-  pub split : lines ≡ before ++ line ∷ after
-  pub fit : NoFault before
-  pub open_ : is_end (last_section before) ≡ false
-  pub cause_is : fault before line ≡ Some refusal.cause
-  pub number_is : refusal.line ≡ line.number
-
--- no line is refused up to ENDATA or the end, and COLUMNS or ENDATA is missing: the line behind the last is named
-pub record IsMissing (lines : List TextLine) (end_line : ℕ) (refusal : Refusal) : Type 0 where
-  pub read : List TextLine
-  pub rest : List TextLine
-  pub split : lines ≡ read ++ rest
-  pub fit : NoFault read
-  pub missing : ((is_end (last_section read) ≡ true) × (has_section sections.Columns read ≡ false))
-      ⊎ ((is_end (last_section read) ≡ false) × (rest ≡ []))
-  pub cause_is : refusal.cause ≡ cause.SectionMissing
-  pub number_is : refusal.line ≡ end_line
-
--- The refusal is that of the first line that is refused, or of the line behind the last where a section is missing.
-abbrev pub IsFault : List TextLine → ℕ → Refusal → Type 0
-IsFault lines end_line refusal = IsFirstFault lines refusal ⊎ IsMissing lines end_line refusal
+  pub whole : IsWhole core_file lines number read
+  pub columns : has_section sections.Columns read ≡ true
 
 -- A text is read exactly where it is a core file; else its fault is named.
 abbrev pub IsReadOrRefused : {X : Type 0} → List ℕ → Result X ReadFail → Type 0
 IsReadOrRefused text (Ok _) = IsCoreFile (reading_of 0 text).lines
 IsReadOrRefused text (Err fail.Memory) = Unit {0}
 IsReadOrRefused text (Err (fail.Refused refusal)) = (IsCoreFile (reading_of 0 text).lines → ⊥)
-    × IsFault (reading_of 0 text).lines (reading_of 0 text).end_line refusal
+    × IsFault core_file (reading_of 0 text).lines (reading_of 0 text).end_line refusal

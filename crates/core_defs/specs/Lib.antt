@@ -1,7 +1,6 @@
 pub mod Section
 pub mod Number
 pub mod Terms
-pub mod Cause
 pub mod Lines
 pub mod Stated
 pub mod Bounds

@@ -4,8 +4,8 @@ use Rattle.rationals.specs.Rational.{ℚ}
 use Rattle.frac128.specs.Numbers.{read_number}
 use Rattle.frac128.specs.declared.text.NumFault.{NumFault}
 use Rattle.frac128.specs.declared.text.NumFault.TheVariants as faults
-use Rattle.core_defs.specs.declared.cause.Cause.{Cause}
-use Rattle.core_defs.specs.declared.cause.Cause.TheVariants as cause
+use Rattle.refusals.specs.declared.cause.Cause.{Cause}
+use Rattle.refusals.specs.declared.cause.Cause.TheVariants as cause
 
 abbrev pub number_cause : NumFault → Cause
 number_cause faults.Bad = cause.NumberBad

@@ -7,10 +7,12 @@ use Rattle.rationals.specs.Forms.{find, is_zero}
 use Rattle.smps_words.specs.Line.{TextLine, reading_of}
 use Rattle.smps_words.specs.Names.{same_name, place_of}
 use Rattle.smps_words.specs.declared.row_kind.RowKind.{RowKind}
+use Rattle.refusals.specs.declared.cause.Cause.{Cause}
+use Rattle.refusals.specs.declared.cause.Cause.TheVariants as cause
+use Rattle.refusals.specs.declared.cause.Refusal.{Refusal}
+use Rattle.refusals.specs.Results.{◌>>=◌, needs}
+use Rattle.reader_defs.specs.Reader.{Reader, stated_by, read_from}
 use Rattle.core_defs.specs.declared.bounds.ColumnBounds.{ColumnBounds}
-use Rattle.core_defs.specs.declared.cause.Cause.{Cause}
-use Rattle.core_defs.specs.declared.cause.Cause.TheVariants as cause
-use Rattle.core_defs.specs.declared.cause.Refusal.{Refusal}
 use Rattle.core_defs.specs.declared.kinds.BoundKind.{BoundKind}
 use Rattle.core_defs.specs.declared.kinds.BoundKind.TheVariants as bounds
 use Rattle.core_defs.specs.declared.kinds.RowUse.{RowUse}
@@ -25,16 +27,6 @@ use Rattle.core_defs.specs.Number.{number_of, is_negative}
 use Rattle.core_defs.specs.Section.{section_of, rank, is_end}
 use Rattle.core_defs.specs.Stated.{use_of, same_set, chosen}
 use Rattle.core_defs.specs.Terms.{with_term}
-
-infixl 10 ◌>>=◌
-abbrev pub ◌>>=◌ : {A B : Type 0} → Result A Cause → (A → Result B Cause) → Result B Cause
-(Ok x) >>= f = f x
-(Err e) >>= f = Err e
-
--- what has to be there
-abbrev pub needs : {A : Type 0} → Cause → Option A → Result A Cause
-needs cause None = Err cause
-needs cause (Some x) = Ok x
 
 -- the limits of a core
 abbrev pub most_rows : ℕ
@@ -312,20 +304,16 @@ data_line sections.End f fields = Err cause.SectionOrder
 abbrev pub step : Filed → TextLine → Result Filed Cause
 step f line = if line.header then header_line f line.fields else data_line f.section f line.fields
 
--- the first line that is refused is named
-abbrev pub on_line : ℕ → Result Filed Cause → (Filed → Result Filed Refusal) → Result Filed Refusal
-on_line number (Err cause) next = Err (record { line = number; cause = cause })
-on_line number (Ok f) next = next f
+-- ---- the file
 
 -- ENDATA is there; so must COLUMNS be
-abbrev pub finish : ℕ → Filed → Result Filed Refusal
-finish end_line f = if f.has_columns then Ok f else Err (record { line = end_line; cause = cause.SectionMissing })
+abbrev pub finish : ℕ → ℕ → Filed → Result Filed Refusal
+finish end_line number f = if f.has_columns then Ok f else Err (record { line = end_line; cause = cause.SectionMissing })
 
--- the lines up to ENDATA, or the first line that is refused
-abbrev pub read_from : ℕ → Filed → List TextLine → Result Filed Refusal
-read_from end_line f [] = Err (record { line = end_line; cause = cause.SectionMissing })
-read_from end_line f (line ∷ lines) = on_line line.number (step f line) (λ g. if is_end g.section then finish end_line g
-    else read_from end_line g lines)
+-- a core file as its lines are filed, one after the other
+abbrev pub filed_file : Reader Filed Filed
+filed_file = record { stated = stated_by step nothing_filed; step = step; is_end = λ f. is_end f.section; finish = finish }
 
+-- what filing a text line by line gives
 abbrev pub filed_text : List ℕ → Result Filed Refusal
-filed_text text = read_from (reading_of 0 text).end_line nothing_filed (reading_of 0 text).lines
+filed_text text = read_from filed_file (reading_of 0 text).end_line nothing_filed (reading_of 0 text).lines

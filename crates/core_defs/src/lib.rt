@@ -2,7 +2,6 @@
 #![tactic(auto)]
 
 mod bounds;
-mod cause;
 mod kinds;
 mod laws;
 mod parts;
@@ -11,10 +10,10 @@ mod program;
 mod section;
 
 pub use bounds::ColumnBounds;
-pub use cause::{Cause, ReadFail, Refusal};
 pub use kinds::{BoundKind, RowUse};
 pub use laws::core_file_laws;
 pub use parts::{ColumnDef, ColumnPart, RowDef};
 pub use place::RowPlace;
 pub use program::Core;
+pub use refusals::{Cause, ReadFail, Refusal};
 pub use section::Section;

@@ -2,7 +2,7 @@
 use Rattle.std.proofs.Common.{◌≡◌, ℕ, ◌+◌, ◌++◌, List, [], ◌∷◌, length, length-append, true, false, Option, Some, None, Result, Ok, Err, OnOk, sym, subst, ap, ap₂, ◌∙◌, arith}
 use Rattle.std.proofs.lemmas.List.{length-map, map-append}
 use Rattle.rationals.specs.Rational.{ℚ, one_ℚ, ◌-ℚ◌}
-use Rattle.core_defs.specs.declared.cause.Cause.TheVariants.{ScenarioLimit}
+use Rattle.refusals.specs.declared.cause.Cause.TheVariants.{ScenarioLimit}
 use Rattle.rationals.specs.Passes.{Operation}
 use Rattle.scen_defs.specs.Program.{Node, Scenario, Program}
 use Rattle.scen_tree.specs.declared.fault.TreeFault.{TreeFault}

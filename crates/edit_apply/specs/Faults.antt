@@ -2,8 +2,8 @@
 use Rattle.std.specs.Prelude.{Option, Some}
 use Rattle.rationals.specs.Replies.{Reply, IsReply}
 use Rattle.rationals.specs.Replies.Reply.{Says, Silent}
-use Rattle.core_defs.specs.declared.cause.Cause.{Cause}
-use Rattle.core_defs.specs.declared.cause.Cause.TheVariants.{Passes}
+use Rattle.refusals.specs.declared.cause.Cause.{Cause}
+use Rattle.refusals.specs.declared.cause.Cause.TheVariants.{Passes}
 use Rattle.scen_tree.specs.declared.fault.TreeFault.{TreeFault}
 use Rattle.scen_tree.specs.declared.fault.TreeFault.TheVariants.{Passed, Memory as TreeMemory}
 use Rattle.edit_apply.specs.declared.fault.ApplyFault.{ApplyFault}

@@ -2,8 +2,8 @@
 use Rattle.std.specs.Prelude.{◌≡◌, ℕ, ◌+◌, List, ◌++◌, length, Option, None, Ok}
 use Rattle.rationals.specs.Rational.{ℚ}
 use Rattle.smps_words.specs.declared.entry.Entry.{Entry}
-use Rattle.core_defs.specs.declared.cause.Cause.{Cause}
-use Rattle.core_defs.specs.declared.cause.Cause.TheVariants.{ScenarioLimit}
+use Rattle.refusals.specs.declared.cause.Cause.{Cause}
+use Rattle.refusals.specs.declared.cause.Cause.TheVariants.{ScenarioLimit}
 use Rattle.scen_defs.specs.Program.{Node, Scenario, Program}
 use Rattle.scen_defs.specs.Valid.{IsProgram}
 use Rattle.edit_defs.specs.declared.edit.Edit.{Edit}

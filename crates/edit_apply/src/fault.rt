@@ -1,6 +1,6 @@
 // Why an edit isn't applied.
 ghost use Rattle.std.specs.Prelude.{◌≡◌};
-ghost use Rattle.core_defs.specs.declared.cause.Cause.TheVariants.{Passes};
+ghost use Rattle.refusals.specs.declared.cause.Cause.TheVariants.{Passes};
 ghost use Rattle.edit_apply.specs.Faults.{fault_of_tree};
 ghost use Rattle.edit_apply.specs.declared.fault.ApplyFault.TheVariants.{Refused, Memory as OutOfMemory};
 

@@ -9,7 +9,7 @@ use Rattle.scen_defs.specs.Program.{Scenario, Program, column_at}
 use Rattle.smps_words.specs.Field.{IsField}
 use Rattle.scen_defs.specs.Valid.{row_at}
 use Rattle.edit_defs.specs.declared.edit.Edit.TheVariants.{Set, Prob, Drop, Add}
-use Rattle.core_defs.specs.declared.cause.Cause.{Cause}
+use Rattle.refusals.specs.declared.cause.Cause.{Cause}
 use Rattle.edit_defs.specs.After.{is_known, times, new_path, after}
 use Rattle.edit_defs.specs.Applies.{IsEntryOf, IsProb, IsDrop, IsAdd}
 use Rattle.edit_defs.specs.Touches.{path_of}

@@ -2,7 +2,7 @@
 use Rattle.std.proofs.Common.{◌≡◌, ap, refl, sym, subst, ℕ, suc, ◌+◌, ◌*◌, ◌-◌, ◌<◌, ◌≤◌, Bool, true, false, ◌&&◌, leb, List, [], ◌∷◌, length, drop, get_or, Ok, Err, drop-cons, arith, if◌then◌else◌}
 use Rattle.std.proofs.lemmas.Bool.Decides.{nat_tests}
 use Rattle.frac128.specs.Numbers.{number_from, number, is_nothing, after_digits}
-use Rattle.core_defs.specs.declared.cause.Cause.TheVariants as cause
+use Rattle.refusals.specs.declared.cause.Cause.TheVariants as cause
 use Rattle.edit_script.specs.Numbers.{count_of}
 
 pub grows : (n : ℕ) (ds : List ℕ) → n ≤ number_from n ds

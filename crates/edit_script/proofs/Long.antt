@@ -1,6 +1,6 @@
 -- More than six fields fit no command.
 use Rattle.std.proofs.Common.{◌≡◌, ℕ, List, [], ◌∷◌, length, Err, refl, arith}
-use Rattle.core_defs.specs.declared.cause.Cause.TheVariants as cause
+use Rattle.refusals.specs.declared.cause.Cause.TheVariants as cause
 use Rattle.scen_defs.specs.Program.{Program}
 use Rattle.edit_script.specs.Commands.{set_line, prob_line, drop_line, add_line, work_line, solve_line}
 

@@ -1,8 +1,8 @@
 -- The reader's draft as definitions see it, and what its steps give.
 use Rattle.std.specs.Prelude.{◌≡◌, ℕ, ◌≤◌, ◌*◌, List, length, Result, Ok, Err}
-use Rattle.core_defs.specs.declared.cause.Cause.{Cause}
-use Rattle.core_defs.specs.declared.cause.Refusal.{Refusal}
-use Rattle.core_defs.specs.declared.cause.ReadFail.{ReadFail}
+use Rattle.refusals.specs.declared.cause.Cause.{Cause}
+use Rattle.refusals.specs.declared.cause.Refusal.{Refusal}
+use Rattle.refusals.specs.declared.cause.ReadFail.{ReadFail}
 use Rattle.reader_defs.specs.declared.stop.Stop.{Stop}
 use Rattle.reader_defs.specs.Stops.{Gives, ReadsAs}
 use Rattle.scen_defs.specs.Program.{Program, content}

@@ -2,10 +2,10 @@
 use Rattle.std.specs.Prelude.{ℕ, ◌&&◌, leb, Bool, List, Result, Ok, Err, if◌then◌else◌}
 use Rattle.rationals.specs.Rational.{ℚ}
 use Rattle.frac128.specs.Numbers.{is_nothing, after_digits, number}
-use Rattle.core_defs.specs.declared.cause.Cause.{Cause}
-use Rattle.core_defs.specs.declared.cause.Cause.TheVariants as cause
+use Rattle.refusals.specs.declared.cause.Cause.{Cause}
+use Rattle.refusals.specs.declared.cause.Cause.TheVariants as cause
+use Rattle.refusals.specs.Results.{◌>>=◌}
 use Rattle.core_defs.specs.Number.{number_of}
-use Rattle.core_defs.specs.Step.{◌>>=◌}
 use Rattle.edit_defs.specs.Causes.{is_inner}
 
 -- a count of solves: decimal digits, from 1 to 1,000,000

@@ -2,10 +2,10 @@
 use Rattle.std.specs.Prelude.{ℕ, suc, ◌+◌, Bool, true, false, leb, List, [], ◌∷◌, ◌++◌, Option, Some, None, Result, Ok, Err}
 use Rattle.std.specs.Prelude.{if◌then◌else◌}
 use Rattle.smps_words.specs.Line.{TextLine, reading_of}
-use Rattle.core_defs.specs.declared.cause.Cause.{Cause}
-use Rattle.core_defs.specs.declared.cause.Cause.TheVariants as cause
-use Rattle.core_defs.specs.declared.cause.Refusal.{Refusal}
-use Rattle.core_defs.specs.Step.{◌>>=◌}
+use Rattle.refusals.specs.declared.cause.Cause.{Cause}
+use Rattle.refusals.specs.declared.cause.Cause.TheVariants as cause
+use Rattle.refusals.specs.declared.cause.Refusal.{Refusal}
+use Rattle.refusals.specs.Results.{◌>>=◌, unless_refused, on_line}
 use Rattle.scen_defs.specs.Program.{Program}
 use Rattle.edit_defs.specs.declared.edit.Edit.{Edit}
 use Rattle.edit_defs.specs.declared.edit.Act.TheVariants as act
@@ -34,19 +34,18 @@ report_item = record { work = 0; act = act.Solve }
 abbrev pub edit_item : ℕ → Edit → Item
 edit_item work e = record { work = work; act = act.Change e }
 
--- the edit, where the program has no cause to refuse it
-abbrev pub unless_refused : Option Cause → Stand → Edit → Result Stand Cause
-unless_refused (Some cause) s e = Err cause
-unless_refused None s e = Ok (record {
+abbrev pub edited : Stand → Edit → Stand
+edited s e = record {
   commands = suc s.commands;
   program = after s.program e;
   items = s.items ++ edit_item s.work e ∷ [];
   work = 0;
   reported = false;
-})
+}
 
+-- the edit, where the program has no cause to refuse it
 abbrev pub changed : Stand → Edit → Result Stand Cause
-changed s e = unless_refused (refused s.program e) s e
+changed s e = unless_refused (refused s.program e) (edited s e)
 
 abbrev pub worked : Stand → ℕ → Stand
 worked s n = record s { commands = suc s.commands; work = s.work + n; reported = false }
@@ -69,10 +68,6 @@ abbrev pub finished : Stand → List Item
 finished s = if s.reported then s.items else s.items ++ report_item ∷ []
 
 -- the first line that is refused is named
-abbrev pub on_line : ℕ → Result Stand Cause → (Stand → Result (List Item) Refusal) → Result (List Item) Refusal
-on_line number (Err cause) next = Err (record { line = number; cause = cause })
-on_line number (Ok s) next = next s
-
 abbrev pub items_from : Stand → List TextLine → Result (List Item) Refusal
 items_from s [] = Ok (finished s)
 items_from s (line ∷ lines) = on_line line.number (step s line.fields) (λ t. items_from t lines)

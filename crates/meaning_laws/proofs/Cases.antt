@@ -5,12 +5,13 @@ use Rattle.std.specs.Prelude.{is_some, nat_eq, nat_lt}
 use Rattle.rationals.specs.Rational.{ℚ}
 use Rattle.smps_words.specs.Line.{TextLine, reading_of}
 use Rattle.smps_words.specs.declared.entry.Entry.{Entry}
-use Rattle.core_defs.specs.declared.cause.Cause.TheVariants as cause
+use Rattle.refusals.specs.declared.cause.Cause.TheVariants as cause
+use Rattle.refusals.specs.Results.{◌>>=◌, needs}
+use Rattle.refusals.specs.Results.{on_line}
 use Rattle.core_defs.specs.declared.program.Core.{Core}
 use Rattle.core_defs.specs.Laws.{AreSame}
 use Rattle.core_defs.specs.Number.{number_of}
-use Rattle.core_defs.specs.Step.{◌>>=◌, needs}
-use Rattle.reader_defs.specs.Reader.{read_from, on_line}
+use Rattle.reader_defs.specs.Reader.{read_from}
 use Rattle.time_defs.specs.Means.{Stages}
 use Rattle.stoch_defs.specs.declared.section.StochSection.{StochSection}
 use Rattle.stoch_defs.specs.declared.section.StochSection.TheVariants as sections

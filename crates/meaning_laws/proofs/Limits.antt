@@ -1,5 +1,5 @@
 -- A core file states few entries, and the program of one period that it means is within the limits.
-use Rattle.std.proofs.Common.{◌≡◌, ◌∙◌, ap, sym, refl, subst, ℕ, zero, suc, ◌+◌, ◌≤◌, ◌<◌, ◌++◌, ◌||◌, Bool, true, false, not, List, [], ◌∷◌, length, get_or, replicate, nat_eq, nat_lt, Option, Some, None, Result, Ok, Err, arith, if◌then◌else◌, append_assoc, append-nil}
+use Rattle.std.proofs.Common.{◌≡◌, ◌∙◌, ap, sym, refl, subst, ℕ, zero, suc, ◌+◌, ◌≤◌, ◌<◌, ◌++◌, ◌||◌, Bool, true, false, not, List, [], ◌∷◌, length, get_or, replicate, nat_eq, nat_lt, Option, Some, None, arith, if◌then◌else◌, append_assoc, append-nil}
 use Rattle.std.specs.Prelude.{All, codes, sum_by}
 use Rattle.std.proofs.lemmas.Bool.Decides.{nat_tests}
 use Rattle.std.proofs.lemmas.List.{length-map, length-replicate}
@@ -11,29 +11,27 @@ use Rattle.rationals.specs.Forms.{put_unless, is_zero}
 use Rattle.smps_words.specs.Line.{TextLine}
 use Rattle.smps_words.specs.Names.{same_name}
 use Rattle.smps_words.specs.declared.entry.Entry.TheVariants.{Matrix}
-use Rattle.core_defs.specs.declared.cause.Cause.{Cause}
-use Rattle.core_defs.specs.declared.cause.Cause.TheVariants as cause
-use Rattle.core_defs.specs.declared.cause.Refusal.{Refusal}
+use Rattle.refusals.specs.declared.cause.Cause.{Cause}
+use Rattle.refusals.specs.declared.cause.Cause.TheVariants as cause
+use Rattle.reader_defs.specs.Reader.{NoFaultBehind}
 use Rattle.core_defs.specs.declared.parts.ColumnDef.{ColumnDef}
 use Rattle.core_defs.specs.declared.parts.RowDef.{RowDef}
 use Rattle.core_defs.specs.declared.program.Core.{Core}
 use Rattle.core_defs.specs.declared.section.Section.{Section}
 use Rattle.core_defs.specs.declared.section.Section.TheVariants as sections
 use Rattle.core_defs.specs.Core.{row_names, column_names}
-use Rattle.core_defs.specs.Fault.{limit_fault, column_fault, data_fault, section_fault, fault, NoFaultBehind, IsCoreFile, count_entries as count_pairs}
-use Rattle.core_defs.specs.Filed.{Filed, nothing_filed}
+use Rattle.core_defs.specs.Fault.{limit_fault, column_fault, data_fault, section_fault, fault, core_file, IsCoreFile, count_entries as count_pairs}
 use Rattle.core_defs.specs.Lines.{first_word, last_section}
 use Rattle.core_defs.specs.Means.{Means, IsStatedColumn}
 use Rattle.core_defs.specs.Section.{section_of, rank, is_end}
 use Rattle.core_defs.specs.Stated.{Pair, entry_pairs, entry_in, constraints}
-use Rattle.core_defs.specs.Step.{read_from, most_rows, most_columns, most_entries as most_stated}
+use Rattle.core_defs.specs.Step.{most_rows, most_columns, most_entries as most_stated}
 use Rattle.core_defs.proofs.NameLemmas.{Distinct, all_distinct}
 use Rattle.core_defs.proofs.Gathered.{Data, data_on, rows_in, names_in, Sound}
-use Rattle.core_defs.proofs.Judged.{Judged, judged_text, data_behind}
 use Rattle.core_defs.proofs.LineLemmas.{data_text, header_text, row_data, rhs_data, range_data, bound_data, header_data}
 use Rattle.core_defs.proofs.PairLemmas.{orelse_none}
 use Rattle.core_defs.proofs.Steps.{step_sound, nothing_sound}
-use Rattle.core_defs.proofs.Texts.{core_file_laws}
+use Rattle.core_defs.proofs.Texts.{cause_is, whole_sound, whole_data}
 use Rattle.stoch_defs.specs.Entries.{no_column}
 use Rattle.stoch_defs.specs.Random.Random.{Blocks}
 use Rattle.scen_defs.specs.Lists.{pick, places}
@@ -103,32 +101,23 @@ line_few : (before : List TextLine) (number : ℕ) (header : Bool) (fields : Lis
 line_few before number true fields sound open_ fine few = header_few before number fields (section_of (first_word fields)) refl fine open_ few
 line_few before number false fields sound open_ fine few = data_few before number fields (last_section before) sound refl fine few
 
-lines_few : (before rest : List TextLine) → NoFaultBehind before rest → Sound (data_on before) → IsFew (data_on before) → IsFew (data_on (before ++ rest))
+lines_few : (before lines : List TextLine) → NoFaultBehind core_file before lines → Sound (data_on before) → IsFew (data_on before) → IsFew (data_on (before ++ lines))
 lines_few before [] fit sound few = subst (λ (lines : List TextLine). IsFew (data_on lines)) (sym (append-nil before)) few
-lines_few before (line ∷ rest) fit sound few = go (is_end (last_section before)) refl (lines_few (before ++ line ∷ []) rest fit.1)
-  where
-    go : (end : Bool) → is_end (last_section before) ≡ end
-        → (Sound (data_on (before ++ line ∷ [])) → IsFew (data_on (before ++ line ∷ [])) → IsFew (data_on ((before ++ line ∷ []) ++ rest)))
-        → IsFew (data_on (before ++ line ∷ rest))
-    go true e later = subst IsFew (sym (data_behind before (line ∷ rest) e)) few
-    go false e later = subst (λ (lines : List TextLine). IsFew (data_on lines)) (append_assoc before (line ∷ []) rest)
-        (later (step_sound before line sound e fit.0) (line_few before line.number line.header line.fields sound e fit.0 few))
+lines_few before (line ∷ lines) fit sound few =
+    let fine : fault before line ≡ None = sym (cause_is (fault before line) (before ++ line ∷ [])) ∙ fit.1 in
+    subst (λ (lines : List TextLine). IsFew (data_on lines)) (append_assoc before (line ∷ []) lines)
+    (lines_few (before ++ line ∷ []) lines fit.2 (step_sound before line sound fit.0 fine) (line_few before line.number line.header line.fields sound fit.0 fine few))
 
 record IsFewOn (lines : List TextLine) : Type 0 where
   sound : Sound (data_on lines)
   few : IsFew (data_on lines)
 
 file_few : (lines : List TextLine) → IsCoreFile lines → IsFewOn lines
-file_few lines file = go (read_from 0 nothing_filed lines) (judged_text 0 lines)
-  where
-    go : (read : Result Filed Refusal) → Judged lines 0 read → IsFewOn lines
-    go (Ok f) filed =
-        let same : data_on lines ≡ data_on filed.read = ap data_on filed.split ∙ data_behind filed.read filed.rest filed.end in
-        record {
-          sound = subst Sound (sym same) filed.sound;
-          few = subst IsFew (sym same) (lines_few [] filed.read filed.fit nothing_sound (omega arith));
-        }
-    go (Err refusal) faulty = absurd (core_file_laws.no_fault lines 0 refusal file faulty)
+file_few lines file =
+    let same : data_on lines ≡ data_on file.read = whole_data lines file.number file.read file.whole in
+    let few : IsFew (data_on file.read) = subst (λ (known : List TextLine). IsFew (data_on known)) (sym file.whole.is)
+    (lines_few [] (file.whole.read ++ file.whole.line ∷ []) file.whole.fit nothing_sound (omega arith)) in
+    record { sound = subst Sound (sym same) (whole_sound lines file.number file.read file.whole); few = subst IsFew (sym same) few }
 
 -- ---- what the program of one period has
 

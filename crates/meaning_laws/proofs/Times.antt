@@ -4,12 +4,13 @@ use Rattle.std.proofs.Common.{if◌then◌else◌}
 use Rattle.std.specs.Prelude.{is_some, nat_lt}
 use Rattle.smps_words.specs.Line.{TextLine, reading_of}
 use Rattle.smps_words.specs.Names.{same_name, place_of}
-use Rattle.core_defs.specs.declared.cause.Cause.TheVariants as cause
+use Rattle.refusals.specs.declared.cause.Cause.TheVariants as cause
+use Rattle.refusals.specs.Results.{◌>>=◌, needs}
+use Rattle.refusals.specs.Results.{on_line}
 use Rattle.core_defs.specs.declared.program.Core.{Core}
 use Rattle.core_defs.specs.Core.{row_names, column_names}
 use Rattle.core_defs.specs.Laws.{AreSame}
-use Rattle.core_defs.specs.Step.{◌>>=◌, needs}
-use Rattle.reader_defs.specs.Reader.{read_from, on_line}
+use Rattle.reader_defs.specs.Reader.{read_from}
 use Rattle.time_defs.specs.declared.section.TimeSection.{TimeSection}
 use Rattle.time_defs.specs.declared.section.TimeSection.TheVariants as sections
 use Rattle.time_defs.specs.Section.{is_end}

@@ -1,8 +1,8 @@
 -- More than six fields fit no line.
 use Rattle.std.proofs.Common.{◌≡◌, ◌<◌, ℕ, suc, Bool, true, false, List, ◌∷◌, length, Some, Err, refl, sym, ap, ◌∙◌, arith}
 use Rattle.std.specs.Prelude.{if◌then◌else◌}
+use Rattle.refusals.specs.declared.cause.Cause.TheVariants as cause
 use Rattle.core_defs.specs.declared.kinds.BoundKind.{BoundKind}
-use Rattle.core_defs.specs.declared.cause.Cause.TheVariants as cause
 use Rattle.core_defs.specs.Bounds.{bound_kind, has_value}
 use Rattle.core_defs.specs.Filed.{Filed}
 use Rattle.core_defs.specs.Step.{row_line, column_line, rhs_line, range_line, value_line, plain_line, bound_line}

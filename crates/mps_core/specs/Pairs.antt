@@ -1,8 +1,9 @@
 -- What the two pairs of row and value on a line of RHS or RANGES add.
 use Rattle.std.specs.Prelude.{ℕ, List, Result}
-use Rattle.core_defs.specs.declared.cause.Cause.{Cause}
+use Rattle.refusals.specs.declared.cause.Cause.{Cause}
+use Rattle.refusals.specs.Results.{◌>>=◌}
 use Rattle.core_defs.specs.Filed.{Filed}
-use Rattle.core_defs.specs.Step.{◌>>=◌, with_rhs, with_range}
+use Rattle.core_defs.specs.Step.{with_rhs, with_range}
 
 -- the right-hand sides of two rows
 abbrev pub with_two_rhs : Filed → List ℕ → List ℕ → List ℕ → List ℕ → Result Filed Cause

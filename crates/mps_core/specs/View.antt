@@ -1,8 +1,8 @@
 -- The reader's tables as definitions see them, and what its steps give.
 use Rattle.std.specs.Prelude.{Result}
-use Rattle.core_defs.specs.declared.cause.Cause.{Cause}
-use Rattle.core_defs.specs.declared.cause.Refusal.{Refusal}
-use Rattle.core_defs.specs.declared.cause.ReadFail.{ReadFail}
+use Rattle.refusals.specs.declared.cause.Cause.{Cause}
+use Rattle.refusals.specs.declared.cause.Refusal.{Refusal}
+use Rattle.refusals.specs.declared.cause.ReadFail.{ReadFail}
 use Rattle.core_defs.specs.Filed.{Filed}
 use Rattle.reader_defs.specs.declared.stop.Stop.{Stop}
 use Rattle.reader_defs.specs.Stops.{Gives, ReadsAs}

@@ -1,8 +1,8 @@
 -- What is read of a stoch file is what its lines mean.
 use Rattle.std.proofs.Common.{ℕ, List, Some, Ok, Err, sym}
 use Rattle.std.specs.Prelude.{Result}
-use Rattle.core_defs.specs.declared.cause.ReadFail.{ReadFail}
-use Rattle.core_defs.specs.declared.cause.ReadFail.TheVariants as fail
+use Rattle.refusals.specs.declared.cause.ReadFail.{ReadFail}
+use Rattle.refusals.specs.declared.cause.ReadFail.TheVariants as fail
 use Rattle.core_defs.specs.declared.program.Core.{Core}
 use Rattle.time_defs.specs.Means.{Stages}
 use Rattle.stoch_defs.specs.declared.stoch.Stoch.{Stoch}

@@ -1,7 +1,7 @@
 -- What the faults of the edit list and of the report file refuse.
 use Rattle.std.proofs.Common.{◌≡◌, ℕ, List, Option, Some, None, Err, refl}
-use Rattle.core_defs.specs.declared.cause.ReadFail.{ReadFail}
-use Rattle.core_defs.specs.declared.cause.ReadFail.TheVariants as fail
+use Rattle.refusals.specs.declared.cause.ReadFail.{ReadFail}
+use Rattle.refusals.specs.declared.cause.ReadFail.TheVariants as fail
 use Rattle.scen_defs.specs.Program.{content}
 use Rattle.scen_defs.specs.declared.program.Program.{Program as ProgramOf}
 use Rattle.edit_defs.specs.declared.edit.Item.{Item}

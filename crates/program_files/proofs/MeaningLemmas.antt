@@ -1,9 +1,9 @@
 -- Texts mean one program at most, and what is meant isn't refused.
 use Rattle.std.proofs.Common.{◌≡◌, ◌∙◌, ap, sym, ℕ, false, List, [], ◌∷◌, length, replicate, Option, Some, None, Result, Ok, Err, inl, inr, subst}
 use Rattle.smps_words.specs.Line.{reading_of}
+use Rattle.refusals.specs.declared.cause.Cause.TheVariants.{Passes}
+use Rattle.refusals.specs.declared.cause.Refusal.{Refusal}
 use Rattle.core_defs.specs.Fault.{IsCoreFile}
-use Rattle.core_defs.specs.declared.cause.Cause.TheVariants.{Passes}
-use Rattle.core_defs.specs.declared.cause.Refusal.{Refusal}
 use Rattle.core_defs.specs.declared.program.Core.{Core}
 use Rattle.core_defs.specs.Laws.{AreSame}
 use Rattle.core_defs.proofs.Texts.{core_file_laws}

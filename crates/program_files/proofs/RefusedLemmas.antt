@@ -1,9 +1,9 @@
 -- What the faults of the three texts refuse.
 use Rattle.std.proofs.Common.{◌≡◌, ◌∙◌, sym, ℕ, List, Option, Some, None, Err, inl, inr, refl}
-use Rattle.core_defs.specs.declared.cause.Cause.TheVariants.{ScenarioLimit, Passes}
-use Rattle.core_defs.specs.declared.cause.Refusal.{Refusal}
-use Rattle.core_defs.specs.declared.cause.ReadFail.{ReadFail}
-use Rattle.core_defs.specs.declared.cause.ReadFail.TheVariants as fail
+use Rattle.refusals.specs.declared.cause.Cause.TheVariants.{ScenarioLimit, Passes}
+use Rattle.refusals.specs.declared.cause.Refusal.{Refusal}
+use Rattle.refusals.specs.declared.cause.ReadFail.{ReadFail}
+use Rattle.refusals.specs.declared.cause.ReadFail.TheVariants as fail
 use Rattle.core_defs.specs.declared.program.Core.{Core}
 use Rattle.core_defs.specs.Fault.{IsReadOrRefused}
 use Rattle.time_defs.specs.Means.{Stages}

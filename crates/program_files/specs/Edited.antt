@@ -1,6 +1,6 @@
 -- The script and the reports that two further texts mean for the program, and why they mean none.
 use Rattle.std.specs.Prelude.{◌≡◌, ◌⊎◌, ℕ, List, [], Option, Some, None, Result, Ok, Err, map}
-use Rattle.core_defs.specs.declared.cause.Refusal.{Refusal}
+use Rattle.refusals.specs.declared.cause.Refusal.{Refusal}
 use Rattle.core_defs.specs.declared.program.Core.{Core}
 use Rattle.scen_defs.specs.Program.{Program, content}
 use Rattle.scen_defs.specs.declared.program.Program.{Program as ProgramOf}

@@ -2,9 +2,9 @@
 use Rattle.std.specs.Prelude.{◌≡◌, Option, None}
 use Rattle.smps_words.specs.Line.{reading_of}
 use Rattle.rationals.specs.Passes.{Operation}
+use Rattle.refusals.specs.declared.cause.Cause.TheVariants.{Passes}
+use Rattle.refusals.specs.declared.cause.Refusal.{Refusal}
 use Rattle.core_defs.specs.Fault.{IsCoreFile}
-use Rattle.core_defs.specs.declared.cause.Cause.TheVariants.{Passes}
-use Rattle.core_defs.specs.declared.cause.Refusal.{Refusal}
 use Rattle.core_defs.specs.declared.program.Core.{Core}
 use Rattle.scen_defs.specs.Program.{Program}
 use Rattle.input_files.specs.declared.kind.FileKind.{FileKind}

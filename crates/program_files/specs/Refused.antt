@@ -2,9 +2,10 @@
 use Rattle.std.specs.Prelude.{◌≡◌, ◌⊎◌, ℕ, true, false, List, Option, Some, None, Err}
 use Rattle.smps_words.specs.Line.{reading_of}
 use Rattle.rationals.specs.Passes.{Operation}
-use Rattle.core_defs.specs.Fault.{IsCoreFile, IsFault}
-use Rattle.core_defs.specs.declared.cause.Cause.TheVariants.{ScenarioLimit, Passes}
-use Rattle.core_defs.specs.declared.cause.Refusal.{Refusal}
+use Rattle.refusals.specs.declared.cause.Cause.TheVariants.{ScenarioLimit, Passes}
+use Rattle.refusals.specs.declared.cause.Refusal.{Refusal}
+use Rattle.reader_defs.specs.Reader.{IsFault}
+use Rattle.core_defs.specs.Fault.{core_file, IsCoreFile}
 use Rattle.core_defs.specs.declared.program.Core.{Core}
 use Rattle.time_defs.specs.Means.{Stages}
 use Rattle.time_defs.specs.Laws.{IsTimeReading}
@@ -21,7 +22,7 @@ pub record RefusesCore (texts : Texts) (file : FileKind) (refusal : Refusal) (kn
   pub file_is : file ≡ kind.Core
   pub known_is : known ≡ None
   pub not_read : IsCoreFile (reading_of 0 texts.core).lines → ⊥
-  pub fault : IsFault (reading_of 0 texts.core).lines (reading_of 0 texts.core).end_line refusal
+  pub fault : IsFault core_file (reading_of 0 texts.core).lines (reading_of 0 texts.core).end_line refusal
 
 -- The time file has this fault.
 pub record RefusesTime (texts : Texts) (file : FileKind) (refusal : Refusal) (known : Option Core) : Type 0 where

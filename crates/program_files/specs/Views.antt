@@ -2,11 +2,11 @@
 use Rattle.std.specs.Prelude.{⊤, ℕ, List, Option, Some, None, Result, Ok, Err, Vec}
 use Rattle.std.specs.declared.alloc.Global.{Global}
 use Rattle.input_files.specs.declared.kind.FileKind.{FileKind}
-use Rattle.core_defs.specs.declared.cause.Cause.TheVariants.{ScenarioLimit, Passes}
-use Rattle.core_defs.specs.declared.cause.ReadFail.{ReadFail}
+use Rattle.refusals.specs.declared.cause.Cause.TheVariants.{ScenarioLimit, Passes}
+use Rattle.refusals.specs.declared.cause.ReadFail.{ReadFail}
+use Rattle.refusals.specs.declared.cause.ReadFail.TheVariants as fail
 use Rattle.smps_build.specs.declared.fault.BuildFault.{BuildFault}
 use Rattle.smps_build.specs.declared.fault.BuildFault.TheVariants as build_fault
-use Rattle.core_defs.specs.declared.cause.ReadFail.TheVariants as fail
 use Rattle.core_defs.specs.declared.program.Core.{Core}
 use Rattle.time_defs.specs.declared.periods.Periods.{Periods}
 use Rattle.time_defs.specs.Means.{Stages}

@@ -1,6 +1,6 @@
 //! Reads the three texts of a program.
 ghost use Rattle.std.specs.Prelude.{◌≡◌, ◌≤◌, Some, IfSome, length};
-ghost use Rattle.core_defs.specs.declared.cause.Cause.{Cause};
+ghost use Rattle.refusals.specs.declared.cause.Cause.{Cause};
 ghost use Rattle.stoch_defs.specs.Random.{content as content_of};
 ghost use Rattle.time_defs.specs.Periods.{stages};
 ghost use Rattle.input_files.specs.Fetched.{file_limit};

@@ -2,10 +2,10 @@
 use Rattle.std.specs.Prelude.{ℕ, Result, Err}
 use Rattle.rationals.specs.Replies.{Reply, IsReply, reply_by}
 use Rattle.rationals.specs.Replies.Reply.{Says, Silent}
-use Rattle.core_defs.specs.declared.cause.Cause.{Cause}
-use Rattle.core_defs.specs.declared.cause.ReadFail.{ReadFail}
-use Rattle.core_defs.specs.declared.cause.ReadFail.TheVariants as fail
-use Rattle.core_defs.specs.declared.cause.Refusal.{Refusal}
+use Rattle.refusals.specs.declared.cause.Cause.{Cause}
+use Rattle.refusals.specs.declared.cause.ReadFail.{ReadFail}
+use Rattle.refusals.specs.declared.cause.ReadFail.TheVariants as fail
+use Rattle.refusals.specs.declared.cause.Refusal.{Refusal}
 use Rattle.reader_defs.specs.declared.stop.Stop.{Stop}
 use Rattle.reader_defs.specs.declared.stop.Stop.TheVariants as stop
 

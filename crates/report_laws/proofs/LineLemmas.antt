@@ -15,13 +15,14 @@ use Rattle.scen_defs.specs.declared.report.Finding.TheVariants.{Optimal, Infeasi
 use Rattle.scen_defs.specs.declared.report.Report.{Report}
 use Rattle.report_defs.specs.Findings.{has_direction, has_ray, has_extra}
 use Rattle.report_text.specs.Text.{finding_text, end_text, extra_text}
-use Rattle.core_defs.specs.declared.cause.Cause.{Cause}
-use Rattle.core_defs.specs.declared.cause.Refusal.{Refusal}
+use Rattle.refusals.specs.declared.cause.Cause.{Cause}
+use Rattle.refusals.specs.declared.cause.Refusal.{Refusal}
+use Rattle.refusals.specs.Results.{on_line}
 use Rattle.report_reader.specs.Answers.{bad}
 use Rattle.report_reader.specs.Pieces.{Lines, lines_of}
 use Rattle.report_reader.specs.Lines.{blank_report, fresh, from_ray, from_dual, from_direction, from_policy, from_extra, head_line}
 use Rattle.report_reader.specs.Lines.{status_line, lower_line, upper_line, extra_word, extra_line, line_at, step}
-use Rattle.report_reader.specs.Reports.{tables_of, is_head, done_behind, draft_behind, on_line, reads}
+use Rattle.report_reader.specs.Reports.{tables_of, is_head, done_behind, draft_behind, reads}
 use Rattle.report_laws.specs.Printable.{IsNarrow, IsSized}
 use Rattle.report_laws.proofs.WordLemmas.{lacks, lacks-append, then_ok, after_word, field_word, first_line, small_lacks, text_lacks}
 use Rattle.report_laws.proofs.NumberLemmas.{fraction_read, end_read, small_read}

@@ -9,7 +9,7 @@ use Rattle.std.proofs.lemmas.Fmt.{decimal_by_steps_wide}
 use Rattle.rationals.specs.Rational.{ℚ}
 use Rattle.rationals.specs.Passes.{wide}
 use Rattle.frac128.specs.Text.{text_of, text_by}
-use Rattle.core_defs.specs.declared.cause.Cause.{Cause}
+use Rattle.refusals.specs.declared.cause.Cause.{Cause}
 use Rattle.report_reader.specs.Answers.{on_ok}
 use Rattle.report_reader.specs.Pieces.{after, cut, cut_field, field, lines_of}
 use Rattle.report_laws.specs.Printable.{IsNarrow}

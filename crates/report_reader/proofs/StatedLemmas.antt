@@ -19,10 +19,11 @@ use Rattle.scen_defs.specs.declared.report.Finding.TheVariants.{Optimal, Infeasi
 use Rattle.scen_defs.specs.declared.report.Report.{Report}
 use Rattle.report_defs.specs.Findings.{has_direction, has_ray, has_extra}
 use Rattle.report_text.specs.Text.{finding_text, end_text, extra_text, value_text, list_text, column_names, row_names, head_text, ends_text, lists_text, report_text}
-use Rattle.core_defs.specs.declared.cause.Cause.{Cause}
-use Rattle.core_defs.specs.declared.cause.Cause.TheVariants as cause
-use Rattle.core_defs.specs.declared.cause.Refusal.{Refusal}
-use Rattle.core_defs.specs.declared.cause.ReadFail.{ReadFail}
+use Rattle.refusals.specs.declared.cause.Cause.{Cause}
+use Rattle.refusals.specs.declared.cause.Cause.TheVariants as cause
+use Rattle.refusals.specs.declared.cause.Refusal.{Refusal}
+use Rattle.refusals.specs.declared.cause.ReadFail.{ReadFail}
+use Rattle.refusals.specs.Results.{on_line}
 use Rattle.report_reader.specs.declared.draft.ListKind.{ListKind}
 use Rattle.report_reader.specs.declared.draft.ListKind.TheVariants as lists
 use Rattle.report_reader.specs.declared.draft.Next.{Next}
@@ -33,7 +34,7 @@ use Rattle.report_reader.specs.Pieces.{lines_of, lines_with, after, field}
 use Rattle.report_reader.specs.Numbers.{fraction, end_of, count, small}
 use Rattle.report_reader.specs.Findings.{finding_of}
 use Rattle.report_reader.specs.Lines.{fresh, from_ray, from_dual, from_direction, from_policy, from_extra, behind, head_line, status_line, lower_line, upper_line, extra_word, extra_line, count_line, line_at, step, list_word, filed, listed, names_of, all_before, numbered, value_line}
-use Rattle.report_reader.specs.Reports.{tables_of, is_head, on_line, reads, reports_of, refusal, FailOf}
+use Rattle.report_reader.specs.Reports.{tables_of, is_head, reads, reports_of, refusal, FailOf}
 use Rattle.report_reader.specs.Stated.{HasParts, IsStated}
 use Rattle.report_reader.proofs.TextLemmas.{from_ok, picked, same, after_is, field_is, fraction_is, end_is, count_is, small_is, finding_is}
 

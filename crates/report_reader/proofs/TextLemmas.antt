@@ -18,7 +18,7 @@ use Rattle.scen_defs.specs.declared.report.Place.{Place}
 use Rattle.scen_defs.specs.declared.report.Place.TheVariants.{Solve, Cut, Cost, Ground, Dual}
 use Rattle.scen_defs.specs.declared.report.Finding.{Finding}
 use Rattle.scen_defs.specs.declared.report.Finding.TheVariants.{Optimal, Infeasible, Unbounded, OpenSolves, OpenPivots, OpenPassed}
-use Rattle.core_defs.specs.declared.cause.Cause.{Cause}
+use Rattle.refusals.specs.declared.cause.Cause.{Cause}
 use Rattle.report_text.specs.Text.{op_text, place_text, operation_text, finding_text, end_text}
 use Rattle.report_reader.specs.Answers.{on_ok, bad}
 use Rattle.report_reader.specs.Pieces.{after, grown, cut, cut_field, field}

@@ -2,8 +2,8 @@
 use Rattle.std.specs.Prelude.{◌≡◌, Bool, Result, Ok, Err}
 use Rattle.rationals.specs.Replies.{Reply, IsReply, reply_by}
 use Rattle.rationals.specs.Replies.Reply.{Says, Silent, Never}
-use Rattle.core_defs.specs.declared.cause.Cause.{Cause}
-use Rattle.core_defs.specs.declared.cause.Cause.TheVariants as cause
+use Rattle.refusals.specs.declared.cause.Cause.{Cause}
+use Rattle.refusals.specs.declared.cause.Cause.TheVariants as cause
 use Rattle.report_reader.specs.declared.fault.Fault.{Fault}
 use Rattle.report_reader.specs.declared.fault.Fault.TheVariants.{Refused, Memory}
 

@@ -8,7 +8,7 @@ use Rattle.scen_defs.specs.declared.report.Place.{Place}
 use Rattle.scen_defs.specs.declared.report.Place.TheVariants.{Solve, Cut, Cost, Ground, Dual}
 use Rattle.scen_defs.specs.declared.report.Finding.{Finding}
 use Rattle.scen_defs.specs.declared.report.Finding.TheVariants.{Optimal, Infeasible, Unbounded, OpenSolves, OpenPivots, OpenPassed}
-use Rattle.core_defs.specs.declared.cause.Cause.{Cause}
+use Rattle.refusals.specs.declared.cause.Cause.{Cause}
 use Rattle.report_reader.specs.Answers.{on_ok, bad}
 use Rattle.report_reader.specs.Pieces.{after, field}
 use Rattle.report_reader.specs.Numbers.{fraction, count}

@@ -10,7 +10,7 @@ use Rattle.scen_defs.specs.declared.report.Finding.{Finding}
 use Rattle.scen_defs.specs.declared.report.Finding.TheVariants.{Optimal, Infeasible, Unbounded, OpenSolves, OpenPivots, OpenPassed}
 use Rattle.scen_defs.specs.declared.report.Report.{Report}
 use Rattle.report_defs.specs.Findings.{has_direction, has_ray, has_extra}
-use Rattle.core_defs.specs.declared.cause.Cause.{Cause}
+use Rattle.refusals.specs.declared.cause.Cause.{Cause}
 use Rattle.report_reader.specs.declared.draft.ListKind.{ListKind}
 use Rattle.report_reader.specs.declared.draft.ListKind.TheVariants as lists
 use Rattle.report_reader.specs.declared.draft.Next.{Next}

@@ -8,8 +8,8 @@ use Rattle.frac128.specs.declared.text.NumFault.{NumFault}
 use Rattle.frac128.specs.declared.text.NumFault.TheVariants as faults
 use Rattle.smps_words.specs.Names.{same_name}
 use Rattle.scen_defs.specs.Lists.{pick}
-use Rattle.core_defs.specs.declared.cause.Cause.{Cause}
-use Rattle.core_defs.specs.declared.cause.Cause.TheVariants as cause
+use Rattle.refusals.specs.declared.cause.Cause.{Cause}
+use Rattle.refusals.specs.declared.cause.Cause.TheVariants as cause
 use Rattle.report_reader.specs.Answers.{on_ok, bad}
 
 -- ---- fractions

@@ -5,11 +5,12 @@ use Rattle.rationals.specs.Replies.Reply.{Says, Silent}
 use Rattle.scen_defs.specs.Lists.{pick}
 use Rattle.scen_defs.specs.declared.program.Program.{Program}
 use Rattle.scen_defs.specs.declared.report.Report.{Report}
-use Rattle.core_defs.specs.declared.cause.Cause.{Cause}
-use Rattle.core_defs.specs.declared.cause.Cause.TheVariants as cause
-use Rattle.core_defs.specs.declared.cause.Refusal.{Refusal}
-use Rattle.core_defs.specs.declared.cause.ReadFail.{ReadFail}
-use Rattle.core_defs.specs.declared.cause.ReadFail.TheVariants.{Refused, Memory}
+use Rattle.refusals.specs.declared.cause.Cause.{Cause}
+use Rattle.refusals.specs.declared.cause.Cause.TheVariants as cause
+use Rattle.refusals.specs.declared.cause.Refusal.{Refusal}
+use Rattle.refusals.specs.declared.cause.ReadFail.{ReadFail}
+use Rattle.refusals.specs.declared.cause.ReadFail.TheVariants.{Refused, Memory}
+use Rattle.refusals.specs.Results.{on_line}
 use Rattle.report_reader.specs.declared.fault.Fault.{Fault}
 use Rattle.report_reader.specs.declared.fault.Fault.TheVariants as fault
 use Rattle.report_text.specs.Text.{column_names, row_names}
@@ -46,11 +47,7 @@ abbrev pub finish : List Report → Draft → ℕ → List ℕ → Result (List 
 finish done draft number [] = pick (is_head draft.next) (Ok done) (refusal number cause.ReportBad)
 finish done draft number (byte ∷ rest) = refusal number cause.ReportBad
 
--- what the lines say from one on that is read, and has this number
-abbrev pub on_line : ℕ → Result Draft Cause → (Draft → Result (List Report) Refusal) → Result (List Report) Refusal
-on_line number (Ok draft) read = read draft
-on_line number (Err c) read = refusal number c
-
+-- what the lines say from one on that has this number; the first that is refused is named
 abbrev pub reads : Tables → List Report → Draft → ℕ → List (List ℕ) → List ℕ → Result (List Report) Refusal
 reads tables done draft number [] rest = finish done draft number rest
 reads tables done draft number (line ∷ lines) rest =

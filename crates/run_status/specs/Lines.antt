@@ -1,9 +1,9 @@
 -- The one line that a status prints, and the exit status of the program.
 use Rattle.std.specs.Prelude.{ℕ, List, [], ◌∷◌, ◌++◌, Option, Some, None, get_or, codes}
 use Rattle.std.specs.Fmt.{decimal}
-use Rattle.core_defs.specs.declared.cause.Cause.{Cause}
-use Rattle.core_defs.specs.declared.cause.Cause.TheVariants as cause
-use Rattle.core_defs.specs.Cause.{number_of_cause}
+use Rattle.refusals.specs.declared.cause.Cause.{Cause}
+use Rattle.refusals.specs.declared.cause.Cause.TheVariants as cause
+use Rattle.refusals.specs.Cause.{number_of_cause}
 use Rattle.core_defs.specs.Core.{row_names, column_names}
 use Rattle.core_defs.specs.declared.program.Core.{Core as CoreOf}
 use Rattle.frac128.specs.Text.{text_of}

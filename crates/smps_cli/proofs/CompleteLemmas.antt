@@ -3,9 +3,9 @@ use Rattle.std.proofs.Common.{◌≡◌, ◌<◌, ℕ, List, length, Option, Som
 use Rattle.smps_io.specs.Files.{Files, bytes_of}
 use Rattle.smps_words.specs.Line.{reading_of}
 use Rattle.rationals.specs.Passes.{Operation}
+use Rattle.refusals.specs.declared.cause.Cause.TheVariants.{Passes}
+use Rattle.refusals.specs.declared.cause.Refusal.{Refusal}
 use Rattle.core_defs.specs.Fault.{IsCoreFile}
-use Rattle.core_defs.specs.declared.cause.Cause.TheVariants.{Passes}
-use Rattle.core_defs.specs.declared.cause.Refusal.{Refusal}
 use Rattle.core_defs.specs.declared.program.Core.{Core}
 use Rattle.command_words.specs.declared.command.Task.TheVariants.{Solve}
 use Rattle.command_words.specs.Commands.{Asked}

@@ -2,6 +2,7 @@
 use Rattle.std.specs.Prelude.{◌≡◌, ◌≤◌, ◌⊎◌, ⊤, ℕ, List, length, Option, Some, None}
 use Rattle.smps_words.specs.Line.{reading_of}
 use Rattle.smps_io.specs.Files.{Files, bytes_of}
+use Rattle.refusals.specs.declared.cause.Cause.TheVariants.{Passes}
 use Rattle.core_defs.specs.Fault.{IsCoreFile}
 use Rattle.command_words.specs.declared.command.Budget.{Budget}
 use Rattle.command_words.specs.declared.command.Page.{Page}
@@ -11,7 +12,6 @@ use Rattle.command_words.specs.declared.command.Task.TheVariants.{Solve}
 use Rattle.command_words.specs.Commands.{FileNames, command_of}
 use Rattle.command_words.specs.Commands.Asked.{OnFiles, MakeThis}
 use Rattle.input_files.specs.Fetched.{Texts, AreGiven, file_limit}
-use Rattle.core_defs.specs.declared.cause.Cause.TheVariants.{Passes}
 use Rattle.rationals.specs.Passes.{Operation}
 use Rattle.input_files.specs.declared.kind.FileKind.TheVariants.{Core}
 use Rattle.scen_defs.specs.Program.{Program}

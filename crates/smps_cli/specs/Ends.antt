@@ -1,6 +1,6 @@
 -- How a command ends that had all its texts.
 use Rattle.std.specs.Prelude.{◌≡◌, ⊤, ℕ, List, Option}
-use Rattle.core_defs.specs.declared.cause.Cause.{Cause}
+use Rattle.refusals.specs.declared.cause.Cause.{Cause}
 use Rattle.core_defs.specs.declared.program.Core.{Core}
 use Rattle.input_files.specs.declared.kind.FileKind.{FileKind}
 use Rattle.input_files.specs.Fetched.{Texts}

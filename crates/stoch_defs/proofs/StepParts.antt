@@ -5,13 +5,13 @@ use Rattle.rationals.specs.Passes.{Operation, answer, passes, add_walk, mul_walk
 use Rattle.frac128.specs.declared.text.NumFault.{NumFault}
 use Rattle.frac128.specs.Numbers.{read_number}
 use Rattle.smps_words.specs.declared.entry.Entry.{Entry}
-use Rattle.core_defs.specs.declared.cause.Cause.{Cause}
-use Rattle.core_defs.specs.declared.cause.Cause.TheVariants as cause
+use Rattle.refusals.specs.declared.cause.Cause.{Cause}
+use Rattle.refusals.specs.declared.cause.Cause.TheVariants as cause
+use Rattle.refusals.specs.Results.{◌>>=◌, needs}
 use Rattle.rationals.specs.declared.Op.TheVariants as ops
 use Rattle.core_defs.specs.declared.program.Core.{Core}
 use Rattle.core_defs.specs.Number.{number_of, number_or_cause}
 use Rattle.core_defs.specs.Stated.{number_in, number_or_zero}
-use Rattle.core_defs.specs.Step.{◌>>=◌, needs}
 use Rattle.reader_defs.proofs.Taken.{bind_ok, needs_ok, else_ok, ok_is}
 use Rattle.time_defs.specs.Means.{Stages}
 use Rattle.stoch_defs.specs.declared.section.Mode.{Mode}

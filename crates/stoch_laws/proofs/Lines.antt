@@ -5,12 +5,12 @@ use Rattle.std.proofs.lemmas.List.{map-append}
 use Rattle.rationals.specs.Rational.{ℚ}
 use Rattle.smps_words.specs.Names.{same_name, place_of}
 use Rattle.smps_words.specs.declared.entry.Entry.{Entry}
-use Rattle.core_defs.specs.declared.cause.Cause.{Cause}
-use Rattle.core_defs.specs.declared.cause.Cause.TheVariants as cause
+use Rattle.refusals.specs.declared.cause.Cause.{Cause}
+use Rattle.refusals.specs.declared.cause.Cause.TheVariants as cause
+use Rattle.refusals.specs.Results.{◌>>=◌, needs}
 use Rattle.core_defs.specs.declared.program.Core.{Core}
 use Rattle.core_defs.specs.Number.{number_of}
 use Rattle.core_defs.specs.Stated.{number_in}
-use Rattle.core_defs.specs.Step.{◌>>=◌, needs}
 use Rattle.reader_defs.specs.Placed.{Placed}
 use Rattle.reader_defs.proofs.PlacedLemmas.{flat_snoc}
 use Rattle.reader_defs.proofs.Taken.{bind_ok, needs_ok, else_ok, ok_is}

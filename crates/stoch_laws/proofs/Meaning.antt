@@ -2,11 +2,12 @@
 use Rattle.std.proofs.Common.{◌≡◌, ◌∙◌, ap, ℕ, Bool, true, false, List, [], ◌∷◌, ◌++◌, Result, Ok, Err, refl, sym, subst, if◌then◌else◌}
 use Rattle.std.specs.Prelude.{filter, cond}
 use Rattle.smps_words.specs.Line.{TextLine, reading_of}
-use Rattle.core_defs.specs.declared.cause.Cause.{Cause}
-use Rattle.core_defs.specs.declared.cause.Refusal.{Refusal}
+use Rattle.refusals.specs.declared.cause.Cause.{Cause}
+use Rattle.refusals.specs.declared.cause.Refusal.{Refusal}
+use Rattle.refusals.specs.Results.{on_line}
 use Rattle.core_defs.specs.declared.program.Core.{Core}
 use Rattle.reader_defs.specs.Placed.{Placed, placed_from}
-use Rattle.reader_defs.specs.Reader.{on_line, read_from}
+use Rattle.reader_defs.specs.Reader.{read_from}
 use Rattle.time_defs.specs.Means.{Stages}
 use Rattle.stoch_defs.specs.declared.section.Mode.{Mode}
 use Rattle.stoch_defs.specs.declared.section.StochSection.{StochSection}

@@ -4,9 +4,9 @@ use Rattle.std.specs.Prelude.{cond}
 use Rattle.rationals.specs.Rational.{ℚ, zero_ℚ, ◌+ℚ◌, ◌/ℚ◌, add_assoc_ℚ, add_zero_ℚ, zero_add_ℚ}
 use Rattle.rationals.specs.Passes.{add_walk, div_walk}
 use Rattle.rationals.specs.Sums.{sum_ℚ}
-use Rattle.core_defs.specs.declared.cause.Cause.TheVariants as cause
+use Rattle.refusals.specs.declared.cause.Cause.TheVariants as cause
+use Rattle.refusals.specs.Results.{◌>>=◌}
 use Rattle.core_defs.specs.declared.program.Core.{Core}
-use Rattle.core_defs.specs.Step.{◌>>=◌}
 use Rattle.reader_defs.proofs.Taken.{bind_ok, else_ok, ok_is}
 use Rattle.time_defs.specs.Means.{Stages}
 use Rattle.stoch_defs.specs.declared.heads.CaseHead.{CaseHead}

@@ -9,11 +9,12 @@ use Rattle.rationals.specs.Ring.Given.{nothing, fact}
 use Rattle.rationals.specs.Passes.{add_walk, div_walk}
 use Rattle.rationals.specs.Sums.{sum_ℚ, sum-append}
 use Rattle.smps_words.specs.Line.{TextLine, reading_of}
-use Rattle.core_defs.specs.declared.cause.Cause.{Cause}
-use Rattle.core_defs.specs.declared.cause.Cause.TheVariants as cause
-use Rattle.core_defs.specs.declared.cause.Refusal.{Refusal}
+use Rattle.refusals.specs.declared.cause.Cause.{Cause}
+use Rattle.refusals.specs.declared.cause.Cause.TheVariants as cause
+use Rattle.refusals.specs.declared.cause.Refusal.{Refusal}
+use Rattle.refusals.specs.Results.{on_line}
 use Rattle.core_defs.specs.declared.program.Core.{Core}
-use Rattle.reader_defs.specs.Reader.{on_line, read_from}
+use Rattle.reader_defs.specs.Reader.{read_from}
 use Rattle.reader_defs.proofs.Taken.{bind_ok, else_ok, ok_is}
 use Rattle.time_defs.specs.Means.{Stages}
 use Rattle.stoch_defs.specs.declared.section.StochSection.{StochSection}

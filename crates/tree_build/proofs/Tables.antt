@@ -8,12 +8,12 @@ use Rattle.rationals.specs.Rational.{ℚ, zero_ℚ, one_ℚ, ◌<ℚ◌, at_most
 use Rattle.smps_words.specs.Names.{same_name, place_of, IsNumbered}
 use Rattle.smps_words.specs.declared.entry.Entry.{Entry}
 use Rattle.smps_words.proofs.NumberedNames.{place_of_right, numbered_snoc, none_numbered}
-use Rattle.core_defs.specs.declared.cause.Cause.{Cause}
-use Rattle.core_defs.specs.declared.cause.Cause.TheVariants as cause
+use Rattle.refusals.specs.declared.cause.Cause.{Cause}
+use Rattle.refusals.specs.declared.cause.Cause.TheVariants as cause
+use Rattle.refusals.specs.Results.{◌>>=◌, needs}
 use Rattle.core_defs.specs.declared.program.Core.{Core}
 use Rattle.core_defs.specs.Number.{number_of}
 use Rattle.core_defs.specs.Stated.{number_in}
-use Rattle.core_defs.specs.Step.{◌>>=◌, needs}
 use Rattle.reader_defs.proofs.Taken.{bind_ok, needs_ok, else_ok, ok_is}
 use Rattle.time_defs.specs.Means.{Stages}
 use Rattle.stoch_defs.specs.declared.section.Mode.{Mode}

@@ -1,5 +1,5 @@
 -- The rows of FileValues, computed.
-use Rattle.std.proofs.Common.{refl, [], ◌∷◌, inl, inr}
+use Rattle.std.proofs.Common.{refl, take, [], ◌∷◌, inl, inr}
 use Rattle.std.specs.Prelude.{codes}
 use Rattle.rationals.specs.Rational.{◌÷◌, ◌+ℚ◌, neg_ℚ, zero_ℚ, reduce, smaller, divides, nat_divides}
 use Rattle.smps_words.specs.Line.{line_of}
@@ -10,12 +10,19 @@ pub file_says : TheFileSays
 unfolding ◌÷◌ ◌+ℚ◌ neg_ℚ zero_ℚ reduce smaller divides nat_divides
 file_says = record {
   is_read = record {
+    number = 19;
     read = lines_told whole_file;
-    rest = [];
-    split = refl;
-    fit = (refl, (refl, (refl, (refl, (refl, (refl, (refl, (refl, (refl, (refl, (refl, (refl, (refl, (refl, (refl, (refl, (refl, (refl, (refl, tt)))))))))))))))))));
-    end = refl;
-    whole = refl;
+    whole = record {
+      read = take 18 (lines_told whole_file);
+      line = line_of 19 (codes "ENDATA");
+      rest = [];
+      split = refl;
+      fit = (refl, refl, (refl, refl, (refl, refl, (refl, refl, (refl, refl, (refl, refl, (refl, refl, (refl, refl, (refl, refl, (refl, refl, (refl, refl, (refl, refl, (refl, refl, (refl, refl, (refl, refl, (refl, refl, (refl, refl, (refl, refl, (refl, refl, tt)))))))))))))))))));
+      end = refl;
+      number_is = refl;
+      is = refl;
+    };
+    columns = refl;
   };
   objective = refl;
   rows = refl;
@@ -39,31 +46,29 @@ file_says = record {
 pub missing : MissingSectionsAreTold
 unfolding ◌÷◌ ◌+ℚ◌ neg_ℚ zero_ℚ reduce smaller divides nat_divides
 missing = record {
-  empty = inr (record { read = []; rest = []; split = refl; fit = tt; missing = inr (refl, refl); cause_is = refl; number_is = refl });
-  no_end = inr (record {
-    read = lines_told (codes "NAME COVER\nROWS\n N COST\nCOLUMNS\n X COST 1\n");
-    rest = [];
-    split = refl;
-    fit = (refl, (refl, (refl, (refl, (refl, tt)))));
-    missing = inr (refl, refl);
-    cause_is = refl;
-    number_is = refl;
-  });
-  no_columns = inr (record {
-    read = lines_told (codes "ROWS\n N COST\nENDATA\n");
-    rest = line_of 4 (codes "SOUP") ∷ [];
-    split = refl;
-    fit = (refl, (refl, (refl, tt)));
-    missing = inl (refl, refl);
-    cause_is = refl;
-    number_is = refl;
-  });
+  empty = inr (inl (record { fit = tt; open_ = refl; is = refl }));
+  no_end = inr (inl (record { fit = (refl, refl, (refl, refl, (refl, refl, (refl, refl, (refl, refl, tt))))); open_ = refl; is = refl }));
+  no_columns = inr (inr (record {
+    number = 3;
+    state = lines_told (codes "ROWS\n N COST\nENDATA\n");
+    whole = record {
+      read = lines_told (codes "ROWS\n N COST\n");
+      line = line_of 3 (codes "ENDATA");
+      rest = line_of 4 (codes "SOUP") ∷ [];
+      split = refl;
+      fit = (refl, refl, (refl, refl, (refl, refl, tt)));
+      end = refl;
+      number_is = refl;
+      is = refl;
+    };
+    faulty = refl;
+  }));
   line_first = inl (record {
     before = lines_told (codes "ROWS\n N COST\nCOLUMNS\n");
     line = line_of 4 (codes " X COST x");
     after = [];
     split = refl;
-    fit = (refl, (refl, (refl, tt)));
+    fit = (refl, refl, (refl, refl, (refl, refl, tt)));
     open_ = refl;
     cause_is = refl;
     number_is = refl;
@@ -73,7 +78,7 @@ missing = record {
     line = line_of 4 (codes " COST x");
     after = line_of 5 (codes "ENDATA") ∷ [];
     split = refl;
-    fit = (refl, (refl, (refl, tt)));
+    fit = (refl, refl, (refl, refl, (refl, refl, tt)));
     open_ = refl;
     cause_is = refl;
     number_is = refl;
@@ -83,18 +88,24 @@ missing = record {
     line = line_of 3 (codes "COLUMNS");
     after = line_of 4 (codes " X COST 1") ∷ line_of 5 (codes "ENDATA") ∷ [];
     split = refl;
-    fit = (refl, tt);
+    fit = (refl, refl, tt);
     open_ = refl;
     cause_is = refl;
     number_is = refl;
   });
-  neither = inr (record {
-    read = lines_told (codes "NAME MIX\nENDATA\n");
-    rest = [];
-    split = refl;
-    fit = (refl, (refl, tt));
-    missing = inl (refl, refl);
-    cause_is = refl;
-    number_is = refl;
-  });
+  neither = inr (inr (record {
+    number = 2;
+    state = lines_told (codes "NAME MIX\nENDATA\n");
+    whole = record {
+      read = line_of 1 (codes "NAME MIX") ∷ [];
+      line = line_of 2 (codes "ENDATA");
+      rest = [];
+      split = refl;
+      fit = (refl, refl, (refl, refl, tt));
+      end = refl;
+      number_is = refl;
+      is = refl;
+    };
+    faulty = refl;
+  }));
 }

@@ -2,6 +2,7 @@
 use Prim.Native.String.{String}
 use Rattle.std.specs.Prelude.{◌≡◌, ℕ, ◌*◌, ◌^◌, List, ◌++◌, Option, Some, None, Result, Ok, Err, codes}
 use Rattle.rationals.specs.Rational.{ℚ}
+use Rattle.refusals.specs.Results.{unless_refused}
 use Rattle.core_defs.specs.declared.bounds.ColumnBounds.{ColumnBounds}
 use Rattle.core_defs.specs.declared.kinds.BoundKind.TheVariants as bounds
 use Rattle.core_defs.specs.Bounds.{bound_kind, bounds_in}
@@ -18,10 +19,6 @@ both_bounds all = (all.lower, all.upper)
 -- the bounds of the column A by the lines of a text
 abbrev pub bounds_of_a : List ℕ → Interval
 bounds_of_a text = both_bounds (bounds_in (lines_told text) (codes "A"))
-
-abbrev pub unless_refused : Option ℕ → Interval → Result Interval ℕ
-unless_refused None ends = Ok ends
-unless_refused (Some cause) ends = Err cause
 
 -- the bounds of the column A behind a line of BOUNDS and earlier ones, or the number of the cause that refuses the line
 abbrev pub column_behind : String → String → Result Interval ℕ

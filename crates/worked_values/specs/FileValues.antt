@@ -6,11 +6,12 @@ use Rattle.rationals.specs.Passes.{Operation}
 use Rattle.smps_words.specs.Line.{reading_of}
 use Rattle.smps_words.specs.declared.row_kind.RowKind.{RowKind}
 use Rattle.smps_words.specs.declared.row_kind.RowKind.TheVariants.{Less, Greater}
-use Rattle.core_defs.specs.declared.cause.Cause.{Cause}
-use Rattle.core_defs.specs.declared.cause.Cause.TheVariants as cause
+use Rattle.refusals.specs.declared.cause.Cause.{Cause}
+use Rattle.refusals.specs.declared.cause.Cause.TheVariants as cause
+use Rattle.reader_defs.specs.Reader.{IsFault}
 use Rattle.core_defs.specs.Stated.{free_rows, constraints, constraint_kinds, columns, entry_in, rhs_in, range_in}
 use Rattle.core_defs.specs.Bounds.{bounds_in}
-use Rattle.core_defs.specs.Fault.{IsCoreFile, IsFault}
+use Rattle.core_defs.specs.Fault.{core_file, IsCoreFile}
 use Rattle.smps_build.specs.Single.{Interval, interval_walk}
 use Rattle.worked_values.specs.Told.{whole_ℚ, minus_ℚ, lines_told}
 use Rattle.worked_values.specs.BoundValues.{both_bounds}
@@ -59,7 +60,7 @@ pub record TheFileSays : Type 0 where
 
 -- the line with this number is at fault, for this cause
 abbrev pub IsAtFault : String → ℕ → Cause → Type 0
-IsAtFault text line why = IsFault (lines_told (codes text)) (reading_of 0 (codes text)).end_line (record { line = line; cause = why })
+IsAtFault text line why = IsFault core_file (lines_told (codes text)) (reading_of 0 (codes text)).end_line (record { line = line; cause = why })
 
 -- A missing section is looked for last, and named at the line behind the last of the whole text.
 pub record MissingSectionsAreTold : Type 0 where

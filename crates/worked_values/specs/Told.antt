@@ -3,8 +3,8 @@ use Prim.Native.String.{String}
 use Rattle.std.specs.Prelude.{ℕ, pos, neg_ℤ, List, Option, Some, None, codes}
 use Rattle.rationals.specs.Rational.{ℚ, ◌÷◌}
 use Rattle.smps_words.specs.Line.{TextLine, line_of, reading_of}
-use Rattle.core_defs.specs.declared.cause.Cause.{Cause}
-use Rattle.core_defs.specs.Cause.{number_of_cause}
+use Rattle.refusals.specs.declared.cause.Cause.{Cause}
+use Rattle.refusals.specs.Cause.{number_of_cause}
 use Rattle.core_defs.specs.Fault.{fault}
 
 -- a whole number, and one below 0 by its size

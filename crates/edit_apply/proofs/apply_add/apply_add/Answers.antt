@@ -1,5 +1,5 @@
 use Rattle.std.proofs.Common.{◌≡◌, None, Option, MatchResult, sym, subst, ◌∙◌}
-use Rattle.core_defs.specs.declared.cause.Cause.{Cause}
+use Rattle.refusals.specs.declared.cause.Cause.{Cause}
 use Rattle.scen_defs.specs.Program.{content, nodes_content, scenario_content}
 use Rattle.edit_apply.specs.Faults.{ApplyFaultOf}
 use Rattle.edit_apply.proofs.Ends.{add_after, add_left_is, ok_both}

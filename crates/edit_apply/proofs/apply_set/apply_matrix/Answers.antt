@@ -1,5 +1,5 @@
 use Rattle.std.proofs.Common.{None, ap, sym, ◌∙◌}
-use Rattle.core_defs.specs.declared.cause.Cause.TheVariants.{ScenarioLimit}
+use Rattle.refusals.specs.declared.cause.Cause.TheVariants.{ScenarioLimit}
 use Rattle.scen_defs.specs.Program.{Program, content, nodes_content}
 use Rattle.edit_defs.specs.Causes.{refused_if}
 use Rattle.edit_defs.specs.Limits.{are_many, counts}

@@ -2,8 +2,8 @@
 use Rattle.std.proofs.Common.{◌∙◌, ◌∷◌, List, Result, Err, ap, sym, subst}
 use Rattle.smps_words.specs.Line.{TextLine}
 use Rattle.smps_words.specs.Seen.{seen}
-use Rattle.core_defs.specs.declared.cause.Refusal.{Refusal}
-use Rattle.core_defs.specs.declared.cause.ReadFail.{ReadFail}
+use Rattle.refusals.specs.declared.cause.Refusal.{Refusal}
+use Rattle.refusals.specs.declared.cause.ReadFail.{ReadFail}
 use Rattle.reader_defs.specs.Reader.{read_from}
 use Rattle.stoch_defs.specs.File.{stoch_file}
 use Rattle.stoch_defs.specs.Random.{Random}

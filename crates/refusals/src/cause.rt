@@ -111,7 +111,7 @@ pub enum Cause {
 }
 
 impl Cause {
-    ghost use Rattle.core_defs.specs.Cause.{number_of_cause};
+    ghost use Rattle.refusals.specs.Cause.{number_of_cause};
 
     /// The number by which the cause is printed.
     pub fn number(&self) -> u32

@@ -1,7 +1,7 @@
 -- The numbers of causes.
 use Rattle.std.specs.Prelude.{ℕ}
-use Rattle.core_defs.specs.declared.cause.Cause.{Cause}
-use Rattle.core_defs.specs.declared.cause.Cause.TheVariants as cause
+use Rattle.refusals.specs.declared.cause.Cause.{Cause}
+use Rattle.refusals.specs.declared.cause.Cause.TheVariants as cause
 
 abbrev pub number_of_cause : Cause → ℕ
 number_of_cause cause.SectionUnknown = 10

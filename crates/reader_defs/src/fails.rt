@@ -1,11 +1,11 @@
 //! How a text is refused.
 ghost use Rattle.std.specs.Prelude.{◌≡◌};
-ghost use Rattle.core_defs.specs.declared.cause.Cause.TheVariants as cause;
-ghost use Rattle.core_defs.specs.declared.cause.ReadFail.TheVariants as fail;
+ghost use Rattle.refusals.specs.declared.cause.Cause.TheVariants as cause;
+ghost use Rattle.refusals.specs.declared.cause.ReadFail.TheVariants as fail;
 ghost use Rattle.reader_defs.specs.Stops.{refused};
 
 use crate::stop::Stop;
-use core_defs::{Cause, ReadFail, Refusal};
+use refusals::{Cause, ReadFail, Refusal};
 use smps_words::Lines;
 
 /// The line behind the last, where a section or ENDATA is missing.
