@@ -1,8 +1,8 @@
 -- Passes over the numbers of columns at nodes.
-use Rattle.std.proofs.Common.{◌≡◌, ◌≢◌, ℕ, zero, suc, ◌+◌, ◌-◌, ◌<◌, ◌≤◌, ◌⊎◌, inl, inr, Bool, true, false, ◌&&◌, eqb, leb, List, [], ◌∷◌, Vec, Result, Ok, Err, length, get_or, refl, sym, ap, ap₂, subst, ◌∙◌, arith, eqb-true}
+use Rattle.std.proofs.Common.{◌≡◌, ◌≢◌, ℕ, zero, suc, ◌+◌, ◌-◌, ◌<◌, ◌≤◌, ◌⊎◌, inl, inr, Bool, true, false, ◌&&◌, eqb, leb, List, [], ◌∷◌, ◌++◌, Vec, Option, Result, Ok, Err, length, get_or, refl, sym, ap, ap₂, subst, ◌∙◌, arith, eqb-true}
 use Rattle.std.specs.declared.alloc.Global.{Global}
 use Rattle.std.proofs.Math.ListN.{set}
-use Rattle.std.proofs.lemmas.List.{map-set, get_or-set_same, get_or-set_other, get_or-map, length-map}
+use Rattle.std.proofs.lemmas.List.{map-set, get_or-set_same, get_or-set_other, get_or-map, length-map, map-append, get_or_at, get_or_append_left}
 use Rattle.std.proofs.lemmas.Bool.{eq-eqb, ne_eqb, eqb-false, and_parts, leb-false}
 use Rattle.std.proofs.lemmas.Bool.Decides.{eqb_tells}
 use Rattle.rationals.specs.Rational.{ℚ, zero_ℚ, ◌*ℚ◌, mul_zero_ℚ}
@@ -11,11 +11,12 @@ use Rattle.rationals.specs.Passes.{Operation, mul_walk, less_product_walk, then_
 use Rattle.scen_defs.specs.declared.program.Column.{Column}
 use Rattle.scen_defs.specs.declared.program.NodeRow.{NodeRow}
 use Rattle.scen_defs.specs.declared.program.Program.{Program as ProgramOf}
-use Rattle.scen_defs.specs.Lists.{pick}
-use Rattle.scen_defs.specs.Program.{View, content, view_of, column_at}
+use Rattle.scen_defs.specs.declared.program.Node.{Node as NodeOf}
+use Rattle.scen_defs.specs.Lists.{pick, passes_at}
+use Rattle.scen_defs.specs.Program.{View, Node, Program, content, nodes_content, is_live, view_of, column_at}
 use Rattle.scen_defs.specs.Flat.{up, home, is_above}
 use Rattle.scen_model.specs.Walks.{total_walk, less_from, less_step, less_all, reduced_walk}
-use Rattle.scen_model.specs.Gathered.{Fits, lists_in, is_of, IsSeated, AreSeated, AreApart, number_in, number_of, at_home, entry_from, entries_from, AreTotals, LessAt, LessIn, AllMove, AllPriced, AreAll}
+use Rattle.scen_model.specs.Gathered.{Fits, lists_in, is_of, IsSeated, AreSeated, AreApart, number_in, number_of, at_home, entry_from, entries_from, AreTotals, LessAt, LessIn, AllMove, IsPriced, AllPriced, AreAll}
 use Rattle.scen_model.proofs.Reduces.{nothing, entries_sum}
 
 -- ---- what is left to do from the numbers now is what there was to do from those at the start
@@ -216,16 +217,46 @@ row_stays v columns seats n y es old e k j o f = (
 )
 
 -- ---- the numbers from which all rows are taken are the reduced costs
-pub reduced_all : (v : View) (costs : ℕ → List Entry) (y : ℕ → ℕ → ℚ) (columns : List Column) (own : List (List ℕ)) (seats : List ℕ) (totals : List ℚ) (count : ℕ) (old new : List (List ℚ))
-    → AreTotals v totals → length totals ≡ count → AreSeated columns own seats → AllPriced v costs totals own count old → AllMove v columns seats (λ k j s. less_all v y k j s) old new
-    → AreAll v columns seats count (reduced_walk costs v y) new
-reduced_all v costs y columns own seats totals count old new are long seated priced moves k j h o =
+-- one more list
+pub priced_next : (p : Program) (costs : ℕ → List Entry) (totals : List ℚ) (own : List (List ℕ)) (place : ℕ) (old new : List (Vec ℚ Global)) (list : Vec ℚ Global) → length old ≡ place → new ≡ old ++ list ∷ []
+    → AllPriced p costs totals own place (lists_in old) → (passes_at is_live place p.nodes ≡ true → IsPriced (view_of p) costs totals own place list.items) → AllPriced p costs totals own (place + 1) (lists_in new)
+priced_next p costs totals own place old new list long pushed kept here k below live = go (eqb_tells k place)
+  where
+    all : lists_in new ≡ lists_in old ++ list.items ∷ []
+    all = ap lists_in pushed ∙ map-append (λ (l : Vec ℚ Global). l.items) old (list ∷ [])
+
+    go : (((eqb k place ≡ true) × (k ≡ place)) ⊎ ((eqb k place ≡ false) × (k ≢ place))) → IsPriced (view_of p) costs totals own k (get_or (lists_in new) k [])
+    go (inl q) =
+        let at : list.items ≡ get_or (lists_in new) k [] = sym (ap (λ (l : List (List ℚ)). get_or l k []) all ∙ get_or_at (lists_in old) list.items [] [] k (length-map old (λ (l : Vec ℚ Global). l.items) ∙ long ∙ sym q.1)) in
+        subst (λ (l : List ℚ). IsPriced (view_of p) costs totals own k l) at
+        (subst (λ n. IsPriced (view_of p) costs totals own n list.items) (sym q.1) (here (subst (λ n. passes_at is_live n p.nodes ≡ true) q.1 live)))
+    go (inr q) =
+        let apart : k ≢ place = q.1 in
+        let within : k < length (lists_in old) = omega (arith, below, apart, long, length-map old (λ (l : Vec ℚ Global). l.items)) in
+        subst (λ (l : List ℚ). IsPriced (view_of p) costs totals own k l) (sym (ap (λ (l : List (List ℚ)). get_or l k []) all ∙ get_or_append_left (lists_in old) (list.items ∷ []) [] k within))
+        (kept k (omega (arith, below, apart)) live)
+
+live_within : (nodes : List (Option Node)) (k : ℕ) → passes_at is_live k nodes ≡ true → k < length nodes
+live_within [] k e = absurd (cc)
+live_within (slot ∷ nodes) zero e = omega arith
+live_within (slot ∷ nodes) (suc k) e = let h = live_within nodes k e in omega (arith, h)
+
+pub content_long : (nodes : List (Option NodeOf)) → length (nodes_content nodes) ≡ length nodes
+content_long [] = refl
+content_long (place ∷ nodes) = ap suc (content_long nodes)
+
+pub reduced_all : (p : ProgramOf) (costs : ℕ → List Entry) (y : ℕ → ℕ → ℚ) (own : List (List ℕ)) (seats : List ℕ) (totals : List ℚ) (old new : List (List ℚ))
+    → AreTotals (view_of (content p)) totals → length totals ≡ length p.nodes.items → AreSeated p.columns.items own seats → AllPriced (content p) costs totals own (length (nodes_content p.nodes.items)) old
+    → AllMove (view_of (content p)) p.columns.items seats (λ k j s. less_all (view_of (content p)) y k j s) old new → AreAll (content p) seats (reduced_walk costs (view_of (content p)) y) new
+reduced_all p costs y own seats totals old new are long seated priced moves k j live o =
+    let v = view_of (content p) in
+    let h = live_within (nodes_content p.nodes.items) k live in
     let seat = seated (v.stage k) j o in
-    let list = priced k h in
-    let p = list.1 (get_or seats j 0) (omega (arith, seat.within, list.0)) in
-    let price : mul_walk (get_or totals k zero_ℚ) (coefficient (costs k) j) ≡ Ok (number_of old seats k j) = ap (λ c. mul_walk (get_or totals k zero_ℚ) (coefficient (costs k) c)) (sym seat.there) ∙ p.0 in
-    let m = moves k j o p.1 in (
-      ap (λ w. then_walk w (λ t. then_walk (mul_walk t (coefficient (costs k) j)) (λ c. less_all v y k j c))) (are k zero_ℚ (omega (arith, h, long)))
+    let list = priced k h live in
+    let q = list.priced (get_or seats j 0) (omega (arith, seat.within, list.long)) in
+    let price : mul_walk (get_or totals k zero_ℚ) (coefficient (costs k) j) ≡ Ok (number_of old seats k j) = ap (λ c. mul_walk (get_or totals k zero_ℚ) (coefficient (costs k) c)) (sym seat.there) ∙ q.0 in
+    let m = moves k j o q.1 in (
+      ap (λ w. then_walk w (λ t. then_walk (mul_walk t (coefficient (costs k) j)) (λ c. less_all v y k j c))) (are k zero_ℚ (omega (arith, h, long, content_long p.nodes.items)))
           ∙ ap (λ w. then_walk w (λ c. less_all v y k j c)) price ∙ m.0,
       m.1,
     )

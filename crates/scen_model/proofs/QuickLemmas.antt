@@ -12,6 +12,7 @@ use Rattle.scen_model.specs.declared.stop.Stop.{Stop}
 use Rattle.scen_model.specs.Walks.{fold_walk, product_from, total_walk, totals_walk, cost_step, costs_walk, cost_walk, stopping, bound_step, worth_step, column_step, columns_step, reduced_walk, all_rows, all_columns, dual_by}
 use Rattle.scen_model.specs.Gathered.{AreTotals, AreAll, number_of, is_of, cost_step_with, costs_with, columns_with}
 use Rattle.scen_model.proofs.Reduces.{then_same}
+use Rattle.scen_model.proofs.Homes.{content_long}
 
 -- ---- two walks over the places of what passes a test
 module _ {A S P : Type 0} (f g : S → ℕ → Result S P) (test : A → Bool) where
@@ -29,10 +30,6 @@ module _ {A S P : Type 0} (f g : S → ℕ → Result S P) (test : A → Bool) w
   places_same k (x ∷ xs) h s = first k xs (test x) s (λ e. h k 0 (omega arith) (omega arith) e s) (places_same (suc k) xs (λ n i e l t. h n (suc i) (omega (arith, e)) (omega (arith, l)) t))
 
 -- ---- totals
-content_long : (nodes : List (Option NodeOf)) → length (nodes_content nodes) ≡ length nodes
-content_long [] = refl
-content_long (place ∷ nodes) = ap suc (content_long nodes)
-
 totals_from : (v : View) (k : ℕ) (xs : List (Option Node)) → ((n i : ℕ) → n ≡ k + i → i < length xs → (t : ℚ) × (total_walk v n ≡ Ok t)) → totals_walk v (places is_live k xs) ≡ Ok tt
 totals_from v k [] h = refl
 totals_from v k (None ∷ xs) h = totals_from v (suc k) xs (λ n i e l. h n (suc i) (omega (arith, e)) (omega (arith, l)))
@@ -59,8 +56,8 @@ module _ (p : ProgramOf) (totals : List ℚ) (long : length totals ≡ length p.
 
 -- ---- reduced costs
 module _ (p : ProgramOf) (costs : ℕ → List Entry) (y : ℕ → ℕ → ℚ) (seats : List ℕ) (numbers : List (List ℚ))
-    (are : AreAll (view_of (content p)) p.columns.items seats (length p.nodes.items) (reduced_walk costs (view_of (content p)) y) numbers) where
-  pub columns_are : (m : ℕ) (s : ℚ) → m < length p.nodes.items → columns_with (view_of (content p)) (number_of numbers seats m) s m ≡ columns_step costs (view_of (content p)) y s m
+    (are : AreAll (content p) seats (reduced_walk costs (view_of (content p)) y) numbers) where
+  pub columns_are : (m : ℕ) (s : ℚ) → passes_at is_live m (nodes_content p.nodes.items) ≡ true → columns_with (view_of (content p)) (number_of numbers seats m) s m ≡ columns_step costs (view_of (content p)) y s m
   columns_are m s h =
       let v = view_of (content p) in
       places_same (λ t j. worth_step (v.lower j) (v.upper j) (number_of numbers seats m j) t) (column_step costs v y m) (λ (c : Column). eqb c.stage (v.stage m)) 0 p.columns.items
@@ -72,7 +69,9 @@ module _ (p : ProgramOf) (costs : ℕ → List Entry) (y : ℕ → ℕ → ℚ) 
   all_are s =
       let v = view_of (content p) in
       places_same (λ t n. columns_with v (number_of numbers seats n) t n) (columns_step costs v y) is_live 0 (nodes_content p.nodes.items)
-      (λ n i e l _ u. columns_are n u (omega (arith, e, l, content_long p.nodes.items))) s
+      (λ n i e l t u.
+      let same : i ≡ n = omega (arith, e) in
+      columns_are n u (subst (λ k. passes_at is_live k (nodes_content p.nodes.items) ≡ true) same t)) s
 
 -- ---- the value
 pub dual_is : (costs : ℕ → List Entry) (v : View) (y : ℕ → ℕ → ℚ) (rows : Result ℚ Stop) → totals_walk v v.live ≡ Ok tt → rows ≡ all_rows v y → then_walk rows (λ s. all_columns costs v y s) ≡ dual_by costs v y

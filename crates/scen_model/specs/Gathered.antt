@@ -9,7 +9,7 @@ use Rattle.rationals.specs.Passes.{Operation, too_wide, mul_walk, less_product_w
 use Rattle.rationals.specs.Sparse.{Entry, coefficient}
 use Rattle.scen_defs.specs.declared.program.Column.{Column}
 use Rattle.scen_defs.specs.Lists.{passes_at, pick}
-use Rattle.scen_defs.specs.Program.{View}
+use Rattle.scen_defs.specs.Program.{View, Program, is_live, view_of}
 use Rattle.scen_defs.specs.Flat.{home}
 use Rattle.scen_model.specs.declared.stop.Stop.{Stop}
 use Rattle.scen_model.specs.declared.stop.Stop.TheVariants.{Decided as DecidedStop}
@@ -95,10 +95,10 @@ AllMove v columns seats walk old new =
     (k j : ℕ) → is_of columns (v.stage k) j ≡ true → Fits (number_of old seats k j)
     → (walk k j (number_of old seats k j) ≡ Ok (number_of new seats k j)) × Fits (number_of new seats k j)
 
--- for each node k and each column j of its stage, the number is the walk's
-abbrev pub AreAll : {P : Type 0} → View → List Column → List ℕ → ℕ → (ℕ → ℕ → Result ℚ P) → List (List ℚ) → Type 0
-AreAll v columns seats count walk numbers =
-    (k j : ℕ) → k < count → is_of columns (v.stage k) j ≡ true
+-- for each live node k and each column j of its stage, the number is the walk's
+abbrev pub AreAll : {P : Type 0} → Program → List ℕ → (ℕ → ℕ → Result ℚ P) → List (List ℚ) → Type 0
+AreAll p seats walk numbers =
+    (k j : ℕ) → passes_at is_live k p.nodes ≡ true → is_of p.columns ((view_of p).stage k) j ≡ true
     → (walk k j ≡ Ok (number_of numbers seats k j)) × Fits (number_of numbers seats k j)
 
 -- the number at each place is the total times the cost of the column at that place
@@ -108,12 +108,15 @@ ArePriced total costs own numbers =
     → (mul_walk total (coefficient costs (slice_index_or own i 0)) ≡ Ok (slice_index_or numbers i zero_ℚ))
     × Fits (slice_index_or numbers i zero_ℚ)
 
--- the same of each node's list, which has a number for each column of the node's stage
-abbrev pub AllPriced : View → (ℕ → List Entry) → List ℚ → List (List ℕ) → ℕ → List (List ℚ) → Type 0
-AllPriced v costs totals own count numbers =
-    (k : ℕ) → k < count
-    → (length (slice_index_or numbers k []) ≡ length (slice_index_or own (v.stage k) []))
-    × ArePriced (slice_index_or totals k zero_ℚ) (costs k) (slice_index_or own (v.stage k) []) (slice_index_or numbers k [])
+-- the same of a list that has a number for each column of node k's stage
+pub record IsPriced (v : View) (costs : ℕ → List Entry) (totals : List ℚ) (own : List (List ℕ)) (k : ℕ) (numbers : List ℚ) : Type 0 where
+  pub long : length numbers ≡ length (slice_index_or own (v.stage k) [])
+  pub priced : ArePriced (slice_index_or totals k zero_ℚ) (costs k) (slice_index_or own (v.stage k) []) numbers
+
+-- the same of the list of each live node before a place
+abbrev pub AllPriced : Program → (ℕ → List Entry) → List ℚ → List (List ℕ) → ℕ → List (List ℚ) → Type 0
+AllPriced p costs totals own place numbers =
+    (k : ℕ) → k < place → passes_at is_live k p.nodes ≡ true → IsPriced (view_of p) costs totals own k (slice_index_or numbers k [])
 
 -- a walk at the nodes below k alone
 abbrev pub at_home : {P : Type 0} → View → ℕ → ℕ → ℕ → ℚ → Result ℚ P → Result ℚ P

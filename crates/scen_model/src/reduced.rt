@@ -1,13 +1,15 @@
 // The reduced costs of all nodes' columns, in one pass over the rows of all nodes.
-ghost use Rattle.std.specs.Prelude.{◌≡◌, [], length, IfOk, OnOk, slice_index_or};
+ghost use Rattle.std.specs.Prelude.{◌≡◌, true, length, IfOk, OnOk, slice_index_or};
 ghost use Rattle.rationals.specs.Rational.{zero_ℚ};
 ghost use Rattle.rationals.specs.Passes.{less_product_walk};
 ghost use Rattle.rationals.specs.Sparse.{coefficient};
 ghost use Rattle.scen_defs.specs.Values.{at};
-ghost use Rattle.scen_defs.specs.Program.{content, view_of};
+ghost use Rattle.scen_defs.specs.Program.{content, is_live, view_of};
+ghost use Rattle.scen_defs.specs.Lists.{passes_at};
 ghost use Rattle.scen_model.specs.Walks.{less_from, less_all, costs_of, reduced_walk};
 ghost use Rattle.scen_model.specs.Gathered.{lists_in, at_home, entry_from, entries_from};
-ghost use Rattle.scen_model.specs.Gathered.{AreTotals, AreSeated, AreApart, LessAt, LessIn, AllMove, ArePriced, AllPriced, AreAll};
+ghost use Rattle.scen_model.specs.Gathered.{AreTotals, AreSeated, AreApart, LessAt, LessIn, AllMove};
+ghost use Rattle.scen_model.specs.Gathered.{ArePriced, IsPriced, AllPriced, AreAll};
 
 use crate::charges::{Costs, cost_at};
 use crate::ends::number_at;
@@ -15,7 +17,7 @@ use crate::seats::Seating;
 use crate::unfinished::Unfinished;
 use frac128::{Frac, Term};
 use scen_defs::{NodeRow, Program, Values};
-use scen_nodes::{home, is_column_of, stage};
+use scen_nodes::{find, home, is_column_of, stage};
 use std::alloc::Global;
 
 /// The seat of a column, 0 where there is none.
@@ -211,7 +213,7 @@ fn priced(
     Ok(numbers)
 }
 
-/// The same for the node at a place, where the columns stand by stage.
+/// The same, where the node is live and the columns stand by stage; no numbers for a node that is not live.
 fn node_priced(
     alloc: Global,
     program: &Program,
@@ -220,19 +222,22 @@ fn node_priced(
     own: &[Vec<u64>],
     node: u64,
 ) -> Result<Vec<Frac>, Unfinished>
-    ensures length { let v = view_of (content program.now) in
-        IfOk result (λ numbers. length numbers.items ≡ length (slice_index_or (lists_in own.now) (v.stage node) [])) }
-    ensures priced { let v = view_of (content program.now) in
+    ensures { let v = view_of (content program.now) in
         IfOk result (λ numbers.
-        ArePriced (slice_index_or totals.now node zero_ℚ) (costs_of costs v node) (slice_index_or (lists_in own.now) (v.stage node) [])
+        passes_at is_live node (content program.now).nodes ≡ true → IsPriced v (costs_of costs v) totals.now (lists_in own.now) node
         numbers.items) }
 {
-    let row = stage(program, node) as usize;
-    if row >= own.len() {
-        return Err(Unfinished::Walk);
+    match find(&program.nodes, node) {
+        Some(found) => {
+            let row = found.stage as usize;
+            if row >= own.len() {
+                return Err(Unfinished::Walk);
+            }
+            let total = number_at(totals, node as usize);
+            priced(alloc, program, costs, node, total, own[row].as_slice())
+        }
+        None => Ok(Vec::new(alloc)),
     }
-    let total = number_at(totals, node as usize);
-    priced(alloc, program, costs, node, total, own[row].as_slice())
 }
 
 /// The same for all nodes.
@@ -243,9 +248,9 @@ fn all_priced(
     totals: &[Frac],
     own: &[Vec<u64>],
 ) -> Result<Vec<Vec<Frac>>, Unfinished>
-    ensures { let v = view_of (content program.now) in
+    ensures { let p = content program.now in
         IfOk result (λ numbers.
-        AllPriced v (costs_of costs v) totals.now (lists_in own.now) (length program.now.nodes.items) (lists_in numbers.items)) }
+        AllPriced p (costs_of costs (view_of p)) totals.now (lists_in own.now) (length p.nodes) (lists_in numbers.items)) }
 {
     let count = program.nodes.len();
     let mut numbers = Vec::with_capacity(alloc, count)?;
@@ -270,8 +275,7 @@ pub(crate) fn reduced_costs(
     requires seated { AreSeated program.now.columns.items (lists_in seating.now.own.items) seating.now.seats.items }
     ensures { let v = view_of (content program.now) in
         IfOk result (λ numbers.
-        AreAll v program.now.columns.items seating.now.seats.items (length program.now.nodes.items)
-        (reduced_walk (costs_of costs v) v (at values.now)) (lists_in numbers.items)) }
+        AreAll (content program.now) seating.now.seats.items (reduced_walk (costs_of costs v) v (at values.now)) (lists_in numbers.items)) }
 {
     let own = seating.own.as_slice();
     let mut numbers = all_priced(alloc, program, costs, totals, own)?;

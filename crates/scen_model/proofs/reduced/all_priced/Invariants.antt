@@ -6,8 +6,8 @@ use Rattle.scen_model.proofs.reduced.all_priced.Given as goal
 
 abbrev pub invariant-loop-node : goal.invariant-loop-node
 invariant-loop-node l =
-    let v = view_of (content l.program) in
+    let p = content l.program in
     record {
       long : length l.numbers.items ≡ l.node;
-      priced : AllPriced v (costs_of l.costs v) l.totals (lists_in l.own) l.node (lists_in l.numbers.items);
+      priced : AllPriced p (costs_of l.costs (view_of p)) l.totals (lists_in l.own) l.node (lists_in l.numbers.items);
     }

@@ -22,12 +22,12 @@ returns c =
     let y = at c.args.values.now in
     let columns = c.args.program.now.columns.items in
     let seats = c.args.seating.now.seats.items in
-    let count = length c.args.program.now.nodes.items in
+    let p = content c.args.program.now in
     let first = c.in_ok-numbers.numbers.items in
     let last = c.less_all.new.numbers in
     let back : (with_items c.in_ok-numbers.numbers last).items ≡ last = with_items_is c.in_ok-numbers.numbers last (omega arith) in
-    subst (λ (numbers : List (Vec ℚ Global)). AreAll v columns seats count (reduced_walk costs v y) (lists_in numbers)) (sym back)
-    (reduced_all v costs y columns (lists_in c.args.seating.now.own.items) seats c.args.totals.now count (lists_in first) (lists_in last) c.requires.totals c.requires.all_totals c.requires.seated
-    (subst (λ (own : List (Vec ℕ Global)). AllPriced v costs c.args.totals.now (lists_in own) count (lists_in first)) c.as_slice-own.ensures.value c.in_ok-numbers.ensures)
+    subst (λ (numbers : List (Vec ℚ Global)). AreAll p seats (reduced_walk costs v y) (lists_in numbers)) (sym back)
+    (reduced_all c.args.program.now costs y (lists_in c.args.seating.now.own.items) seats c.args.totals.now (lists_in first) (lists_in last) c.requires.totals c.requires.all_totals c.requires.seated
+    (subst (λ (own : List (Vec ℕ Global)). AllPriced p costs c.args.totals.now (lists_in own) (length p.nodes) (lists_in first)) c.as_slice-own.ensures.value c.in_ok-numbers.ensures)
     (subst (λ (numbers : List (Vec ℚ Global)). AllMove v columns seats (λ k j s. less_all v y k j s) (lists_in numbers) (lists_in last)) c.as_mut_slice.ensures.value
     (subst (λ (all : List ℕ). AllMove v columns all (λ k j s. less_all v y k j s) (lists_in c.as_mut_slice.result.now) (lists_in last)) c.as_slice.ensures.value c.in_ok-less_all.ensures)))
