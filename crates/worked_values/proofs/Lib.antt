@@ -10,3 +10,6 @@ pub mod BoundRows
 pub mod PairRows
 pub mod FaultRows
 pub mod FileRows
+pub mod NamedParts
+pub mod TimeRows
+pub mod StochRows

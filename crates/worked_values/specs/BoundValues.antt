@@ -95,11 +95,15 @@ pub record BoundsAreAsDocumented : Type 0 where
   pub lo_two : column_behind "" " LO A" ≡ Err 18
   pub lo_five : column_behind "" " LO BND A 1 2" ≡ Err 18
   pub up_two : column_behind "" " UP A" ≡ Err 18
+  pub up_five : column_behind "" " UP BND A 1 2" ≡ Err 18
   pub fx_two : column_behind "" " FX A" ≡ Err 18
+  pub fx_five : column_behind "" " FX BND A 1 2" ≡ Err 18
   pub fr_one : column_behind "" " FR" ≡ Err 18
   pub fr_five : column_behind "" " FR BND A 1 2" ≡ Err 18
   pub mi_one : column_behind "" " MI" ≡ Err 18
+  pub mi_five : column_behind "" " MI BND A 1 2" ≡ Err 18
   pub pl_one : column_behind "" " PL" ≡ Err 18
+  pub pl_five : column_behind "" " PL BND A 1 2" ≡ Err 18
   -- the set of the first line is used, and lines without a set name are a set of their own
   pub other_set : column_behind " UP BND A 5\n" " UP OTHER A 7" ≡ bounded_by (whole_ℚ 0) (whole_ℚ 5)
   pub other_unknown : column_behind " UP BND A 5\n" " UP OTHER Q x" ≡ bounded_by (whole_ℚ 0) (whole_ℚ 5)

@@ -1,8 +1,8 @@
 -- Between which ends a constraint lies, by its kind, its right-hand side and its range.
-use Rattle.std.specs.Prelude.{◌≡◌, ◌-◌, ◌^◌, Option, Some, None, Result, Ok, Err}
+use Rattle.std.specs.Prelude.{◌≡◌, ◌-◌, ◌^◌, false, Option, Some, None, Result, Ok, Err}
 use Rattle.rationals.specs.declared.Op.TheVariants.{Add}
-use Rattle.rationals.specs.Rational.{ℚ}
-use Rattle.rationals.specs.Passes.{Operation}
+use Rattle.rationals.specs.Rational.{ℚ, zero_ℚ, ◌+ℚ◌, ◌-ℚ◌, ◌≤ℚ◌, ◌<ℚ◌}
+use Rattle.rationals.specs.Passes.{Operation, too_wide}
 use Rattle.smps_words.specs.declared.row_kind.RowKind.{RowKind}
 use Rattle.smps_words.specs.declared.row_kind.RowKind.TheVariants.{Less, Greater, Equal}
 use Rattle.smps_build.specs.Single.{Interval, interval_walk}
@@ -26,6 +26,15 @@ pub record IntervalsAreAsDocumented : Type 0 where
   pub less : (b : ℚ) → interval_walk Less b None ≡ Ok (None, Some b)
   pub greater : (b : ℚ) → interval_walk Greater b None ≡ Ok (Some b, None)
   pub equal : (b : ℚ) → interval_walk Equal b None ≡ Ok (Some b, Some b)
+  -- with a range R that is at least 0, where the end fits into 128 bits: L from b - R up to b, G and E from b up to b + R
+  pub less_from : (b r : ℚ) → zero_ℚ ≤ℚ r → too_wide (b -ℚ r) ≡ false → interval_walk Less b (Some r) ≡ Ok (Some (b -ℚ r), Some b)
+  pub greater_to : (b r : ℚ) → zero_ℚ ≤ℚ r → too_wide (b +ℚ r) ≡ false → interval_walk Greater b (Some r) ≡ Ok (Some b, Some (b +ℚ r))
+  pub equal_to : (b r : ℚ) → zero_ℚ ≤ℚ r → too_wide (b +ℚ r) ≡ false → interval_walk Equal b (Some r) ≡ Ok (Some b, Some (b +ℚ r))
+  -- with one below 0, whose size is -R: L and E from b + R up to b, G from b up to b - R
+  pub less_from_size : (b r : ℚ) → r <ℚ zero_ℚ → too_wide (b +ℚ r) ≡ false → interval_walk Less b (Some r) ≡ Ok (Some (b +ℚ r), Some b)
+  pub greater_to_size : (b r : ℚ) → r <ℚ zero_ℚ → too_wide (b -ℚ r) ≡ false
+      → interval_walk Greater b (Some r) ≡ Ok (Some b, Some (b -ℚ r))
+  pub equal_from : (b r : ℚ) → r <ℚ zero_ℚ → too_wide (b +ℚ r) ≡ false → interval_walk Equal b (Some r) ≡ Ok (Some (b +ℚ r), Some b)
   -- the right-hand side 4 with a range 3, -3 or 0: L
   pub less_above : ends_at_four Less (Some (whole_ℚ 3)) ≡ one_to_four
   pub less_below : ends_at_four Less (Some (minus_ℚ 3)) ≡ one_to_four

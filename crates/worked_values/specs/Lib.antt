@@ -10,3 +10,5 @@ pub mod BoundValues
 pub mod BoundPairs
 pub mod FaultOrder
 pub mod FileValues
+pub mod TimeValues
+pub mod StochValues

@@ -2,7 +2,7 @@
 use Prim.Native.String.{String}
 use Rattle.std.specs.Prelude.{◌≡◌, ℕ, List, [], ◌∷◌, ◌++◌, Option, Some, None, codes}
 use Rattle.rationals.specs.Rational.{ℚ}
-use Rattle.core_defs.specs.Stated.{rhs_in, range_in, rhs_set_in, set_on}
+use Rattle.core_defs.specs.Stated.{rhs_in, range_in, rhs_set_in, set_on, name_of_set}
 use Rattle.worked_values.specs.Told.{whole_ℚ, minus_ℚ, lines_told, refused_behind}
 use Rattle.worked_values.specs.ColumnValues.{example_columns}
 
@@ -28,6 +28,14 @@ pub record RightSidesAreAsDocumented : Type 0 where
   pub five_fields : set_on (codes "NOW" ∷ codes "LIM1" ∷ codes "4" ∷ codes "NEED" ∷ codes "4" ∷ []) ≡ Some (codes "NOW")
   -- the set of the first line is used
   pub used : rhs_set_in (lines_told named_rhs) ≡ codes "NOW"
+  -- a set without a name is named RHS, and so is that of a file without a line of RHS
+  pub named : name_of_set (Some (Some (codes "NOW"))) ≡ codes "NOW"
+  pub not_named : name_of_set (Some None) ≡ codes "RHS"
+  pub no_set : name_of_set None ≡ codes "RHS"
+  pub used_without_name : rhs_set_in (lines_told plain_rhs) ≡ codes "RHS"
+  pub first_not_named : rhs_set_in (lines_told some_rhs) ≡ codes "RHS"
+  pub header_alone : rhs_set_in (lines_told (example_columns ++ codes "RHS\nENDATA\n")) ≡ codes "RHS"
+  pub no_section : rhs_set_in (lines_told (example_columns ++ codes "ENDATA\n")) ≡ codes "RHS"
   pub named_limit : rhs_behind named_rhs "LIM1" ≡ whole_ℚ 4
   pub named_need : rhs_behind named_rhs "NEED" ≡ whole_ℚ 4
   pub named_sum : rhs_behind named_rhs "SUM" ≡ whole_ℚ 4

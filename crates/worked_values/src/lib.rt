@@ -1,5 +1,5 @@
-//! Worked values of the definitions that the reader, the refusals and the meaning of a core file share: what each gives on concrete texts
-//! and numbers, as docs/FORMATS.md states it. The functions do nothing; their contracts are the tables.
+//! Worked values of the definitions that the reader, the refusals and the meaning of a file share: what each gives on concrete texts and
+//! numbers, as docs/FORMATS.md states it. The functions do nothing; their contracts are the tables.
 #![tactic(auto)]
 
 ghost use Rattle.worked_values.specs.NumberValues.{NumbersAreRead, WideNumbersAreTold};
@@ -13,6 +13,8 @@ ghost use Rattle.worked_values.specs.BoundValues.{BoundsAreAsDocumented};
 ghost use Rattle.worked_values.specs.BoundPairs.{BoundPairsAreAsDocumented};
 ghost use Rattle.worked_values.specs.FaultOrder.{FaultsAreInOrder};
 ghost use Rattle.worked_values.specs.FileValues.{TheFileSays, MissingSectionsAreTold};
+ghost use Rattle.worked_values.specs.TimeValues.{TimeFilesAreAsDocumented};
+ghost use Rattle.worked_values.specs.StochValues.{StochSectionsAreAsDocumented, EntriesAreAsDocumented};
 
 /// Each form of a number is read as its value, and nothing else is a number.
 pub fn numbers_are_read()
@@ -82,4 +84,19 @@ pub fn the_file_says()
 /// Which line is at fault where a section is missing.
 pub fn missing_sections_are_told()
     ensures { MissingSectionsAreTold }
+{}
+
+/// The sections of a time file in both forms, and the periods of rows and columns.
+pub fn time_files_are_as_documented()
+    ensures { TimeFilesAreAsDocumented }
+{}
+
+/// The sections of a stoch file, and what a stated value does by the third word of its header.
+pub fn stoch_sections_are_as_documented()
+    ensures { StochSectionsAreAsDocumented }
+{}
+
+/// The entries that a column and a row name, with their values in the core and their periods.
+pub fn entries_are_as_documented()
+    ensures { EntriesAreAsDocumented }
 {}
