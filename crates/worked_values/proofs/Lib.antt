@@ -13,3 +13,4 @@ pub mod FileRows
 pub mod NamedParts
 pub mod TimeRows
 pub mod StochRows
+pub mod EditRows

@@ -12,3 +12,4 @@ pub mod FaultOrder
 pub mod FileValues
 pub mod TimeValues
 pub mod StochValues
+pub mod EditValues

@@ -15,6 +15,7 @@ ghost use Rattle.worked_values.specs.FaultOrder.{FaultsAreInOrder};
 ghost use Rattle.worked_values.specs.FileValues.{TheFileSays, MissingSectionsAreTold};
 ghost use Rattle.worked_values.specs.TimeValues.{TimeFilesAreAsDocumented};
 ghost use Rattle.worked_values.specs.StochValues.{StochSectionsAreAsDocumented, EntriesAreAsDocumented};
+ghost use Rattle.worked_values.specs.EditValues.{CommandsAreAsDocumented};
 
 /// Each form of a number is read as its value, and nothing else is a number.
 pub fn numbers_are_read()
@@ -99,4 +100,9 @@ pub fn stoch_sections_are_as_documented()
 /// The entries that a column and a row name, with their values in the core and their periods.
 pub fn entries_are_as_documented()
     ensures { EntriesAreAsDocumented }
+{}
+
+/// The commands of edit lists.
+pub fn commands_are_as_documented()
+    ensures { CommandsAreAsDocumented }
 {}
