@@ -2,7 +2,7 @@
 use Rattle.std.proofs.Common.{◌≡◌, ◌≢◌, ℕ, zero, suc, ◌+◌, ◌-◌, ◌<◌, ◌≤◌, ◌⊎◌, inl, inr, Bool, true, false, ◌&&◌, eqb, leb, List, [], ◌∷◌, ◌++◌, Vec, Option, Result, Ok, Err, length, get_or, refl, sym, ap, ap₂, subst, ◌∙◌, arith, eqb-true}
 use Rattle.std.specs.declared.alloc.Global.{Global}
 use Rattle.std.proofs.Math.ListN.{set}
-use Rattle.std.proofs.lemmas.List.{map-set, get_or-set_same, get_or-set_other, get_or-map, length-map, map-append, get_or_at, get_or_append_left}
+use Rattle.std.proofs.lemmas.List.{map-set, get_or-set_same, get_or-set_other, get_or-map, length-map, length-append, map-append, get_or_at, get_or_append_left}
 use Rattle.std.proofs.lemmas.Bool.{eq-eqb, ne_eqb, eqb-false, and_parts, leb-false}
 use Rattle.std.proofs.lemmas.Bool.Decides.{eqb_tells}
 use Rattle.rationals.specs.Rational.{ℚ, zero_ℚ, ◌*ℚ◌, mul_zero_ℚ}
@@ -16,14 +16,14 @@ use Rattle.scen_defs.specs.Lists.{pick, passes_at}
 use Rattle.scen_defs.specs.Program.{View, Node, Program, content, nodes_content, is_live, view_of, column_at}
 use Rattle.scen_defs.specs.Flat.{up, home, is_above}
 use Rattle.scen_model.specs.Walks.{total_walk, less_from, less_step, less_all, reduced_walk}
-use Rattle.scen_model.specs.Gathered.{Fits, lists_in, is_of, IsSeated, AreSeated, AreApart, number_in, number_of, at_home, entry_from, entries_from, AreTotals, LessAt, LessIn, AllMove, IsPriced, AllPriced, AreAll}
+use Rattle.scen_model.specs.Gathered.{Fits, lists_in, is_of, IsSeated, AreSeated, AreApart, seat_number, column_number, if_home, entry_from, entries_from, AreTotals, LessAt, LessIn, AllMove, IsOnPath, AreStages, IsPriced, AllPriced, AreAll}
 use Rattle.scen_model.proofs.Reduces.{nothing, entries_sum}
 
 -- ---- what is left to do from the numbers now is what there was to do from those at the start
 abbrev pub AllSame : {A P : Type 0} → View → List Column → List ℕ → (ℕ → ℕ → ℚ → List A → Result ℚ P) → List (List ℚ) → List A → List (List ℚ) → List A → Type 0
 AllSame v columns seats walk now rest start all =
-    (k j : ℕ) → is_of columns (v.stage k) j ≡ true → Fits (number_of start seats k j)
-    → (walk k j (number_of now seats k j) rest ≡ walk k j (number_of start seats k j) all) × Fits (number_of now seats k j)
+    (k j : ℕ) → is_of columns (v.stage k) j ≡ true → Fits (column_number start seats k j)
+    → (walk k j (column_number now seats k j) rest ≡ walk k j (column_number start seats k j) all) × Fits (column_number now seats k j)
 
 module _ (v : View) (columns : List Column) (seats : List ℕ) where
   pub all_start : {A P : Type 0} (walk : ℕ → ℕ → ℚ → List A → Result ℚ P) (start : List (List ℚ)) (all : List A) → AllSame v columns seats walk start all start all
@@ -33,7 +33,7 @@ module _ (v : View) (columns : List Column) (seats : List ℕ) where
       → AllSame v columns seats walk now rest start all → AllMove v columns seats (λ k j s. walk k j s all) start now
   all_end walk now start rest all none ends same k j o f =
       let p = same k j o f in
-      (sym p.0 ∙ ap (walk k j (number_of now seats k j)) none ∙ ends k j (number_of now seats k j), p.1)
+      (sym p.0 ∙ ap (walk k j (column_number now seats k j)) none ∙ ends k j (column_number now seats k j), p.1)
 
   pub all_next : {A P : Type 0} (walk : ℕ → ℕ → ℚ → List A → Result ℚ P) (step : ℕ → ℕ → ℚ → Result ℚ P) (now new start : List (List ℚ)) (x : A) (left rest all : List A)
       → left ≡ x ∷ rest → ((k j : ℕ) (s : ℚ) → is_of columns (v.stage k) j ≡ true → walk k j s (x ∷ rest) ≡ then_walk (step k j s) (λ t. walk k j t rest))
@@ -41,7 +41,7 @@ module _ (v : View) (columns : List Column) (seats : List ℕ) where
   all_next walk step now new start x left rest all read law same moves k j o f =
       let p = same k j o f in
       let m = moves k j o p.1 in
-      (sym (ap (λ r. then_walk r (λ u. walk k j u rest)) m.0) ∙ sym (law k j (number_of now seats k j) o) ∙ sym (ap (walk k j (number_of now seats k j)) read) ∙ p.0, m.1)
+      (sym (ap (λ r. then_walk r (λ u. walk k j u rest)) m.0) ∙ sym (law k j (column_number now seats k j) o) ∙ sym (ap (walk k j (column_number now seats k j)) read) ∙ p.0, m.1)
 
 -- ---- at the nodes above one node alone
 pick_same : {X : Type 0} (b : Bool) (x : X) → pick b x x ≡ x
@@ -53,21 +53,21 @@ pick_then true s w one next e = e
 pick_then false s w one next e = refl
 
 abbrev pub home_walk : {A P : Type 0} → View → ℕ → (ℕ → ℚ → List A → Result ℚ P) → ℕ → ℕ → ℚ → List A → Result ℚ P
-home_walk v n walk k j s xs = at_home v n k j s (walk j s xs)
+home_walk v n walk k j s xs = if_home v n k j s (walk j s xs)
 
 module _ (v : View) (columns : List Column) (seats : List ℕ) (n : ℕ) where
   pub home_end : {A P : Type 0} (walk : ℕ → ℚ → List A → Result ℚ P) (now start : List (List ℚ)) (rest all : List A) → rest ≡ [] → ((j : ℕ) (s : ℚ) → walk j s [] ≡ Ok s)
-      → AllSame v columns seats (home_walk v n walk) now rest start all → AllMove v columns seats (λ k j s. at_home v n k j s (walk j s all)) start now
+      → AllSame v columns seats (home_walk v n walk) now rest start all → AllMove v columns seats (λ k j s. if_home v n k j s (walk j s all)) start now
   home_end walk now start rest all none ends same =
       all_end v columns seats (home_walk v n walk) now start rest all none
       (λ k j s. ap (λ r. pick (eqb (home v n j) k) r (Ok s)) (ends j s) ∙ pick_same (eqb (home v n j) k) (Ok s)) same
 
   pub home_next : {A P : Type 0} (walk : ℕ → ℚ → List A → Result ℚ P) (step : ℕ → ℚ → Result ℚ P) (now new start : List (List ℚ)) (x : A) (left rest all : List A)
       → left ≡ x ∷ rest → ((j : ℕ) (s : ℚ) → walk j s (x ∷ rest) ≡ then_walk (step j s) (λ t. walk j t rest))
-      → AllSame v columns seats (home_walk v n walk) now left start all → AllMove v columns seats (λ k j s. at_home v n k j s (step j s)) now new
+      → AllSame v columns seats (home_walk v n walk) now left start all → AllMove v columns seats (λ k j s. if_home v n k j s (step j s)) now new
       → AllSame v columns seats (home_walk v n walk) new rest start all
   home_next walk step now new start x left rest all read law same moves =
-      all_next v columns seats (home_walk v n walk) (λ k j s. at_home v n k j s (step j s)) now new start x left rest all read
+      all_next v columns seats (home_walk v n walk) (λ k j s. if_home v n k j s (step j s)) now new start x left rest all read
       (λ k j s o. pick_then (eqb (home v n j) k) s (walk j s (x ∷ rest)) (step j s) (λ t. walk j t rest) (law j s)) same moves
 
 -- ---- a node is above another one where it decides its columns there
@@ -88,12 +88,12 @@ home_above v k n j same = ap (λ s. eqb (up v (v.stage n - s) n) k) same ∙ go 
 
 -- the rows of a node are taken away at the nodes above it
 pub node_moves : (p : ProgramOf) (seats : List ℕ) (y : ℕ → ℕ → ℚ) (n : ℕ) (rows : List NodeRow) (old new : List (List ℚ)) → rows ≡ (view_of (content p)).rows n
-    → AllMove (view_of (content p)) p.columns.items seats (λ k j s. at_home (view_of (content p)) n k j s (less_from j (y n) s rows)) old new
+    → AllMove (view_of (content p)) p.columns.items seats (λ k j s. if_home (view_of (content p)) n k j s (less_from j (y n) s rows)) old new
     → AllMove (view_of (content p)) p.columns.items seats (λ k j s. less_step (view_of (content p)) y k j s n) old new
 node_moves p seats y n rows old new read moves k j o f =
     let v = view_of (content p) in
     let m = moves k j o f in
-    let s = number_of old seats k j in (
+    let s = column_number old seats k j in (
       ap (λ b. pick b (less_from j (y n) s (v.rows n)) (Ok s)) (sym (home_above v k n j (stage_is p.columns.items (v.stage k) j o)))
           ∙ ap (λ r. pick (eqb (home v n j) k) (less_from j (y n) s r) (Ok s)) (sym read) ∙ m.0,
       m.1,
@@ -109,6 +109,19 @@ of_within : (columns : List Column) (s j : ℕ) → is_of columns s j ≡ true �
 of_within [] s j e = absurd (cc)
 of_within (c ∷ columns) s zero e = omega arith
 of_within (c ∷ columns) s (suc j) e = let h = of_within columns s j e in omega (arith, h)
+
+pub stages_next : (columns : List Column) (place : ℕ) (c : Column) (old new : List ℕ) → place < length columns → c ≡ get_or columns place c → length old ≡ place → new ≡ old ++ c.stage ∷ [] → AreStages columns old → AreStages columns new
+stages_next columns place c old new h e long pushed kept j below = go (eqb_tells j place)
+  where
+    go : (((eqb j place ≡ true) × (j ≡ place)) ⊎ ((eqb j place ≡ false) × (j ≢ place))) → is_of columns (get_or new j 0) j ≡ true
+    go (inl q) =
+        let at : get_or new j 0 ≡ c.stage = ap (λ (l : List ℕ). get_or l j 0) pushed ∙ get_or_at old c.stage [] 0 j (long ∙ sym q.1) in
+        ap₂ (λ s k. is_of columns s k) at q.1 ∙ of_read columns c.stage place c h e ∙ eq-eqb c.stage c.stage refl
+    go (inr q) =
+        let apart : j ≢ place = q.1 in
+        let grown : length new ≡ length old + 1 = ap length pushed ∙ length-append old (c.stage ∷ []) in
+        let within : j < length old = omega (arith, below, apart, long, grown) in
+        ap (λ s. is_of columns s j) (ap (λ (l : List ℕ). get_or l j 0) pushed ∙ get_or_append_left old (c.stage ∷ []) 0 j within) ∙ kept j within
 
 -- the columns before a place are seated
 abbrev pub SeatedTo : List Column → List (List ℕ) → List ℕ → ℕ → Type 0
@@ -135,13 +148,13 @@ and_true true c e = sym e
 and_true false c e = refl
 
 -- what is taken from the number at a seat is taken from that of the entry's column
-pub entry_moves : (v : View) (columns : List Column) (seats : List ℕ) (n at seat : ℕ) (e : Entry) (y : ℚ) (old new : List (List ℚ)) → AreApart columns seats → at ≡ home v n e.column
-    → is_of columns (v.stage at) e.column ≡ true → seat ≡ get_or seats e.column 0 → LessIn at seat e.value y old new → AllMove v columns seats (λ k j s. at_home v n k j s (entry_from e y j s)) old new
-entry_moves v columns seats n at seat e y old new apart is own sits less k j o f =
+moves_at : (v : View) (columns : List Column) (seats : List ℕ) (n at seat : ℕ) (e : Entry) (y : ℚ) (old new : List (List ℚ)) → AreApart columns seats → at ≡ home v n e.column
+    → is_of columns (v.stage at) e.column ≡ true → seat ≡ get_or seats e.column 0 → LessIn at seat e.value y old new → AllMove v columns seats (λ k j s. if_home v n k j s (entry_from e y j s)) old new
+moves_at v columns seats n at seat e y old new apart is own sits less k j o f =
     let m = less k (get_or seats j 0) f in (go (eqb e.column j) refl ∙ m.0, m.1)
   where
     s : ℚ
-    s = number_of old seats k j
+    s = column_number old seats k j
 
     one : Result ℚ Operation
     one = less_product_walk s e.value y
@@ -161,6 +174,14 @@ entry_moves v columns seats n at seat e y old new apart is own sits less k j o f
         let sat : eqb seat (get_or seats j 0) ≡ true = eq-eqb seat (get_or seats j 0) (sits ∙ ap (λ c. get_or seats c 0) same) in
         ap (λ b. pick b one (Ok s)) (ap (λ m. eqb m k) there ∙ and_true (eqb at k) (eqb seat (get_or seats j 0)) sat)
     go false p = pick_same (eqb (home v n j) k) (Ok s) ∙ sym (ap (λ b. pick b one (Ok s)) (apart_there p (eqb at k && eqb seat (get_or seats j 0)) refl))
+
+pub entry_moves : (p : ProgramOf) (seats : List ℕ) (n stage at seat : ℕ) (e : Entry) (y : ℚ) (old new : List (List ℚ)) → AreApart p.columns.items seats → is_of p.columns.items stage e.column ≡ true
+    → IsOnPath (view_of (content p)) n stage at → seat ≡ get_or seats e.column 0 → LessIn at seat e.value y old new
+    → AllMove (view_of (content p)) p.columns.items seats (λ k j s. if_home (view_of (content p)) n k j s (entry_from e y j s)) old new
+entry_moves p seats n stage at seat e y old new apart of_stage path sits =
+    let v = view_of (content p) in
+    moves_at v p.columns.items seats n at seat e y old new apart (path.above ∙ ap (λ t. up v (v.stage n - t) n) (sym (stage_is p.columns.items stage e.column of_stage)))
+    (subst (λ t. is_of p.columns.items t e.column ≡ true) (sym path.stage) of_stage) sits
 
 -- the list of one node is changed at one place
 abbrev Step : ℕ → ℕ → ℚ → ℚ → Bool → List ℚ → List ℚ → Type 0
@@ -198,21 +219,21 @@ in_list old place seat was list value y own after within read written given k i 
 
 -- numbers from which the entries are taken are numbers from which the row is taken
 pub row_moves : (v : View) (columns : List Column) (seats : List ℕ) (n : ℕ) (y : ℚ) (es : List Entry) (old new : List (List ℚ)) → Ascending 0 es
-    → AllMove v columns seats (λ k j s. at_home v n k j s (entries_from y j s es)) old new → AllMove v columns seats (λ k j s. at_home v n k j s (less_product_walk s (coefficient es j) y)) old new
+    → AllMove v columns seats (λ k j s. if_home v n k j s (entries_from y j s es)) old new → AllMove v columns seats (λ k j s. if_home v n k j s (less_product_walk s (coefficient es j) y)) old new
 row_moves v columns seats n y es old new a moves k j o f =
     let m = moves k j o f in (go (eqb (home v n j) k) m.0, m.1)
   where
-    go : (b : Bool) → pick b (entries_from y j (number_of old seats k j) es) (Ok (number_of old seats k j)) ≡ Ok (number_of new seats k j)
-        → pick b (less_product_walk (number_of old seats k j) (coefficient es j) y) (Ok (number_of old seats k j)) ≡ Ok (number_of new seats k j)
-    go true e = entries_sum 0 j y (number_of old seats k j) (number_of new seats k j) es a f e
+    go : (b : Bool) → pick b (entries_from y j (column_number old seats k j) es) (Ok (column_number old seats k j)) ≡ Ok (column_number new seats k j)
+        → pick b (less_product_walk (column_number old seats k j) (coefficient es j) y) (Ok (column_number old seats k j)) ≡ Ok (column_number new seats k j)
+    go true e = entries_sum 0 j y (column_number old seats k j) (column_number new seats k j) es a f e
     go false e = e
 
 -- a multiplier of 0 takes nothing away
 pub row_stays : (v : View) (columns : List Column) (seats : List ℕ) (n : ℕ) (y : ℚ) (es : List Entry) (old : List (List ℚ)) → y ≡ zero_ℚ
-    → AllMove v columns seats (λ k j s. at_home v n k j s (less_product_walk s (coefficient es j) y)) old old
+    → AllMove v columns seats (λ k j s. if_home v n k j s (less_product_walk s (coefficient es j) y)) old old
 row_stays v columns seats n y es old e k j o f = (
-  ap (λ r. pick (eqb (home v n j) k) r (Ok (number_of old seats k j))) (nothing (number_of old seats k j) (coefficient es j) y f (ap (λ q. coefficient es j *ℚ q) e ∙ mul_zero_ℚ (coefficient es j)))
-      ∙ pick_same (eqb (home v n j) k) (Ok (number_of old seats k j)),
+  ap (λ r. pick (eqb (home v n j) k) r (Ok (column_number old seats k j))) (nothing (column_number old seats k j) (coefficient es j) y f (ap (λ q. coefficient es j *ℚ q) e ∙ mul_zero_ℚ (coefficient es j)))
+      ∙ pick_same (eqb (home v n j) k) (Ok (column_number old seats k j)),
   f,
 )
 
@@ -254,7 +275,7 @@ reduced_all p costs y own seats totals old new are long seated priced moves k j 
     let seat = seated (v.stage k) j o in
     let list = priced k h live in
     let q = list.priced (get_or seats j 0) (omega (arith, seat.within, list.long)) in
-    let price : mul_walk (get_or totals k zero_ℚ) (coefficient (costs k) j) ≡ Ok (number_of old seats k j) = ap (λ c. mul_walk (get_or totals k zero_ℚ) (coefficient (costs k) c)) (sym seat.there) ∙ q.0 in
+    let price : mul_walk (get_or totals k zero_ℚ) (coefficient (costs k) j) ≡ Ok (column_number old seats k j) = ap (λ c. mul_walk (get_or totals k zero_ℚ) (coefficient (costs k) c)) (sym seat.there) ∙ q.0 in
     let m = moves k j o q.1 in (
       ap (λ w. then_walk w (λ t. then_walk (mul_walk t (coefficient (costs k) j)) (λ c. less_all v y k j c))) (are k zero_ℚ (omega (arith, h, long, content_long p.nodes.items)))
           ∙ ap (λ w. then_walk w (λ c. less_all v y k j c)) price ∙ m.0,

@@ -10,7 +10,7 @@ use Rattle.scen_defs.specs.Lists.{places, passes_at}
 use Rattle.scen_defs.specs.Program.{View, Node, content, nodes_content, is_live, view_of}
 use Rattle.scen_model.specs.declared.stop.Stop.{Stop}
 use Rattle.scen_model.specs.Walks.{fold_walk, product_from, total_walk, totals_walk, cost_step, costs_walk, cost_walk, stopping, bound_step, worth_step, column_step, columns_step, reduced_walk, all_rows, all_columns, dual_by}
-use Rattle.scen_model.specs.Gathered.{AreTotals, AreAll, number_of, is_of, cost_step_with, costs_with, columns_with}
+use Rattle.scen_model.specs.Gathered.{AreTotals, AreAll, column_number, is_of, cost_step_with, costs_with, columns_with}
 use Rattle.scen_model.proofs.Reduces.{then_same}
 use Rattle.scen_model.proofs.Homes.{content_long}
 
@@ -57,18 +57,18 @@ module _ (p : ProgramOf) (totals : List ℚ) (long : length totals ≡ length p.
 -- ---- reduced costs
 module _ (p : ProgramOf) (costs : ℕ → List Entry) (y : ℕ → ℕ → ℚ) (seats : List ℕ) (numbers : List (List ℚ))
     (are : AreAll (content p) seats (reduced_walk costs (view_of (content p)) y) numbers) where
-  pub columns_are : (m : ℕ) (s : ℚ) → passes_at is_live m (nodes_content p.nodes.items) ≡ true → columns_with (view_of (content p)) (number_of numbers seats m) s m ≡ columns_step costs (view_of (content p)) y s m
+  pub columns_are : (m : ℕ) (s : ℚ) → passes_at is_live m (nodes_content p.nodes.items) ≡ true → columns_with (view_of (content p)) (column_number numbers seats m) s m ≡ columns_step costs (view_of (content p)) y s m
   columns_are m s h =
       let v = view_of (content p) in
-      places_same (λ t j. worth_step (v.lower j) (v.upper j) (number_of numbers seats m j) t) (column_step costs v y m) (λ (c : Column). eqb c.stage (v.stage m)) 0 p.columns.items
+      places_same (λ t j. worth_step (v.lower j) (v.upper j) (column_number numbers seats m j) t) (column_step costs v y m) (λ (c : Column). eqb c.stage (v.stage m)) 0 p.columns.items
       (λ n i e l t u.
       let same : i ≡ n = omega (arith, e) in
       sym (ap (λ r. bound_step r (v.lower n) (v.upper n) u) (are m n h (subst (λ k. is_of p.columns.items (v.stage m) k ≡ true) same t)).0)) s
 
-  pub all_are : (s : ℚ) → fold_walk (λ t n. columns_with (view_of (content p)) (number_of numbers seats n) t n) s (view_of (content p)).live ≡ all_columns costs (view_of (content p)) y s
+  pub all_are : (s : ℚ) → fold_walk (λ t n. columns_with (view_of (content p)) (column_number numbers seats n) t n) s (view_of (content p)).live ≡ all_columns costs (view_of (content p)) y s
   all_are s =
       let v = view_of (content p) in
-      places_same (λ t n. columns_with v (number_of numbers seats n) t n) (columns_step costs v y) is_live 0 (nodes_content p.nodes.items)
+      places_same (λ t n. columns_with v (column_number numbers seats n) t n) (columns_step costs v y) is_live 0 (nodes_content p.nodes.items)
       (λ n i e l t u.
       let same : i ≡ n = omega (arith, e) in
       columns_are n u (subst (λ k. passes_at is_live k (nodes_content p.nodes.items) ≡ true) same t)) s

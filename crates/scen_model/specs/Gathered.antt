@@ -1,5 +1,5 @@
 -- The sums of many places at once, and when they are those of the walks by place.
-use Rattle.std.specs.Prelude.{◌≡◌, ℕ, ◌<◌, Bool, true, false, not, ◌&&◌, eqb, List, [], ◌∷◌, map, length, Vec, Result, Ok, Err}
+use Rattle.std.specs.Prelude.{◌≡◌, ℕ, ◌<◌, ◌-◌, Bool, true, false, not, ◌&&◌, eqb, List, [], ◌∷◌, map, length, Vec, Result, Ok, Err}
 use Rattle.std.specs.Prelude.{⊤, slice_index_or}
 use Rattle.std.specs.declared.alloc.Global.{Global}
 use Rattle.rationals.specs.Replies.{Reply, IsReply, reply_by}
@@ -10,7 +10,7 @@ use Rattle.rationals.specs.Sparse.{Entry, coefficient}
 use Rattle.scen_defs.specs.declared.program.Column.{Column}
 use Rattle.scen_defs.specs.Lists.{passes_at, pick}
 use Rattle.scen_defs.specs.Program.{View, Program, is_live, view_of}
-use Rattle.scen_defs.specs.Flat.{home}
+use Rattle.scen_defs.specs.Flat.{up, home}
 use Rattle.scen_model.specs.declared.stop.Stop.{Stop}
 use Rattle.scen_model.specs.declared.stop.Stop.TheVariants.{Decided as DecidedStop}
 use Rattle.scen_model.specs.declared.unfinished.Ended.{Ended}
@@ -53,6 +53,15 @@ lists_in {X} lists = map (λ (list : Vec X Global). list.items) lists
 abbrev pub is_of : List Column → ℕ → ℕ → Bool
 is_of columns s j = passes_at (λ (c : Column). eqb c.stage s) j columns
 
+-- each column is of the stage at its place
+abbrev pub AreStages : List Column → List ℕ → Type 0
+AreStages columns stages = (j : ℕ) → j < length stages → is_of columns (slice_index_or stages j 0) j ≡ true
+
+-- a node so many stages up on n's path, which is of stage s
+pub record IsOnPath (v : View) (n s at : ℕ) : Type 0 where
+  pub above : at ≡ up v (v.stage n - s) n
+  pub stage : v.stage at ≡ s
+
 -- of each column of stage s the seat: a place of the stage's list, where the column itself stands
 pub record IsSeated (own : List (List ℕ)) (seats : List ℕ) (s j : ℕ) : Type 0 where
   pub within : slice_index_or seats j 0 < length (slice_index_or own s [])
@@ -68,12 +77,12 @@ AreApart columns seats =
     → slice_index_or seats i 0 ≡ slice_index_or seats j 0 → i ≡ j
 
 -- the number at a seat of node k; 0 where there is none
-abbrev pub number_in : List (List ℚ) → ℕ → ℕ → ℚ
-number_in numbers k seat = slice_index_or (slice_index_or numbers k []) seat zero_ℚ
+abbrev pub seat_number : List (List ℚ) → ℕ → ℕ → ℚ
+seat_number numbers k seat = slice_index_or (slice_index_or numbers k []) seat zero_ℚ
 
 -- the number of column j at node k, which stands in the node's list at the column's seat
-abbrev pub number_of : List (List ℚ) → List ℕ → ℕ → ℕ → ℚ
-number_of numbers seats k j = number_in numbers k (slice_index_or seats j 0)
+abbrev pub column_number : List (List ℚ) → List ℕ → ℕ → ℕ → ℚ
+column_number numbers seats k j = seat_number numbers k (slice_index_or seats j 0)
 
 -- a product is taken away from the number at a place, and all others stay
 abbrev pub LessAt : ℕ → ℚ → ℚ → List ℚ → List ℚ → Type 0
@@ -85,21 +94,21 @@ LessAt place value y old new =
 -- the same of the number at a seat of a node
 abbrev pub LessIn : ℕ → ℕ → ℚ → ℚ → List (List ℚ) → List (List ℚ) → Type 0
 LessIn node seat value y old new =
-    (k i : ℕ) → Fits (number_in old k i)
-    → (pick (eqb node k && eqb seat i) (less_product_walk (number_in old k i) value y) (Ok (number_in old k i))
-    ≡ Ok (number_in new k i)) × Fits (number_in new k i)
+    (k i : ℕ) → Fits (seat_number old k i)
+    → (pick (eqb node k && eqb seat i) (less_product_walk (seat_number old k i) value y) (Ok (seat_number old k i))
+    ≡ Ok (seat_number new k i)) × Fits (seat_number new k i)
 
 -- for each node k and each column j of its stage, the walk comes from the old number to the new one
 abbrev pub AllMove : {P : Type 0} → View → List Column → List ℕ → (ℕ → ℕ → ℚ → Result ℚ P) → List (List ℚ) → List (List ℚ) → Type 0
 AllMove v columns seats walk old new =
-    (k j : ℕ) → is_of columns (v.stage k) j ≡ true → Fits (number_of old seats k j)
-    → (walk k j (number_of old seats k j) ≡ Ok (number_of new seats k j)) × Fits (number_of new seats k j)
+    (k j : ℕ) → is_of columns (v.stage k) j ≡ true → Fits (column_number old seats k j)
+    → (walk k j (column_number old seats k j) ≡ Ok (column_number new seats k j)) × Fits (column_number new seats k j)
 
 -- for each live node k and each column j of its stage, the number is the walk's
 abbrev pub AreAll : {P : Type 0} → Program → List ℕ → (ℕ → ℕ → Result ℚ P) → List (List ℚ) → Type 0
 AreAll p seats walk numbers =
     (k j : ℕ) → passes_at is_live k p.nodes ≡ true → is_of p.columns ((view_of p).stage k) j ≡ true
-    → (walk k j ≡ Ok (number_of numbers seats k j)) × Fits (number_of numbers seats k j)
+    → (walk k j ≡ Ok (column_number numbers seats k j)) × Fits (column_number numbers seats k j)
 
 -- the number at each place is the total times the cost of the column at that place
 abbrev pub ArePriced : ℚ → List Entry → List ℕ → List ℚ → Type 0
@@ -118,9 +127,9 @@ abbrev pub AllPriced : Program → (ℕ → List Entry) → List ℚ → List (L
 AllPriced p costs totals own place numbers =
     (k : ℕ) → k < place → passes_at is_live k p.nodes ≡ true → IsPriced (view_of p) costs totals own k (slice_index_or numbers k [])
 
--- a walk at the nodes below k alone
-abbrev pub at_home : {P : Type 0} → View → ℕ → ℕ → ℕ → ℚ → Result ℚ P → Result ℚ P
-at_home v n k j s walk = pick (eqb (home v n j) k) walk (Ok s)
+-- the walk where k is the node of n's path that decides column j; else the number stays
+abbrev pub if_home : {P : Type 0} → View → ℕ → ℕ → ℕ → ℚ → Result ℚ P → Result ℚ P
+if_home v n k j s walk = pick (eqb (home v n j) k) walk (Ok s)
 
 -- s less an entry times y, where the entry stands in column j
 abbrev pub entry_from : Entry → ℚ → ℕ → ℚ → Result ℚ Operation

@@ -3,7 +3,7 @@ ghost use Rattle.std.specs.Prelude.{◌≡◌, [], slice_index_or};
 ghost use Rattle.scen_defs.specs.Values.{at};
 ghost use Rattle.scen_defs.specs.Program.{content, view_of};
 ghost use Rattle.scen_model.specs.Walks.{fold_walk, costs_of, dual_by};
-ghost use Rattle.scen_model.specs.Gathered.{lists_in, number_of, columns_with, Finishes};
+ghost use Rattle.scen_model.specs.Gathered.{lists_in, column_number, columns_with, Finishes};
 
 use crate::charges::Costs;
 use crate::ends::{add_worth, number_at};
@@ -38,7 +38,7 @@ fn add_numbers(
     start: Frac,
 ) -> Result<Frac, Stop>
     ensures { let v = view_of (content program.now) in
-        result ≡ columns_with v (number_of (lists_in numbers.now) seats.now node) start node }
+        result ≡ columns_with v (column_number (lists_in numbers.now) seats.now node) start node }
 {
     let stage = stage(program, node);
     let list = list_at(numbers, node as usize);
@@ -71,7 +71,7 @@ fn add_all_reduced(
     start: Frac,
 ) -> Result<Frac, Stop>
     ensures { let v = view_of (content program.now) in
-        result ≡ fold_walk (λ s n. columns_with v (number_of (lists_in numbers.now) seats.now n) s n) start v.live }
+        result ≡ fold_walk (λ s n. columns_with v (column_number (lists_in numbers.now) seats.now n) s n) start v.live }
 {
     let mut sum = start;
     for (place, slot) in program.nodes.iter().enumerate() {

@@ -7,8 +7,8 @@ ghost use Rattle.scen_defs.specs.Values.{at};
 ghost use Rattle.scen_defs.specs.Program.{content, is_live, view_of};
 ghost use Rattle.scen_defs.specs.Lists.{passes_at};
 ghost use Rattle.scen_model.specs.Walks.{less_from, less_all, costs_of, reduced_walk};
-ghost use Rattle.scen_model.specs.Gathered.{lists_in, at_home, entry_from, entries_from};
-ghost use Rattle.scen_model.specs.Gathered.{AreTotals, AreSeated, AreApart, LessAt, LessIn, AllMove};
+ghost use Rattle.scen_model.specs.Gathered.{lists_in, if_home, entry_from, entries_from};
+ghost use Rattle.scen_model.specs.Gathered.{AreTotals, IsOnPath, AreStages, AreSeated, AreApart, LessAt, LessIn, AllMove};
 ghost use Rattle.scen_model.specs.Gathered.{ArePriced, IsPriced, AllPriced, AreAll};
 
 use crate::charges::{Costs, cost_at};
@@ -17,7 +17,7 @@ use crate::seats::Seating;
 use crate::unfinished::Unfinished;
 use frac128::{Frac, Term};
 use scen_defs::{NodeRow, Program, Values};
-use scen_nodes::{find, home, is_column_of, stage};
+use scen_nodes::{find, parent, stage as stage_of};
 use std::alloc::Global;
 
 /// The seat of a column, 0 where there is none.
@@ -62,48 +62,77 @@ fn less_in(
     Ok(())
 }
 
+/// The node of a stage on the path of a node of the stage `own`.
+fn on_path(program: &Program, node: u64, own: u32, stage: u32) -> Result<u64, Unfinished>
+    requires { own ≡ (view_of (content program.now)).stage node }
+    ensures { IfOk result (λ at. IsOnPath (view_of (content program.now)) node stage at) }
+{
+    if stage > own {
+        return Err(Unfinished::Walk);
+    }
+    let mut at = node;
+    for _above in stage..own {
+        at = parent(program, at);
+    }
+    if stage_of(program, at) == stage {
+        Ok(at)
+    } else {
+        Err(Unfinished::Walk)
+    }
+}
+
 /// Takes an entry of a node's row times a multiplier away from the number of its column, at the node of the path that decides it.
 fn less_entry(
     numbers: &mut [Vec<Frac>],
     program: &Program,
+    stages: &[u32],
     seats: &[usize],
     node: u64,
+    own: u32,
     entry: Term,
     multiplier: Frac,
 ) -> Result<(), Unfinished>
-    requires { AreApart program.now.columns.items seats.now }
+    requires stages { AreStages program.now.columns.items stages.now }
+    requires apart { AreApart program.now.columns.items seats.now }
+    requires own { own ≡ (view_of (content program.now)).stage node }
     ensures { let v = view_of (content program.now) in
         OnOk result
         (AllMove v program.now.columns.items seats.now
-        (λ k j s. at_home v node k j s (entry_from entry multiplier j s)) (lists_in numbers.old) (lists_in numbers.new)) }
+        (λ k j s. if_home v node k j s (entry_from entry multiplier j s)) (lists_in numbers.old) (lists_in numbers.new)) }
 {
-    let at = home(program, node, entry.column);
-    if is_column_of(&program.columns, stage(program, at), entry.column) {
-        let seat = seat_at(seats, entry.column);
-        less_in(numbers, at, seat, entry.value, multiplier)?;
-        Ok(())
-    } else {
-        Err(Unfinished::Walk)
+    let place = entry.column as usize;
+    if place >= stages.len() {
+        return Err(Unfinished::Walk);
     }
+    let at = on_path(program, node, own, stages[place])?;
+    let seat = seat_at(seats, entry.column);
+    less_in(numbers, at, seat, entry.value, multiplier)?;
+    Ok(())
 }
 
 /// The same for entries in order.
 fn less_entries(
     numbers: &mut [Vec<Frac>],
     program: &Program,
+    stages: &[u32],
     seats: &[usize],
     node: u64,
+    own: u32,
     entries: &[Term],
     multiplier: Frac,
 ) -> Result<(), Unfinished>
-    requires { AreApart program.now.columns.items seats.now }
+    requires stages { AreStages program.now.columns.items stages.now }
+    requires apart { AreApart program.now.columns.items seats.now }
+    requires own { own ≡ (view_of (content program.now)).stage node }
     ensures { let v = view_of (content program.now) in
         OnOk result
         (AllMove v program.now.columns.items seats.now
-        (λ k j s. at_home v node k j s (entries_from multiplier j s entries.now)) (lists_in numbers.old) (lists_in numbers.new)) }
+        (λ k j s. if_home v node k j s (entries_from multiplier j s entries.now)) (lists_in numbers.old) (lists_in numbers.new)) }
 {
     for entry in entries {
-        less_entry(numbers, program, seats, node, *entry, multiplier)?;
+        less_entry(
+            numbers, program, stages, seats, node, own, *entry, multiplier,
+        )?;
     }
     Ok(())
 }
@@ -112,16 +141,20 @@ fn less_entries(
 fn less_row(
     numbers: &mut [Vec<Frac>],
     program: &Program,
+    stages: &[u32],
     seats: &[usize],
     node: u64,
+    own: u32,
     row: &NodeRow,
     multiplier: Frac,
 ) -> Result<(), Unfinished>
-    requires { AreApart program.now.columns.items seats.now }
+    requires stages { AreStages program.now.columns.items stages.now }
+    requires apart { AreApart program.now.columns.items seats.now }
+    requires own { own ≡ (view_of (content program.now)).stage node }
     ensures { let v = view_of (content program.now) in
         OnOk result
         (AllMove v program.now.columns.items seats.now
-        (λ k j s. at_home v node k j s (less_product_walk s (coefficient row.now.entries j) multiplier))
+        (λ k j s. if_home v node k j s (less_product_walk s (coefficient row.now.entries j) multiplier))
         (lists_in numbers.old) (lists_in numbers.new)) }
 {
     if multiplier.is_zero() {
@@ -131,8 +164,10 @@ fn less_row(
     less_entries(
         numbers,
         program,
+        stages,
         seats,
         node,
+        own,
         row.entries.terms(),
         multiplier,
     )?;
@@ -143,21 +178,24 @@ fn less_row(
 fn less_rows(
     numbers: &mut [Vec<Frac>],
     program: &Program,
+    stages: &[u32],
     seats: &[usize],
     rows: &[NodeRow],
     values: &Values,
     node: u64,
     near: &mut usize,
 ) -> Result<(), Unfinished>
-    requires { AreApart program.now.columns.items seats.now }
+    requires stages { AreStages program.now.columns.items stages.now }
+    requires apart { AreApart program.now.columns.items seats.now }
     ensures { let v = view_of (content program.now) in
         OnOk result
         (AllMove v program.now.columns.items seats.now
-        (λ k j s. at_home v node k j s (less_from j (at values.now node) s rows.now)) (lists_in numbers.old) (lists_in numbers.new)) }
+        (λ k j s. if_home v node k j s (less_from j (at values.now node) s rows.now)) (lists_in numbers.old) (lists_in numbers.new)) }
 {
+    let own = stage_of(program, node);
     for row in rows {
         let multiplier = values.get_near(node, row.row as u64, near);
-        less_row(numbers, program, seats, node, row, multiplier)?;
+        less_row(numbers, program, stages, seats, node, own, row, multiplier)?;
     }
     Ok(())
 }
@@ -166,10 +204,12 @@ fn less_rows(
 fn less_all(
     numbers: &mut [Vec<Frac>],
     program: &Program,
+    stages: &[u32],
     seats: &[usize],
     values: &Values,
 ) -> Result<(), Unfinished>
-    requires { AreApart program.now.columns.items seats.now }
+    requires stages { AreStages program.now.columns.items stages.now }
+    requires apart { AreApart program.now.columns.items seats.now }
     ensures { let v = view_of (content program.now) in
         OnOk result
         (AllMove v program.now.columns.items seats.now
@@ -181,6 +221,7 @@ fn less_all(
             less_rows(
                 numbers,
                 program,
+                stages,
                 seats,
                 &node.rows,
                 values,
@@ -272,18 +313,16 @@ pub(crate) fn reduced_costs(
 ) -> Result<Vec<Vec<Frac>>, Unfinished>
     requires totals { AreTotals (view_of (content program.now)) totals.now }
     requires all_totals { length totals.now ≡ length program.now.nodes.items }
+    requires stages { AreStages program.now.columns.items seating.now.stages.items }
     requires seated { AreSeated program.now.columns.items (lists_in seating.now.own.items) seating.now.seats.items }
     ensures { let v = view_of (content program.now) in
         IfOk result (λ numbers.
         AreAll (content program.now) seating.now.seats.items (reduced_walk (costs_of costs v) v (at values.now)) (lists_in numbers.items)) }
 {
     let own = seating.own.as_slice();
+    let stages = seating.stages.as_slice();
+    let seats = seating.seats.as_slice();
     let mut numbers = all_priced(alloc, program, costs, totals, own)?;
-    less_all(
-        numbers.as_mut_slice(),
-        program,
-        seating.seats.as_slice(),
-        values,
-    )?;
+    less_all(numbers.as_mut_slice(), program, stages, seats, values)?;
     Ok(numbers)
 }

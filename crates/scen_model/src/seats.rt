@@ -1,16 +1,28 @@
 // The columns of each stage, and of each column its seat: its place among the columns of its stage.
-ghost use Rattle.std.specs.Prelude.{◌≡◌, IsTrue, IfOk, true};
-ghost use Rattle.scen_model.specs.Gathered.{lists_in, is_of, IsSeated, AreSeated};
+ghost use Rattle.std.specs.Prelude.{IsTrue, IfOk};
+ghost use Rattle.scen_model.specs.Gathered.{lists_in, IsSeated, AreSeated, AreStages};
 
 use crate::unfinished::Unfinished;
 use scen_defs::{Column, Program};
 use std::alloc::Global;
 
-/// The columns by stage, each stage's in rising order, and the seats by column.
+/// The columns by stage, each stage's in rising order, and by column its stage and its seat.
 #[derive(Drop)]
 pub(crate) struct Seating {
     pub(crate) own: Vec<Vec<u64>>,
+    pub(crate) stages: Vec<u32>,
     pub(crate) seats: Vec<usize>,
+}
+
+/// The stages of columns.
+fn stages(alloc: Global, columns: &[Column]) -> Result<Vec<u32>, Unfinished>
+    ensures { IfOk result (λ stages. AreStages columns.now stages.items) }
+{
+    let mut stages = Vec::with_capacity(alloc, columns.len())?;
+    for column in columns {
+        stages.push(column.stage)?;
+    }
+    Ok(stages)
 }
 
 /// Puts a column behind the others of its stage; gives its seat.
@@ -51,10 +63,12 @@ fn are_seated(columns: &[Column], own: &[Vec<u64>], seats: &[usize]) -> bool
     true
 }
 
-/// The columns of each stage, and of each column its seat.
+/// The columns of each stage, and of each column its stage and its seat.
 pub(crate) fn seated(alloc: Global, program: &Program) -> Result<Seating, Unfinished>
-    ensures { IfOk result (λ s. AreSeated program.now.columns.items (lists_in s.own.items) s.seats.items) }
+    ensures stages { IfOk result (λ s. AreStages program.now.columns.items s.stages.items) }
+    ensures seated { IfOk result (λ s. AreSeated program.now.columns.items (lists_in s.own.items) s.seats.items) }
 {
+    let stages = stages(alloc, &program.columns)?;
     let mut own = Vec::with_capacity(alloc, program.periods.len())?;
     for _period in &program.periods {
         own.push(Vec::new(alloc))?;
@@ -65,7 +79,7 @@ pub(crate) fn seated(alloc: Global, program: &Program) -> Result<Seating, Unfini
         seats.push(seat)?;
     }
     if are_seated(&program.columns, own.as_slice(), seats.as_slice()) {
-        Ok(Seating { own, seats })
+        Ok(Seating { own, stages, seats })
     } else {
         Err(Unfinished::Walk)
     }

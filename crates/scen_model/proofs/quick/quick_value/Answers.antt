@@ -4,7 +4,7 @@ use Rattle.rationals.specs.Rational.{ℚ}
 use Rattle.scen_defs.specs.Program.{content, view_of}
 use Rattle.scen_defs.specs.Values.{at}
 use Rattle.scen_model.specs.Walks.{fold_walk, costs_of}
-use Rattle.scen_model.specs.Gathered.{lists_in, number_of, columns_with, Finishes}
+use Rattle.scen_model.specs.Gathered.{lists_in, column_number, columns_with, Finishes}
 use Rattle.scen_model.proofs.QuickLemmas.{totals_done, all_are, dual_is}
 use Rattle.scen_model.proofs.quick.quick_value.Goals as goal
 
@@ -17,7 +17,7 @@ returns-in-Ok c =
     let sum = c.in-Ok.sum in
     subst (λ walk. Finishes walk c.followed.result)
     (c.add_all_reduced.ensures
-    ∙ ap₂ (λ (numbers : List (Vec ℚ Global)) (seats : List ℕ). fold_walk (λ s n. columns_with v (number_of (lists_in numbers) seats n) s n) sum v.live) c.as_slice.ensures.value c.as_slice-seats.ensures.value
+    ∙ ap₂ (λ (numbers : List (Vec ℚ Global)) (seats : List ℕ). fold_walk (λ s n. columns_with v (column_number (lists_in numbers) seats n) s n) sum v.live) c.as_slice.ensures.value c.as_slice-seats.ensures.value
     ∙ all_are p costs y c.in_ok-seating.seating.seats.items (lists_in c.in_ok-numbers.numbers.items) c.in_ok-numbers.ensures sum
     ∙ dual_is costs v y (Ok sum) (totals_done p c.in_ok-totals.totals.items c.in_ok-totals.ensures.length c.in_ok-totals.ensures.totals) (sym c.in-Ok.is ∙ c.add_all_rows.ensures))
     c.followed.ensures

@@ -4,7 +4,7 @@ use Rattle.rationals.specs.Rational.{ℚ}
 use Rattle.scen_defs.specs.Program.{content, view_of}
 use Rattle.scen_defs.specs.Values.{at}
 use Rattle.scen_model.specs.Walks.{fold_walk, less_from, less_step}
-use Rattle.scen_model.specs.Gathered.{lists_in, at_home, AllMove}
+use Rattle.scen_model.specs.Gathered.{lists_in, if_home, AllMove}
 use Rattle.scen_model.proofs.NodeSteps.{live_from, live_there, dead_there, rows_read}
 use Rattle.scen_model.proofs.Homes.{AllSame, all_next, node_moves}
 use Rattle.scen_model.proofs.reduced.less_all.Goals as goal
@@ -25,7 +25,7 @@ loop-place-preserved c =
           (λ k j s o. refl) c.loop-place.invariant
           (node_moves p c.args.seats.now y place w.deref.result.now (lists_in c.loop-place.numbers) (lists_in c.match-slot.numbers)
           (w.deref.ensures.value ∙ rows_read p _ c.deref-slot-items.ensures.value place c.slot-item.result w.in-Some.node c.loop-place-test.true c.slot-item.is w.in-Some.is)
-          (subst (λ (numbers : List (Vec ℚ Global)). AllMove v p.columns.items c.args.seats.now (λ k j s. at_home v place k j s (less_from j (y place) s w.deref.result.now)) (lists_in c.loop-place.numbers) (lists_in numbers)) (sym w.numbers-is)
+          (subst (λ (numbers : List (Vec ℚ Global)). AllMove v p.columns.items c.args.seats.now (λ k j s. if_home v place k j s (less_from j (y place) s w.deref.result.now)) (lists_in c.loop-place.numbers) (lists_in numbers)) (sym w.numbers-is)
           w.in_ok-less_rows.ensures))
       | in_default w ↦
           subst (λ (ns : List ℕ). AllSame v p.columns.items c.args.seats.now (λ k j s ns. fold_walk (less_step v y k j) s ns) (lists_in c.match-slot.numbers) ns (lists_in c.args.numbers.now) v.live)
