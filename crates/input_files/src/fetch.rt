@@ -12,7 +12,7 @@ use crate::kind::FileKind;
 use command_words::Sources;
 use smps_io::{Shelf, ShelfFault};
 use std::alloc::Global;
-use std::rt::Runtime;
+use std::fs::Files;
 
 /// A file has at most so many bytes.
 pub const FILE_LIMIT: u64 = 8_388_608;
@@ -39,7 +39,7 @@ pub enum Unfetched {
 }
 
 /// The bytes of the file of this kind.
-fn fetched<R: Runtime, H: Shelf>(
+fn fetched<R: Files, H: Shelf>(
     rt: &R,
     alloc: Global,
     shelf: &mut H,
@@ -64,7 +64,7 @@ fn fetched<R: Runtime, H: Shelf>(
 }
 
 /// The bytes of a file that need not be named.
-fn fetched_if<R: Runtime, H: Shelf>(
+fn fetched_if<R: Files, H: Shelf>(
     rt: &R,
     alloc: Global,
     shelf: &mut H,
@@ -91,7 +91,7 @@ fn fetched_if<R: Runtime, H: Shelf>(
 
 /// The bytes of all files that are named. They are fetched in the order core, time, stoch, edits, report, each once, up to the first
 /// that isn't given.
-pub fn fetched_texts<R: Runtime, H: Shelf>(
+pub fn fetched_texts<R: Files, H: Shelf>(
     rt: &R,
     alloc: Global,
     shelf: &mut H,

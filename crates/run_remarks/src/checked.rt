@@ -7,7 +7,7 @@ use input_files::FileKind;
 use line_remarks::field;
 use std::alloc::{AllocError, Global};
 use std::fmt::Write;
-use std::rt::Runtime;
+use std::fs::Files;
 
 const FAILS: &str =
     "tidzgheba: a report doesn't hold: FAILS names the first claim of it that isn't so; \
@@ -18,7 +18,7 @@ const PASSED: &str =
 fewer significant digits in the report or in the data help\n";
 
 /// Appends what is said of reports that don't hold, of those of which it isn't said, and of those that are wanting.
-pub fn put_checked<R: Runtime>(
+pub fn put_checked<R: Files>(
     rt: &R,
     alloc: Global,
     text: &mut String,
@@ -52,7 +52,7 @@ fn put_wanting(text: &mut String, reports: u64, asked: u64) -> Result<(), AllocE
 }
 
 /// How many reports the words ask for, as far as the edit list can be read again: one without an edit list.
-fn asked_reports<R: Runtime>(rt: &R, alloc: Global, sources: &Sources<'_>) -> u64 {
+fn asked_reports<R: Files>(rt: &R, alloc: Global, sources: &Sources<'_>) -> u64 {
     let Some(name) = sources.edits else {
         return 1;
     };

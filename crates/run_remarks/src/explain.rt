@@ -9,7 +9,7 @@ use input_files::FileKind;
 use line_remarks::put_unused;
 use run_status::Status;
 use std::alloc::{AllocError, Global};
-use std::rt::Runtime;
+use std::fs::Files;
 
 const NO_COMMAND: &str = "tidzgheba: the words aren't those of a command: ";
 
@@ -45,7 +45,7 @@ pub const NOT_TEXT: &str =
 
 /// What standard error says of how the words ended, where this is noted of the reports that were written; empty where the
 /// output says all.
-pub fn explanation<R: Runtime>(
+pub fn explanation<R: Files>(
     rt: &R,
     alloc: Global,
     words: &[String],
@@ -68,7 +68,7 @@ pub fn explanation<R: Runtime>(
 }
 
 /// Appends what is said of a task on files.
-fn put_on_files<R: Runtime>(
+fn put_on_files<R: Files>(
     rt: &R,
     alloc: Global,
     text: &mut String,
@@ -97,7 +97,7 @@ fn put_on_files<R: Runtime>(
 }
 
 /// Appends what is said of lines of the core file that aren't used. A file that can't be read again gets nothing.
-fn put_skipped<R: Runtime>(
+fn put_skipped<R: Files>(
     rt: &R,
     alloc: Global,
     text: &mut String,

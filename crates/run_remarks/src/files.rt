@@ -1,14 +1,11 @@
 //! The files that the words name, looked at once more for what standard error says of them.
 use command_words::Sources;
-use input_files::FileKind;
+use input_files::{FILE_LIMIT, FileKind};
 use smps_io::{RealShelf, Shelf};
 use std::alloc::Global;
 use std::fs;
+use std::fs::Files;
 use std::io::ErrorKind;
-use std::rt::Runtime;
-
-/// The most bytes of a file that are read.
-const FILE_LIMIT: u64 = 8_388_608;
 
 /// The name of a file in the words.
 pub fn name_of<'a>(sources: &Sources<'a>, file: FileKind) -> Option<&'a str> {
@@ -23,7 +20,7 @@ pub fn name_of<'a>(sources: &Sources<'a>, file: FileKind) -> Option<&'a str> {
 }
 
 /// The bytes of a file that was read before. None where it can't be read again: a pipe gives its bytes only once.
-pub fn read_again<R: Runtime>(rt: &R, alloc: Global, name: &str) -> Option<Vec<u8>> {
+pub fn read_again<R: Files>(rt: &R, alloc: Global, name: &str) -> Option<Vec<u8>> {
     match fs::metadata(rt, name) {
         Ok(found) if found.is_file() => {
             RealShelf::new(alloc)
@@ -35,7 +32,7 @@ pub fn read_again<R: Runtime>(rt: &R, alloc: Global, name: &str) -> Option<Vec<u
 }
 
 /// Why a file can't be read, as far as the system says.
-pub fn why_unread<R: Runtime>(rt: &R, name: &str) -> &'static str {
+pub fn why_unread<R: Files>(rt: &R, name: &str) -> &'static str {
     match fs::metadata(rt, name) {
         Ok(found) if found.is_dir() => "that is a folder",
         Ok(found) if found.is_file() => match fs::open(rt, name) {

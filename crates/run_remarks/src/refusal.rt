@@ -6,7 +6,7 @@ use input_files::FileKind;
 use line_remarks::{push_visible, put_cause, sentence};
 use std::alloc::{AllocError, Global};
 use std::fmt::Write;
-use std::rt::Runtime;
+use std::fs::Files;
 
 /// Appends what a message begins with: the program's name, and that of a file where the words have one.
 pub fn put_file(
@@ -31,7 +31,7 @@ pub fn file_start(
 }
 
 /// Appends where a file is refused and why, the line itself, and where the remedy stands. Line 0 is no line.
-pub fn put_refusal<R: Runtime>(
+pub fn put_refusal<R: Files>(
     rt: &R,
     alloc: Global,
     text: &mut String,
@@ -59,7 +59,7 @@ pub fn put_refusal<R: Runtime>(
 }
 
 /// The bytes of a file that the words name, where it can be read again.
-fn bytes_of<R: Runtime>(
+fn bytes_of<R: Files>(
     rt: &R,
     alloc: Global,
     sources: &Sources<'_>,
@@ -83,7 +83,7 @@ pub fn put_too_long(
 }
 
 /// Appends why a file can't be read.
-pub fn put_unread<R: Runtime>(
+pub fn put_unread<R: Files>(
     rt: &R,
     text: &mut String,
     sources: &Sources<'_>,

@@ -1,7 +1,6 @@
 //! An output whose lines are looked at on their way.
 use crate::noted::{LineNotes, Noted};
 use smps_io::{Sink, SinkFault};
-use std::rt::Runtime;
 
 /// An output that notes what the reports say that are written to it.
 #[derive(Drop)]
@@ -32,7 +31,7 @@ impl<K: Sink> Sink for Watched<K> {
 
     ghost taken = { λ s. K.taken s.sink };
 
-    fn put<R: Runtime>(&mut self, rt: &R, bytes: &[u8]) -> Result<u64, SinkFault> {
+    fn put<R: Print>(&mut self, rt: &R, bytes: &[u8]) -> Result<u64, SinkFault> {
         let count = self.sink.put(rt, bytes)?;
         self.lines.take(&bytes[..count as usize]);
         Ok(count)

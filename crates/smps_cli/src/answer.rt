@@ -24,7 +24,7 @@ use input_files::{Texts, Unfetched, fetched_texts};
 use run_status::Status;
 use smps_io::Shelf;
 use std::alloc::Global;
-use std::rt::Runtime;
+use std::fs::Files;
 
 /// A status and the whole output that goes with it.
 #[derive(Drop)]
@@ -47,7 +47,7 @@ fn come(alloc: Global, task: Task, texts: &Texts) -> Result<Answer, Memory>
 }
 
 /// What a task on files comes to: fetches them first.
-fn on_files<R: Runtime, H: Shelf>(
+fn on_files<R: Files, H: Shelf>(
     rt: &R,
     alloc: Global,
     sources: &Sources<'_>,
@@ -74,7 +74,7 @@ fn on_files<R: Runtime, H: Shelf>(
 }
 
 /// What the words and the files come to. Reads no file where the words aren't a command's, or the command takes none.
-pub(crate) fn answered<R: Runtime, H: Shelf>(
+pub(crate) fn answered<R: Files, H: Shelf>(
     rt: &R,
     alloc: Global,
     words: &[String],

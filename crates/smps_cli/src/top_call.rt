@@ -16,7 +16,7 @@ use frac128::Memory;
 use run_status::Status;
 use smps_io::{Shelf, Sink, SinkFault};
 use std::alloc::Global;
-use std::rt::Runtime;
+use std::fs::Files;
 
 /// Runs the command that the words name: reads its files from the shelf, writes its output to the sink,
 /// and says how it ended. The words don't hold the program's own name. Everything is computed before the first byte is
@@ -25,7 +25,7 @@ use std::rt::Runtime;
 /// A core file within the limit whose rows' ends fit into 128 bits ends with a report where neither the shelf
 /// nor the sink fails, unless memory is wanting. So each command ends with its whole output, of files within the limit that mean
 /// a program, a script for it, and reports with its names.
-pub fn run<R: Runtime, H: Shelf, K: Sink>(
+pub fn run<R: Files + Print, H: Shelf, K: Sink>(
     rt: &R,
     alloc: Global,
     words: &[String],

@@ -4,7 +4,6 @@ ghost use Rattle.smps_io.specs.Faults.{RoseBy};
 ghost use Rattle.smps_io.specs.Puts.{Appends, AppendsPrefix, SinkHasCause};
 
 use smps_io::{Sink, SinkFault};
-use std::rt::Runtime;
 
 /// The text that begins at a place: up to behind its line END, or to the end of the bytes.
 fn text_at(bytes: &[u8], at: usize) -> &[u8]
@@ -25,7 +24,7 @@ fn text_at(bytes: &[u8], at: usize) -> &[u8]
 
 /// Appends all the bytes, so that no call of the sink takes parts of two texts: a fault behind a text leaves that text whole. After a
 /// fault a prefix of the bytes was appended.
-pub fn write_texts<R: Runtime, K: Sink>(rt: &R, sink: &mut K, bytes: &[u8]) -> Result<(), SinkFault>
+pub fn write_texts<R: Print, K: Sink>(rt: &R, sink: &mut K, bytes: &[u8]) -> Result<(), SinkFault>
     ensures all { OnOk result (Appends (K.written sink.old) bytes.now (K.written sink.new)) }
     ensures counts { OnOk result (RoseBy (K.taken sink.old) (length bytes.now) (K.taken sink.new)) }
     ensures prefix { AppendsPrefix (K.written sink.old) bytes.now (K.written sink.new) }

@@ -7,7 +7,7 @@ ghost use Rattle.smps_io.specs.declared.shelf.ShelfFault.TheVariants.{Failed, Me
 
 use crate::shelf::{Shelf, ShelfFault, keep_name};
 use std::alloc::{AllocError, Global};
-use std::rt::Runtime;
+use std::fs::Files;
 
 /// Files in memory. The fetches numbered in `fails`, counted from 1, fail, and so does a fetch of a
 /// name that it doesn't hold, unless memory is wanting.
@@ -46,7 +46,7 @@ impl Shelf for MemoryShelf {
 
     ghost given = { λ s. s.given };
 
-    fn fetch<R: Runtime>(
+    fn fetch<R: Files>(
         &mut self,
         _rt: &R,
         alloc: Global,
@@ -117,7 +117,7 @@ impl Shelf for NeverFails {
 
     ghost given = { λ s. s.given };
 
-    fn fetch<R: Runtime>(
+    fn fetch<R: Files>(
         &mut self,
         _rt: &R,
         alloc: Global,

@@ -6,7 +6,6 @@ ghost use Rattle.smps_io.specs.declared.sink.SinkFault.TheVariants.{Failed};
 
 use crate::sink::{Sink, SinkFault};
 use std::alloc::Global;
-use std::rt::Runtime;
 
 /// Output in memory that takes at most `chunk` bytes a call. The calls numbered in `fails`, counted
 /// from 1, fail.
@@ -56,7 +55,7 @@ impl Sink for MemorySink {
 
     ghost taken = { λ s. s.taken };
 
-    fn put<R: Runtime>(&mut self, _rt: &R, bytes: &[u8]) -> Result<u64, SinkFault>
+    fn put<R: Print>(&mut self, _rt: &R, bytes: &[u8]) -> Result<u64, SinkFault>
         requires { 0 < length bytes.now }
         ensures some { IfOk result (λ k. (0 < k) × (k ≤ length bytes.now)) }
         ensures appended { IfOk result (λ k. Appends (Some self.old.bytes.items) (take k bytes.now) (Some self.new.bytes.items)) }

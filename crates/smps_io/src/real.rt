@@ -7,8 +7,8 @@ use crate::shelf::{Shelf, ShelfFault, keep_name};
 use crate::sink::{Sink, SinkFault};
 use std::alloc::{AllocError, Global};
 use std::fs;
+use std::fs::Files;
 use std::io::Read;
-use std::rt::Runtime;
 
 /// The files of the system. It tells no content.
 #[derive(Drop)]
@@ -44,7 +44,7 @@ impl Shelf for RealShelf {
 
     ghost given = { λ s. s.given };
 
-    fn fetch<R: Runtime>(
+    fn fetch<R: Files>(
         &mut self,
         rt: &R,
         alloc: Global,
@@ -66,7 +66,7 @@ impl Shelf for RealShelf {
 }
 
 /// The bytes of the file of this name, at most `limit` of them. How many it gave is left in `given`.
-fn file_within<R: Runtime>(
+fn file_within<R: Files>(
     rt: &R,
     alloc: Global,
     name: &str,
@@ -160,7 +160,7 @@ impl Sink for RealSink {
     ghost taken = { λ s. s.taken };
 
     // A put that takes nothing counts as failed.
-    fn put<R: Runtime>(&mut self, rt: &R, bytes: &[u8]) -> Result<u64, SinkFault> {
+    fn put<R: Print>(&mut self, rt: &R, bytes: &[u8]) -> Result<u64, SinkFault> {
         match rt.write_some(bytes) {
             Ok(count) if count > 0 => {
                 self.taken = self.taken.saturating_add(count as u64);

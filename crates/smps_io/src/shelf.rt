@@ -4,7 +4,7 @@ ghost use Rattle.smps_io.specs.Files.{Files};
 ghost use Rattle.smps_io.specs.Fetches.{GivesFile, FetchHasCause, FetchesPrefix, IsTooLong};
 
 use std::alloc::{AllocError, Global};
-use std::rt::Runtime;
+use std::fs::Files;
 use thiserror::Error;
 
 /// Why a fetch gives no bytes.
@@ -37,7 +37,7 @@ pub trait Shelf {
 
     /// The bytes of a name, at most `limit` of them. A shelf that tells what it holds gives no bytes
     /// for a name that it doesn't hold, or fails. A fetch for whose name memory is wanting isn't made.
-    fn fetch<R: Runtime>(
+    fn fetch<R: Files>(
         &mut self,
         rt: &R,
         alloc: Global,

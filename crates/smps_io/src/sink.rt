@@ -3,7 +3,6 @@ ghost use Rattle.std.specs.Prelude.{◌≡◌, ◌≤◌, ◌<◌, ℕ, List, Op
 ghost use Rattle.smps_io.specs.Faults.{RoseBy};
 ghost use Rattle.smps_io.specs.Puts.{Appends, AppendsPrefix, SinkHasCause};
 
-use std::rt::Runtime;
 use thiserror::Error;
 
 /// Why bytes weren't appended.
@@ -29,7 +28,7 @@ pub trait Sink {
     ghost taken: { Self → ℕ };
 
     /// Appends some first bytes, at least one, and says how many. After a fault nothing was appended.
-    fn put<R: Runtime>(&mut self, rt: &R, bytes: &[u8]) -> Result<u64, SinkFault>
+    fn put<R: Print>(&mut self, rt: &R, bytes: &[u8]) -> Result<u64, SinkFault>
         requires { 0 < length bytes.now }
         ensures some { IfOk result (λ k. (0 < k) × (k ≤ length bytes.now)) }
         ensures appended { IfOk result (λ k. Appends (written self.old) (take k bytes.now) (written self.new)) }
@@ -40,7 +39,7 @@ pub trait Sink {
 }
 
 /// Appends all the bytes. After a fault a prefix of them was appended.
-pub fn write_all<R: Runtime, K: Sink>(rt: &R, sink: &mut K, bytes: &[u8]) -> Result<(), SinkFault>
+pub fn write_all<R: Print, K: Sink>(rt: &R, sink: &mut K, bytes: &[u8]) -> Result<(), SinkFault>
     ensures all { OnOk result (Appends (K.written sink.old) bytes.now (K.written sink.new)) }
     ensures counts { OnOk result (RoseBy (K.taken sink.old) (length bytes.now) (K.taken sink.new)) }
     ensures prefix { AppendsPrefix (K.written sink.old) bytes.now (K.written sink.new) }
