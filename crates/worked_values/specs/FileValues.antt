@@ -60,7 +60,8 @@ pub record TheFileSays : Type 0 where
 
 -- the line with this number is at fault, for this cause
 abbrev pub IsAtFault : String → ℕ → Cause → Type 0
-IsAtFault text line why = IsFault core_file (lines_told (codes text)) (reading_of 0 (codes text)).end_line (record { line = line; cause = why })
+IsAtFault text line why =
+    IsFault core_file (lines_told (codes text)) (reading_of 0 (codes text)).end_line (record { line = line; cause = why })
 
 -- A missing section is looked for last, and named at the line behind the last of the whole text.
 pub record MissingSectionsAreTold : Type 0 where
