@@ -1,9 +1,9 @@
 // What multipliers are worth, with the totals of all nodes and the reduced costs of all nodes each taken at once.
-ghost use Rattle.std.specs.Prelude.{◌≡◌, [], slice_index_or};
+ghost use Rattle.std.specs.Prelude.{◌≡◌, [], length, slice_index_or};
 ghost use Rattle.scen_defs.specs.Values.{at};
 ghost use Rattle.scen_defs.specs.Program.{content, view_of};
-ghost use Rattle.scen_model.specs.Walks.{fold_walk, costs_of, dual_by};
-ghost use Rattle.scen_model.specs.Gathered.{lists_in, column_number, columns_with, Finishes};
+ghost use Rattle.scen_model.specs.Walks.{fold_walk, costs_of, all_columns, dual_by};
+ghost use Rattle.scen_model.specs.Gathered.{AreTotals, lists_in, column_number, columns_with, Finishes};
 
 use crate::charges::Costs;
 use crate::ends::{add_worth, number_at};
@@ -82,6 +82,25 @@ fn add_all_reduced(
     Ok(sum)
 }
 
+/// The same, where the totals are known.
+fn add_reduced(
+    alloc: Global,
+    program: &Program,
+    costs: Costs,
+    values: &Values,
+    totals: &[Frac],
+    start: Frac,
+) -> Result<Frac, Ended>
+    requires totals { AreTotals (view_of (content program.now)) totals.now }
+    requires all_totals { length totals.now ≡ length program.now.nodes.items }
+    ensures { let v = view_of (content program.now) in Finishes (all_columns (costs_of costs v) v (at values.now) start) result }
+{
+    let seating = seated(alloc, program)?;
+    let numbers = reduced_costs(alloc, program, costs, values, totals, &seating)?;
+    let seats = seating.seats.as_slice();
+    followed(add_all_reduced(program, seats, numbers.as_slice(), start))
+}
+
 /// The totals, then the rows, then the columns.
 pub(crate) fn quick_value(
     alloc: Global,
@@ -92,14 +111,8 @@ pub(crate) fn quick_value(
     ensures { let v = view_of (content program.now) in Finishes (dual_by (costs_of costs v) v (at values.now)) result }
 {
     let totals = all_totals(alloc, program)?;
-    let seating = seated(alloc, program)?;
-    let totals = totals.as_slice();
-    let numbers = reduced_costs(alloc, program, costs, values, totals, &seating)?;
     match add_all_rows(program, values) {
-        Ok(sum) => {
-            let seats = seating.seats.as_slice();
-            followed(add_all_reduced(program, seats, numbers.as_slice(), sum))
-        }
+        Ok(sum) => add_reduced(alloc, program, costs, values, totals.as_slice(), sum),
         Err(Stop::Decided) => Err(Ended::Decided),
         Err(Stop::Passed(_)) => Err(Ended::Walk),
     }

@@ -67,6 +67,9 @@ fn on_path(program: &Program, node: u64, own: u32, stage: u32) -> Result<u64, Un
     requires { own ≡ (view_of (content program.now)).stage node }
     ensures { IfOk result (λ at. IsOnPath (view_of (content program.now)) node stage at) }
 {
+    if stage == own {
+        return Ok(node);
+    }
     if stage > own {
         return Err(Unfinished::Walk);
     }
