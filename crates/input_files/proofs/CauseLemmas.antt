@@ -40,10 +40,3 @@ failed_of content kind of name fault e h = e ∙ ap Failed (subst (IsCauseOf con
 pub failed_if : (content : Option Files) (kind of : FileKind) (named : Option (List ℕ)) (fault : Unfetched) → fault ≡ Failed of → IsCauseIf content named kind fault → fault ≡ Failed kind
 failed_if content kind of None fault e h = absurd h
 failed_if content kind of (Some name) fault e h = failed_of content kind of name fault e h
-
-pub long_of : (content : Option Files) (kind of : FileKind) (name : List ℕ) (fault : Unfetched) → fault ≡ TooLong of → IsCauseOf content name kind fault → fault ≡ TooLong kind
-long_of content kind of name fault e h = e ∙ ap TooLong (subst (IsCauseOf content name kind) e h).0
-
-pub long_if : (content : Option Files) (kind of : FileKind) (named : Option (List ℕ)) (fault : Unfetched) → fault ≡ TooLong of → IsCauseIf content named kind fault → fault ≡ TooLong kind
-long_if content kind of None fault e h = absurd h
-long_if content kind of (Some name) fault e h = long_of content kind of name fault e h

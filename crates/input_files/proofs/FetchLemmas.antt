@@ -1,11 +1,16 @@
 -- Names that were fetched, some behind others.
-use Rattle.std.proofs.Common.{◌≡◌, ℕ, ◌+◌, ◌≤◌, List, [], ◌∷◌, ◌++◌, take, length, min, sym, ap, ◌∙◌, append_assoc, arith}
+use Rattle.std.proofs.Common.{◌≡◌, ◌≢◌, ℕ, ◌+◌, ◌≤◌, List, [], ◌∷◌, ◌++◌, take, length, min, Option, None, Some, sym, ap, ◌∙◌, subst, append_assoc, arith}
 use Rattle.std.specs.Option.{option_to_list}
 use Rattle.std.proofs.lemmas.List.{append-nil, take-append-le, take_min}
 use Rattle.std.proofs.Math.Seq.{take-append-add}
 use Rattle.smps_io.specs.Fetches.{FetchesPrefix}
+use Rattle.smps_io.specs.Files.{Files}
 use Rattle.command_words.specs.Commands.{FileNames}
-use Rattle.input_files.specs.Fetched.{names_in_order}
+use Rattle.input_files.specs.declared.kind.FileKind.{FileKind}
+use Rattle.input_files.specs.declared.fetch.Unfetched.{Unfetched}
+use Rattle.input_files.specs.declared.fetch.Unfetched.TheVariants.{Failed, TooLong, Memory}
+use Rattle.input_files.specs.Fetched.{StopsAt, names_in_order, names_before, name_of}
+use Rattle.input_files.specs.Unfetched.{IsCauseOf, IsCauseIf, StopsBy}
 
 -- none of them
 pub none_fetched : (before names now : List (List ℕ)) → now ≡ before → FetchesPrefix before names now
@@ -88,3 +93,21 @@ module _ (names : FileNames) (before one two : List (List ℕ)) where
       → two ≡ one ++ option_to_list names.report → two ≡ before ++ names_in_order names
   to_report e f = names_behind before (names.core ∷ option_to_list names.time ++ option_to_list names.stoch ++ option_to_list names.edits)
       (option_to_list names.report) one two e f
+
+-- a fault of a file stops the fetches at it
+module _ (names : FileNames) (content : Option Files) (kind : FileKind) (before mid now : List (List ℕ)) (e : mid ≡ before ++ names_before names kind) where
+  stops_at : (of : FileKind) (name : List ℕ) → name_of names kind ≡ Some name → of ≡ kind → now ≡ mid ++ name ∷ [] → StopsAt names of before now
+  stops_at of name named same h =
+      subst (λ (k : FileKind). StopsAt names k before now) (sym same)
+      (name, named, names_behind before (names_before names kind) (name ∷ []) mid now e h)
+
+  pub stops_of : (name : List ℕ) → name_of names kind ≡ Some name → (fault : Unfetched) → IsCauseOf content name kind fault
+      → (fault ≢ Memory → now ≡ mid ++ name ∷ []) → StopsBy names fault before now
+  stops_of name named (Failed of) cause h = stops_at of name named cause (h (λ e. cc))
+  stops_of name named (TooLong of) cause h = stops_at of name named cause.0 (h (λ e. cc))
+  stops_of name named Memory cause h = tt
+
+  pub stops_if : (named : Option (List ℕ)) → name_of names kind ≡ named → (fault : Unfetched) → IsCauseIf content named kind fault
+      → (fault ≢ Memory → now ≡ mid ++ option_to_list named) → StopsBy names fault before now
+  stops_if None is fault cause h = absurd cause
+  stops_if (Some name) is fault cause h = stops_of name is fault cause h

@@ -1,5 +1,5 @@
 -- The texts of the files that the words name.
-use Rattle.std.specs.Prelude.{◌≡◌, ◌<◌, ◌≤◌, ⊤, ℕ, List, ◌∷◌, ◌++◌, length, Option, Some, None, IfSome}
+use Rattle.std.specs.Prelude.{◌≡◌, ◌<◌, ◌≤◌, ⊤, ℕ, List, [], ◌∷◌, ◌++◌, length, Option, Some, None, IfSome}
 use Rattle.std.specs.Option.{option_to_list}
 use Rattle.smps_io.specs.Files.{Files, bytes_of}
 use Rattle.command_words.specs.Commands.{FileNames}
@@ -60,3 +60,17 @@ IsLong content names kind =
 abbrev pub names_in_order : FileNames → List (List ℕ)
 names_in_order names = names.core ∷ option_to_list names.time ++ option_to_list names.stoch ++ option_to_list names.edits
     ++ option_to_list names.report
+
+-- the names of the files that are named and come before that of a kind in this order
+abbrev pub names_before : FileNames → FileKind → List (List ℕ)
+names_before names Core = []
+names_before names Time = names.core ∷ []
+names_before names Stoch = names.core ∷ option_to_list names.time
+names_before names Edits = names.core ∷ option_to_list names.time ++ option_to_list names.stoch
+names_before names Report = names.core ∷ option_to_list names.time ++ option_to_list names.stoch ++ option_to_list names.edits
+names_before names Trace = names_in_order names
+
+-- The file of this kind is named, and behind the fetches before, those up to and with it were fetched in this order, each once.
+abbrev pub StopsAt : FileNames → FileKind → List (List ℕ) → List (List ℕ) → Type 0
+StopsAt names kind before now =
+    (name : List ℕ) × (name_of names kind ≡ Some name) × (now ≡ before ++ (names_before names kind ++ name ∷ []))

@@ -1,12 +1,12 @@
 //! The files that the words name, fetched in their order.
-ghost use Rattle.std.specs.Prelude.{◌≡◌, ◌<◌, ◌≤◌, ◌++◌, ◌∷◌, [], Err, IfOk, IfErr, OnOk};
+ghost use Rattle.std.specs.Prelude.{◌≡◌, ◌≢◌, ◌≤◌, ◌++◌, ◌∷◌, [], Err, IfOk, IfErr, OnOk};
 ghost use Rattle.std.specs.Option.{option_to_list};
 ghost use Rattle.smps_io.specs.Faults.{Rose};
 ghost use Rattle.smps_io.specs.Fetches.{FetchesPrefix};
 ghost use Rattle.command_words.specs.Views.{sources_view, name_given};
 ghost use Rattle.input_files.specs.Fetched.{IsGiven, IsGivenIf, AreGiven, file_limit, names_in_order};
 ghost use Rattle.input_files.specs.declared.kind.FileKind.{FileKind};
-ghost use Rattle.input_files.specs.Unfetched.{texts_view, given_bytes, IsCause, IsCauseOf, IsCauseIf};
+ghost use Rattle.input_files.specs.Unfetched.{texts_view, given_bytes, IsCause, IsCauseOf, IsCauseIf, StopsBy, SaysLong};
 
 use crate::kind::FileKind;
 use command_words::Sources;
@@ -49,9 +49,11 @@ fn fetched<R: Files, H: Shelf>(
     ensures given { IfOk result (λ bytes. IsGiven (H.content shelf.old) name.now bytes.items) }
     ensures cause { IfErr result (IsCauseOf (H.content shelf.old) name.now kind) }
     ensures failed { result ≡ Err (Unfetched.Failed kind) → Rose (H.faults shelf.old) (H.faults shelf.new) }
-    ensures long { result ≡ Err (Unfetched.TooLong kind) → file_limit < H.given shelf.new }
+    ensures long { IfErr result (λ fault. SaysLong fault (H.given shelf.new)) }
+    ensures within { OnOk result (H.given shelf.new ≤ file_limit) }
     ensures later { H.faults shelf.old ≤ H.faults shelf.new }
     ensures names { OnOk result (H.fetches shelf.new ≡ H.fetches shelf.old ++ name.now ∷ []) }
+    ensures stops { IfErr result (λ fault. fault ≢ Unfetched.Memory → H.fetches shelf.new ≡ H.fetches shelf.old ++ name.now ∷ []) }
     ensures once { FetchesPrefix (H.fetches shelf.old) (name.now ∷ []) (H.fetches shelf.new) }
     ensures same { H.content shelf.new ≡ H.content shelf.old }
 {
@@ -74,9 +76,12 @@ fn fetched_if<R: Files, H: Shelf>(
     ensures given { IfOk result (λ bytes. IsGivenIf (H.content shelf.old) (name_given name.entry) (given_bytes bytes)) }
     ensures cause { IfErr result (IsCauseIf (H.content shelf.old) (name_given name.entry) kind) }
     ensures failed { result ≡ Err (Unfetched.Failed kind) → Rose (H.faults shelf.old) (H.faults shelf.new) }
-    ensures long { result ≡ Err (Unfetched.TooLong kind) → file_limit < H.given shelf.new }
+    ensures long { IfErr result (λ fault. SaysLong fault (H.given shelf.new)) }
+    ensures within { OnOk result (H.given shelf.old ≤ file_limit → H.given shelf.new ≤ file_limit) }
     ensures later { H.faults shelf.old ≤ H.faults shelf.new }
     ensures names { OnOk result (H.fetches shelf.new ≡ H.fetches shelf.old ++ option_to_list (name_given name.entry)) }
+    ensures stops { IfErr result (λ fault.
+        fault ≢ Unfetched.Memory → H.fetches shelf.new ≡ H.fetches shelf.old ++ option_to_list (name_given name.entry)) }
     ensures once { FetchesPrefix (H.fetches shelf.old) (option_to_list (name_given name.entry)) (H.fetches shelf.new) }
     ensures same { H.content shelf.new ≡ H.content shelf.old }
 {
@@ -100,8 +105,10 @@ pub fn fetched_texts<R: Files, H: Shelf>(
     ensures given { IfOk result (λ texts. AreGiven (H.content shelf.old) (sources_view sources.now) (texts_view texts)) }
     ensures cause { IfErr result (IsCause (H.content shelf.old) (sources_view sources.now)) }
     ensures failed { (kind : FileKind) → result ≡ Err (Unfetched.Failed kind) → Rose (H.faults shelf.old) (H.faults shelf.new) }
-    ensures long { (kind : FileKind) → result ≡ Err (Unfetched.TooLong kind) → file_limit < H.given shelf.new }
+    ensures long { IfErr result (λ fault. SaysLong fault (H.given shelf.new)) }
+    ensures within { OnOk result (H.given shelf.new ≤ file_limit) }
     ensures names { OnOk result (H.fetches shelf.new ≡ H.fetches shelf.old ++ names_in_order (sources_view sources.now)) }
+    ensures stops { IfErr result (λ fault. StopsBy (sources_view sources.now) fault (H.fetches shelf.old) (H.fetches shelf.new)) }
     ensures once { FetchesPrefix (H.fetches shelf.old) (names_in_order (sources_view sources.now)) (H.fetches shelf.new) }
 {
     let core = match fetched(rt, alloc, shelf, FileKind::Core, sources.core) {

@@ -10,8 +10,13 @@ pub struct Watched<K> {
 }
 
 impl<K: Sink> Watched<K> {
+    ghost use Rattle.std.specs.Prelude.{◌≡◌};
+    ghost use Rattle.run_remarks.specs.Watched.{watched_sink};
+
     /// An output to which no report is written yet.
-    pub fn over(sink: K) -> Watched<K> {
+    pub fn over(sink: K) -> Watched<K>
+        ensures { watched_sink result ≡ sink }
+    {
         Watched {
             sink,
             lines: LineNotes::new(),

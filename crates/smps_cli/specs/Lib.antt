@@ -7,3 +7,4 @@ pub mod Shown
 pub mod Makes
 pub mod Answers
 pub mod Completes
+pub mod Runs

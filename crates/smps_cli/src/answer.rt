@@ -1,16 +1,17 @@
 //! What a run comes to before anything is written.
-ghost use Rattle.std.specs.Prelude.{◌≡◌, ◌≢◌, ◌<◌, ◌++◌, None, IfOk, map, string_bytes};
+ghost use Rattle.std.specs.Prelude.{◌≡◌, ◌≢◌, Some, None, IfOk, map, string_bytes};
 ghost use Rattle.smps_io.specs.Faults.{Rose};
 ghost use Rattle.smps_io.specs.Fetches.{FetchesPrefix};
 ghost use Rattle.command_words.specs.Commands.{command_of};
+ghost use Rattle.command_words.specs.Commands.Asked.{OnFiles};
 ghost use Rattle.command_words.specs.Views.{asked, sources_view};
-ghost use Rattle.input_files.specs.Fetched.{AreGiven, file_limit, names_in_order};
+ghost use Rattle.input_files.specs.Fetched.{AreGiven, names_in_order};
 ghost use Rattle.input_files.specs.Unfetched.{texts_view};
 ghost use Rattle.input_files.specs.declared.kind.FileKind.{FileKind};
 ghost use Rattle.program_files.specs.Meant.{AreWithin};
 ghost use Rattle.smps_cli.specs.Answers.{MayAnswer, MayAnswerFor, MayAnswerTask, MayCome, HasTexts};
 ghost use Rattle.smps_cli.specs.Makes.{MakesPlan};
-ghost use Rattle.smps_cli.specs.Sources.{fetch_order};
+ghost use Rattle.smps_cli.specs.Sources.{HasFetched, LastSaysLong, StatusSaysLong, fetch_order};
 ghost use Rattle.run_status.specs.Lines.{line_with, status_line};
 
 use crate::check::checked;
@@ -60,9 +61,9 @@ fn on_files<R: Files, H: Shelf>(
     ensures written { IfOk result (λ answer. answer.status ≢ Status.WriteFault) }
     ensures read { IfOk result (λ answer.
         (kind : FileKind) → answer.status ≡ Status.ReadFault kind → Rose (H.faults shelf.old) (H.faults shelf.new)) }
-    ensures long { IfOk result (λ answer. (kind : FileKind) → answer.status ≡ Status.TooLong kind → file_limit < H.given shelf.new) }
-    ensures fetched { IfOk result (λ answer. HasTexts answer.status
-        → H.fetches shelf.new ≡ H.fetches shelf.old ++ names_in_order (sources_view sources.now)) }
+    ensures long { IfOk result (λ answer. StatusSaysLong answer.status (H.given shelf.new)) }
+    ensures fetched { IfOk result (λ answer.
+        HasFetched (Some (OnFiles (sources_view sources.now) task)) answer.status (H.fetches shelf.old) (H.fetches shelf.new)) }
     ensures once { FetchesPrefix (H.fetches shelf.old) (names_in_order (sources_view sources.now)) (H.fetches shelf.new) }
 {
     match fetched_texts(rt, alloc, shelf, sources) {
@@ -86,9 +87,9 @@ pub(crate) fn answered<R: Files, H: Shelf>(
     ensures written { IfOk result (λ answer. answer.status ≢ Status.WriteFault) }
     ensures read { IfOk result (λ answer.
         (kind : FileKind) → answer.status ≡ Status.ReadFault kind → Rose (H.faults shelf.old) (H.faults shelf.new)) }
-    ensures long { IfOk result (λ answer. (kind : FileKind) → answer.status ≡ Status.TooLong kind → file_limit < H.given shelf.new) }
-    ensures fetched { IfOk result (λ answer. HasTexts answer.status
-        → H.fetches shelf.new ≡ H.fetches shelf.old ++ fetch_order (command_of (map string_bytes words.now))) }
+    ensures long { IfOk result (λ answer. LastSaysLong (command_of (map string_bytes words.now)) answer.status (H.given shelf.new)) }
+    ensures fetched { IfOk result (λ answer.
+        HasFetched (command_of (map string_bytes words.now)) answer.status (H.fetches shelf.old) (H.fetches shelf.new)) }
     ensures once { FetchesPrefix (H.fetches shelf.old) (fetch_order (command_of (map string_bytes words.now)))
         (H.fetches shelf.new) }
     ensures none_fetched { command_of (map string_bytes words.now) ≡ None → H.fetches shelf.new ≡ H.fetches shelf.old }

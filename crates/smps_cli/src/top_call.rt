@@ -1,14 +1,6 @@
 //! The top call.
-ghost use Rattle.std.specs.Prelude.{◌≡◌, ◌<◌, ◌++◌, ℕ, List, None, map, string_bytes};
-ghost use Rattle.smps_io.specs.Faults.{Rose};
-ghost use Rattle.smps_io.specs.Fetches.{FetchesPrefix};
-ghost use Rattle.input_files.specs.Fetched.{file_limit};
-ghost use Rattle.command_words.specs.Commands.{command_of};
-ghost use Rattle.smps_cli.specs.Sources.{fetch_order};
-ghost use Rattle.smps_cli.specs.Answers.{Answers, HasTexts};
-ghost use Rattle.smps_cli.specs.Completes.{AsksForReport, EndsOrWantsMemory};
-ghost use Rattle.smps_cli.specs.Completes.{AsksOfProgram, AsksForWorkload, AnswersOrWantsMemory};
-ghost use Rattle.input_files.specs.declared.kind.FileKind.{FileKind};
+ghost use Rattle.std.specs.Prelude.{map, string_bytes};
+ghost use Rattle.smps_cli.specs.Runs.{IsRun, shelf_state, sink_state};
 
 use crate::answer::answered;
 use crate::write::write_texts;
@@ -32,28 +24,11 @@ pub fn run<R: Files + Print, H: Shelf, K: Sink>(
     shelf: &mut H,
     sink: &mut K,
 ) -> Status
-    ensures words { result ≡ Status.Words → command_of (map string_bytes words.now) ≡ None }
-    ensures read { (kind : FileKind) → result ≡ Status.ReadFault kind → Rose (H.faults shelf.old) (H.faults shelf.new) }
-    ensures long { (kind : FileKind) → result ≡ Status.TooLong kind → file_limit < H.given shelf.new }
-    ensures none_fetched { command_of (map string_bytes words.now) ≡ None → H.fetches shelf.new ≡ H.fetches shelf.old }
-    ensures fetched { HasTexts result
-        → H.fetches shelf.new ≡ H.fetches shelf.old ++ fetch_order (command_of (map string_bytes words.now)) }
-    ensures once { FetchesPrefix (H.fetches shelf.old) (fetch_order (command_of (map string_bytes words.now)))
-        (H.fetches shelf.new) }
-    ensures write { result ≡ Status.WriteFault → Rose (K.faults sink.old) (K.faults sink.new) }
-    ensures completes { AsksForReport (H.content shelf.old) (map string_bytes words.now)
-        → (¬ Rose (H.faults shelf.old) (H.faults shelf.new))
-        → (¬ Rose (K.faults sink.old) (K.faults sink.new))
-        → EndsOrWantsMemory result }
-    ensures ends { AsksOfProgram (H.content shelf.old) (map string_bytes words.now)
-        → (¬ Rose (H.faults shelf.old) (H.faults shelf.new))
-        → (¬ Rose (K.faults sink.old) (K.faults sink.new))
-        → AnswersOrWantsMemory result }
-    ensures makes { AsksForWorkload (map string_bytes words.now)
-        → (¬ Rose (K.faults sink.old) (K.faults sink.new))
-        → AnswersOrWantsMemory result }
-    ensures answers { Answers (H.content shelf.old) (map string_bytes words.now)
-        (K.written sink.old) (K.written sink.new) (K.taken sink.old) (K.taken sink.new) result }
+    ensures { IsRun (map string_bytes words.now) (H.content shelf.old)
+        (shelf_state (H.fetches shelf.old) (H.faults shelf.old) (H.given shelf.old))
+        (shelf_state (H.fetches shelf.new) (H.faults shelf.new) (H.given shelf.new))
+        (sink_state (K.written sink.old) (K.faults sink.old) (K.taken sink.old))
+        (sink_state (K.written sink.new) (K.faults sink.new) (K.taken sink.new)) result }
 {
     let answer = match answered(rt, alloc, words, shelf) {
         Ok(answer) => answer,

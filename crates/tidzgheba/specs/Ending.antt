@@ -1,24 +1,33 @@
 -- With which number the program ends.
-use Rattle.std.specs.Prelude.{◌≡◌, ℕ, List, [], map, drop, Option, Some, None, Result, Ok, Err, Vec, String, string_bytes}
-use Rattle.std.specs.declared.alloc.AllocError.{AllocError}
+use Rattle.std.specs.Prelude.{◌≡◌, ◌≢◌, ℕ, List, [], map, drop, Option, Result, Ok, Err, String, string_bytes}
 use Rattle.std.specs.declared.alloc.Global.{Global}
+use Rattle.std.specs.declared.io.Error.{Error}
+use Rattle.std.specs.declared.io.ErrorKind.TheVariants.{OutOfMemory}
+use Rattle.std.specs.declared.vec.IntoIter.{IntoIter}
+use Rattle.std.specs.IoError.{error_kind}
+use Rattle.std.specs.Vec.Iter.{into_iter_items}
+use Rattle.smps_io.specs.Files.{Files}
 use Rattle.run_status.specs.declared.status.Status.{Status}
 use Rattle.run_status.specs.declared.status.Status.TheVariants.{Memory}
 use Rattle.run_status.specs.Lines.{status_number}
-use Rattle.smps_cli.specs.Answers.{Answers}
+use Rattle.smps_cli.specs.Runs.{IsRun, ShelfState, SinkState}
 
--- A run of these words may come to this status, over files that don't tell what they hold and an output that doesn't tell what was
--- written, but how many bytes it has taken.
-abbrev pub IsStatusOf : List (List ℕ) → Status → Type 0
-IsStatusOf words status = (before after : ℕ) × Answers None words None None before after status
+-- the number is that of a status to which a run of these words came
+abbrev pub EndsWith : List (List ℕ) → Option Files → ShelfState → ShelfState → SinkState → SinkState → ℕ → Type 0
+EndsWith words content shelf shelf_after sink sink_after number =
+    (status : Status) × (number ≡ status_number status) × IsRun words content shelf shelf_after sink sink_after status
 
--- the number is that of such a status
-abbrev pub EndsWith : List (List ℕ) → ℕ → Type 0
-EndsWith words number = (status : Status) × (number ≡ status_number status) × IsStatusOf words status
+-- the number is that of want of memory, and nothing was fetched or written
+abbrev pub EndsUnread : ShelfState → ShelfState → SinkState → SinkState → ℕ → Type 0
+EndsUnread shelf shelf_after sink sink_after number = (number ≡ status_number Memory) × (shelf_after ≡ shelf) × (sink_after ≡ sink)
 
--- The number of a run of the words behind the program's own name; of no words where one of them isn't UTF-8; that of want of memory
--- where memory was wanting for them.
-abbrev pub EndsOn : Result (Option (Vec (String Global) Global)) AllocError → ℕ → Type 0
-EndsOn (Ok (Some words)) number = EndsWith (map string_bytes (drop 1 words.items)) number
-EndsOn (Ok None) number = EndsWith [] number
-EndsOn (Err _) number = number ≡ status_number Memory
+-- What the program makes of the words that the system gave, the program's own name first: a run of those behind the name, all and in their
+-- order. Where it gave none since memory was wanting, the program ends with that number, and where it gave none since one isn't UTF-8, with
+-- that of a run of no words.
+abbrev pub EndsOn : Result (IntoIter (String Global) Global) Error → Option Files → ShelfState → ShelfState → SinkState → SinkState → ℕ
+    → Type 0
+EndsOn (Ok words) content shelf shelf_after sink sink_after number =
+    EndsWith (map string_bytes (drop 1 (into_iter_items words))) content shelf shelf_after sink sink_after number
+EndsOn (Err error) content shelf shelf_after sink sink_after number =
+    (error_kind error ≡ OutOfMemory → EndsUnread shelf shelf_after sink sink_after number)
+    × (error_kind error ≢ OutOfMemory → EndsWith [] content shelf shelf_after sink sink_after number)

@@ -1,57 +1,70 @@
 //! The program `tidzgheba`: runs its words over the files of the system and standard output.
 #![tactic(auto)]
 
-ghost use Rattle.std.specs.Prelude.{◌≡◌, map, drop, string_bytes};
-ghost use Rattle.std.specs.Process.{exit_status};
-ghost use Rattle.tidzgheba.specs.Ending.{EndsOn, EndsWith, IsStatusOf};
+ghost use Rattle.std.specs.Prelude.{◌≡◌, map, drop, string_bytes, IfOk};
+ghost use Rattle.std.specs.Vec.Iter.{into_iter_items};
+ghost use Rattle.run_status.specs.Lines.{status_number};
+ghost use Rattle.smps_cli.specs.Runs.{shelf_state, sink_state};
+ghost use Rattle.run_remarks.specs.Watched.{watched_sink};
+ghost use Rattle.tidzgheba.specs.Ending.{EndsOn, EndsWith};
 
 use run_remarks::{MEMORY, NOT_TEXT, Noted, UNEXPLAINED, Watched, explanation};
 use smps_cli::{Status, run};
-use smps_io::{RealShelf, RealSink};
+use smps_io::{RealShelf, RealSink, Shelf, Sink};
 use std::alloc::{AllocError, Global};
+use std::env::Args;
+use std::fs::Files;
 use std::process::ExitCode;
 use std::{env, io};
 
-/// Runs the words and ends with the number of the status to which they come.
+/// Runs the words of the process and ends with the number of the status to which they come.
 fn main(rt: HostRuntime) -> ExitCode {
-    ended(&rt, arguments(&rt))
+    ExitCode::from(ended(
+        &rt,
+        rt.alloc(),
+        env::args(&rt),
+        &mut RealShelf::new(rt.alloc()),
+        &mut Watched::over(RealSink::new()),
+    ))
 }
 
-/// The arguments, the program's own name first; none where one of them isn't UTF-8.
-fn arguments(rt: &HostRuntime) -> Result<Option<Vec<String>>, AllocError> {
-    match env::args(rt) {
-        Ok(words) => Ok(Some(words.collect(rt.alloc())?)),
-        Err(error) if error.kind() == io::ErrorKind::OutOfMemory => Err(AllocError),
-        Err(_) => Ok(None),
-    }
-}
-
-/// Runs the words behind the program's own name over the files of the system and standard output; no words where one of them
-/// isn't UTF-8.
-fn ended(rt: &HostRuntime, arguments: Result<Option<Vec<String>>, AllocError>) -> ExitCode
-    ensures { EndsOn arguments (exit_status result) }
+/// Runs the words behind the program's own name over a shelf and a sink; no words where one of them isn't UTF-8. Gives the number of the
+/// status; standard error says what it means where the output doesn't say all.
+fn ended<R: Files + Print + Eprint, H: Shelf, K: Sink>(
+    rt: &R,
+    alloc: Global,
+    arguments: io::Result<Args>,
+    shelf: &mut H,
+    sink: &mut Watched<K>,
+) -> u8
+    ensures { EndsOn arguments (H.content shelf.old)
+        (shelf_state (H.fetches shelf.old) (H.faults shelf.old) (H.given shelf.old))
+        (shelf_state (H.fetches shelf.new) (H.faults shelf.new) (H.given shelf.new))
+        (sink_state (K.written (watched_sink sink.old)) (K.faults (watched_sink sink.old)) (K.taken (watched_sink sink.old)))
+        (sink_state (K.written (watched_sink sink.new)) (K.faults (watched_sink sink.new)) (K.taken (watched_sink sink.new))) result }
 {
     match arguments {
-        Ok(Some(words)) => ended_so(rt, behind_first(&words)),
-        Ok(None) => {
+        Ok(arguments) => match words_of(alloc, arguments) {
+            Ok(words) => ended_so(rt, alloc, behind_first(&words), shelf, sink),
+            Err(AllocError) => unread(rt),
+        },
+        Err(error) if error.kind() == io::ErrorKind::OutOfMemory => unread(rt),
+        Err(_) => {
             let _ = rt.eprint(NOT_TEXT);
-            let (status, _) = status_of(rt, &[]);
-            ExitCode::from(status.number())
-        }
-        Err(AllocError) => {
-            let _ = rt.eprint(MEMORY);
-            ExitCode::from(Status::Memory.number())
+            run(rt, alloc, &[], shelf, sink).number()
         }
     }
 }
 
-/// Runs the words; standard error says what their status means where the output doesn't say all.
-fn ended_so(rt: &HostRuntime, words: &[String]) -> ExitCode
-    ensures { EndsWith (map string_bytes words.now) (exit_status result) }
+/// The words that the system gave.
+fn words_of(alloc: Global, mut arguments: Args) -> Result<Vec<String>, AllocError>
+    ensures { IfOk result (λ words. words.items ≡ into_iter_items arguments) }
 {
-    let (status, noted) = status_of(rt, words);
-    tell(rt, words, &status, noted);
-    ExitCode::from(status.number())
+    let mut words = Vec::new(alloc);
+    while let Some(word) = arguments.next() {
+        words.push(word)?;
+    }
+    Ok(words)
 }
 
 /// The words behind the first.
@@ -64,24 +77,36 @@ fn behind_first(words: &[String]) -> &[String]
     }
 }
 
-/// How the words end, and what is noted of the reports that are written.
-fn status_of(rt: &HostRuntime, words: &[String]) -> (Status, Noted)
-    ensures { IsStatusOf (map string_bytes words.now) result.0 }
+/// Says that memory was wanting for the words.
+fn unread<R: Eprint>(rt: &R) -> u8
+    ensures { result ≡ status_number Status.Memory }
 {
-    let mut sink = Watched::over(RealSink::new());
-    let status = run(
-        rt,
-        rt.alloc(),
-        words,
-        &mut RealShelf::new(rt.alloc()),
-        &mut sink,
-    );
-    (status, sink.noted())
+    let _ = rt.eprint(MEMORY);
+    Status::Memory.number()
+}
+
+/// Runs the words; standard error says what their status means where the output doesn't say all.
+fn ended_so<R: Files + Print + Eprint, H: Shelf, K: Sink>(
+    rt: &R,
+    alloc: Global,
+    words: &[String],
+    shelf: &mut H,
+    sink: &mut Watched<K>,
+) -> u8
+    ensures { EndsWith (map string_bytes words.now) (H.content shelf.old)
+        (shelf_state (H.fetches shelf.old) (H.faults shelf.old) (H.given shelf.old))
+        (shelf_state (H.fetches shelf.new) (H.faults shelf.new) (H.given shelf.new))
+        (sink_state (K.written (watched_sink sink.old)) (K.faults (watched_sink sink.old)) (K.taken (watched_sink sink.old)))
+        (sink_state (K.written (watched_sink sink.new)) (K.faults (watched_sink sink.new)) (K.taken (watched_sink sink.new))) result }
+{
+    let status = run(rt, alloc, words, shelf, sink);
+    tell(rt, alloc, words, &status, sink.noted());
+    status.number()
 }
 
 /// Writes the explanation of a status to standard error. That memory or standard error is wanting changes no status.
-fn tell(rt: &HostRuntime, words: &[String], status: &Status, noted: Noted) {
-    let _ = match explanation(rt, rt.alloc(), words, status, noted) {
+fn tell<R: Files + Eprint>(rt: &R, alloc: Global, words: &[String], status: &Status, noted: Noted) {
+    let _ = match explanation(rt, alloc, words, status, noted) {
         Ok(text) => rt.eprint(text.as_str()),
         Err(AllocError) if *status == Status::Memory => rt.eprint(MEMORY),
         Err(AllocError) => rt.eprint(UNEXPLAINED),

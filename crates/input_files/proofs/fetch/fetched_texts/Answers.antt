@@ -1,13 +1,14 @@
-use Rattle.std.proofs.Common.{◌≡◌, refl, ◌∙◌, subst, Option}
+use Rattle.std.proofs.Common.{◌≡◌, refl, sym, ◌∙◌, subst, Option}
+use Rattle.std.proofs.lemmas.List.{append-nil}
 use Rattle.smps_io.specs.Faults.{Rose}
 use Rattle.smps_io.specs.Files.{Files}
 use Rattle.command_words.specs.Views.{sources_view}
 use Rattle.input_files.specs.Unfetched.{IsCause, given_bytes}
 use Rattle.input_files.specs.Fetched.{IsGivenIf}
-use Rattle.input_files.specs.declared.fetch.Unfetched.TheVariants.{Failed, TooLong}
+use Rattle.input_files.specs.declared.fetch.Unfetched.TheVariants.{Failed}
 use Rattle.input_files.specs.declared.kind.FileKind.TheVariants as kind
-use Rattle.input_files.proofs.CauseLemmas.{cause_of, cause_if, failed_of, failed_if, long_of, long_if, err_is, err_same, not_err, rose_later}
-use Rattle.input_files.proofs.FetchLemmas.{in_core, in_time, in_stoch, in_edits, in_report, to_time, to_stoch, to_edits, to_report}
+use Rattle.input_files.proofs.CauseLemmas.{cause_of, cause_if, failed_of, failed_if, err_is, err_same, not_err, rose_later}
+use Rattle.input_files.proofs.FetchLemmas.{in_core, in_time, in_stoch, in_edits, in_report, to_time, to_stoch, to_edits, to_report, stops_of, stops_if}
 use Rattle.input_files.proofs.fetch.fetched_texts.Goals as goal
 
 pub returns-in-Err-clause-cause : goal.returns-in-Err-clause-cause
@@ -73,21 +74,11 @@ returns-in-Err-clause-failed g c of e =
     let fault_is : c.in-Err.fault ≡ Failed kind.Core = failed_of (g.H.Shelf.content c.args.shelf.now) kind.Core of (sources_view c.args.sources.now).core c.in-Err.fault (err_is e) c.in-Err.ensures.cause in
     c.in-Err.ensures.failed (err_same fault_is)
 
-pub returns-in-Err-clause-long : goal.returns-in-Err-clause-long
-returns-in-Err-clause-long g c of e =
-    let fault_is : c.in-Err.fault ≡ TooLong kind.Core = long_of (g.H.Shelf.content c.args.shelf.now) kind.Core of (sources_view c.args.sources.now).core c.in-Err.fault (err_is e) c.in-Err.ensures.cause in
-    c.in-Err.ensures.long (err_same fault_is)
-
 pub returns-in-Err-fetched_if-clause-failed : goal.returns-in-Err-fetched_if-clause-failed
 returns-in-Err-fetched_if-clause-failed g c of e =
     let fault_is : c.in-Err-fetched_if.fault ≡ Failed kind.Time = failed_if (g.H.Shelf.content c.fetched.new.shelf) kind.Time of (sources_view c.args.sources.now).time c.in-Err-fetched_if.fault (err_is e) c.in-Err-fetched_if.ensures.cause in
     let rose : Rose (g.H.Shelf.faults c.fetched.new.shelf) (g.H.Shelf.faults c.fetched_if.new.shelf) = c.in-Err-fetched_if.ensures.failed (err_same fault_is) in
     rose_later (g.H.Shelf.faults c.args.shelf.now) (g.H.Shelf.faults c.fetched.new.shelf) (g.H.Shelf.faults c.fetched_if.new.shelf) c.fetched.ensures.later rose
-
-pub returns-in-Err-fetched_if-clause-long : goal.returns-in-Err-fetched_if-clause-long
-returns-in-Err-fetched_if-clause-long g c of e =
-    let fault_is : c.in-Err-fetched_if.fault ≡ TooLong kind.Time = long_if (g.H.Shelf.content c.fetched.new.shelf) kind.Time of (sources_view c.args.sources.now).time c.in-Err-fetched_if.fault (err_is e) c.in-Err-fetched_if.ensures.cause in
-    c.in-Err-fetched_if.ensures.long (err_same fault_is)
 
 pub returns-in-Err-fetched_if-2-clause-failed : goal.returns-in-Err-fetched_if-2-clause-failed
 returns-in-Err-fetched_if-2-clause-failed g c of e =
@@ -95,32 +86,17 @@ returns-in-Err-fetched_if-2-clause-failed g c of e =
     let rose : Rose (g.H.Shelf.faults c.fetched_if.new.shelf) (g.H.Shelf.faults c.fetched_if-2.new.shelf) = c.in-Err-fetched_if-2.ensures.failed (err_same fault_is) in
     rose_later (g.H.Shelf.faults c.args.shelf.now) (g.H.Shelf.faults c.fetched.new.shelf) (g.H.Shelf.faults c.fetched_if-2.new.shelf) c.fetched.ensures.later (rose_later (g.H.Shelf.faults c.fetched.new.shelf) (g.H.Shelf.faults c.fetched_if.new.shelf) (g.H.Shelf.faults c.fetched_if-2.new.shelf) c.fetched_if.ensures.later rose)
 
-pub returns-in-Err-fetched_if-2-clause-long : goal.returns-in-Err-fetched_if-2-clause-long
-returns-in-Err-fetched_if-2-clause-long g c of e =
-    let fault_is : c.in-Err-fetched_if-2.fault ≡ TooLong kind.Stoch = long_if (g.H.Shelf.content c.fetched_if.new.shelf) kind.Stoch of (sources_view c.args.sources.now).stoch c.in-Err-fetched_if-2.fault (err_is e) c.in-Err-fetched_if-2.ensures.cause in
-    c.in-Err-fetched_if-2.ensures.long (err_same fault_is)
-
 pub returns-in-Err-fetched_if-3-clause-failed : goal.returns-in-Err-fetched_if-3-clause-failed
 returns-in-Err-fetched_if-3-clause-failed g c of e =
     let fault_is : c.in-Err-fetched_if-3.fault ≡ Failed kind.Edits = failed_if (g.H.Shelf.content c.fetched_if-2.new.shelf) kind.Edits of (sources_view c.args.sources.now).edits c.in-Err-fetched_if-3.fault (err_is e) c.in-Err-fetched_if-3.ensures.cause in
     let rose : Rose (g.H.Shelf.faults c.fetched_if-2.new.shelf) (g.H.Shelf.faults c.fetched_if-3.new.shelf) = c.in-Err-fetched_if-3.ensures.failed (err_same fault_is) in
     rose_later (g.H.Shelf.faults c.args.shelf.now) (g.H.Shelf.faults c.fetched.new.shelf) (g.H.Shelf.faults c.fetched_if-3.new.shelf) c.fetched.ensures.later (rose_later (g.H.Shelf.faults c.fetched.new.shelf) (g.H.Shelf.faults c.fetched_if.new.shelf) (g.H.Shelf.faults c.fetched_if-3.new.shelf) c.fetched_if.ensures.later (rose_later (g.H.Shelf.faults c.fetched_if.new.shelf) (g.H.Shelf.faults c.fetched_if-2.new.shelf) (g.H.Shelf.faults c.fetched_if-3.new.shelf) c.fetched_if-2.ensures.later rose))
 
-pub returns-in-Err-fetched_if-3-clause-long : goal.returns-in-Err-fetched_if-3-clause-long
-returns-in-Err-fetched_if-3-clause-long g c of e =
-    let fault_is : c.in-Err-fetched_if-3.fault ≡ TooLong kind.Edits = long_if (g.H.Shelf.content c.fetched_if-2.new.shelf) kind.Edits of (sources_view c.args.sources.now).edits c.in-Err-fetched_if-3.fault (err_is e) c.in-Err-fetched_if-3.ensures.cause in
-    c.in-Err-fetched_if-3.ensures.long (err_same fault_is)
-
 pub returns-in-Err-fetched_if-4-clause-failed : goal.returns-in-Err-fetched_if-4-clause-failed
 returns-in-Err-fetched_if-4-clause-failed g c of e =
     let fault_is : c.in-Err-fetched_if-4.fault ≡ Failed kind.Report = failed_if (g.H.Shelf.content c.fetched_if-3.new.shelf) kind.Report of (sources_view c.args.sources.now).report c.in-Err-fetched_if-4.fault (err_is e) c.in-Err-fetched_if-4.ensures.cause in
     let rose : Rose (g.H.Shelf.faults c.fetched_if-3.new.shelf) (g.H.Shelf.faults c.fetched_if-4.new.shelf) = c.in-Err-fetched_if-4.ensures.failed (err_same fault_is) in
     rose_later (g.H.Shelf.faults c.args.shelf.now) (g.H.Shelf.faults c.fetched.new.shelf) (g.H.Shelf.faults c.fetched_if-4.new.shelf) c.fetched.ensures.later (rose_later (g.H.Shelf.faults c.fetched.new.shelf) (g.H.Shelf.faults c.fetched_if.new.shelf) (g.H.Shelf.faults c.fetched_if-4.new.shelf) c.fetched_if.ensures.later (rose_later (g.H.Shelf.faults c.fetched_if.new.shelf) (g.H.Shelf.faults c.fetched_if-2.new.shelf) (g.H.Shelf.faults c.fetched_if-4.new.shelf) c.fetched_if-2.ensures.later (rose_later (g.H.Shelf.faults c.fetched_if-2.new.shelf) (g.H.Shelf.faults c.fetched_if-3.new.shelf) (g.H.Shelf.faults c.fetched_if-4.new.shelf) c.fetched_if-3.ensures.later rose)))
-
-pub returns-in-Err-fetched_if-4-clause-long : goal.returns-in-Err-fetched_if-4-clause-long
-returns-in-Err-fetched_if-4-clause-long g c of e =
-    let fault_is : c.in-Err-fetched_if-4.fault ≡ TooLong kind.Report = long_if (g.H.Shelf.content c.fetched_if-3.new.shelf) kind.Report of (sources_view c.args.sources.now).report c.in-Err-fetched_if-4.fault (err_is e) c.in-Err-fetched_if-4.ensures.cause in
-    c.in-Err-fetched_if-4.ensures.long (err_same fault_is)
 
 pub returns-in-Ok-fetched_if-4-clause-given : goal.returns-in-Ok-fetched_if-4-clause-given
 returns-in-Ok-fetched_if-4-clause-given g c = record {
@@ -141,5 +117,27 @@ returns-in-Ok-fetched_if-4-clause-names g c = to_report (sources_view c.args.sou
 pub returns-in-Ok-fetched_if-4-clause-failed : goal.returns-in-Ok-fetched_if-4-clause-failed
 returns-in-Ok-fetched_if-4-clause-failed g c of e = not_err e
 
-pub returns-in-Ok-fetched_if-4-clause-long : goal.returns-in-Ok-fetched_if-4-clause-long
-returns-in-Ok-fetched_if-4-clause-long g c of e = not_err e
+pub returns-in-Err-clause-stops : goal.returns-in-Err-clause-stops
+returns-in-Err-clause-stops g c = stops_of (sources_view c.args.sources.now) (g.H.Shelf.content c.args.shelf.now) kind.Core (g.H.Shelf.fetches c.args.shelf.now) (g.H.Shelf.fetches c.args.shelf.now) (g.H.Shelf.fetches c.fetched.new.shelf)
+    (sym (append-nil (g.H.Shelf.fetches c.args.shelf.now)))
+    (sources_view c.args.sources.now).core refl c.in-Err.fault c.in-Err.ensures.cause c.in-Err.ensures.stops
+
+pub returns-in-Err-fetched_if-clause-stops : goal.returns-in-Err-fetched_if-clause-stops
+returns-in-Err-fetched_if-clause-stops g c = stops_if (sources_view c.args.sources.now) (g.H.Shelf.content c.fetched.new.shelf) kind.Time (g.H.Shelf.fetches c.args.shelf.now) (g.H.Shelf.fetches c.fetched.new.shelf) (g.H.Shelf.fetches c.fetched_if.new.shelf)
+    c.in-Ok.ensures.names
+    (sources_view c.args.sources.now).time refl c.in-Err-fetched_if.fault c.in-Err-fetched_if.ensures.cause c.in-Err-fetched_if.ensures.stops
+
+pub returns-in-Err-fetched_if-2-clause-stops : goal.returns-in-Err-fetched_if-2-clause-stops
+returns-in-Err-fetched_if-2-clause-stops g c = stops_if (sources_view c.args.sources.now) (g.H.Shelf.content c.fetched_if.new.shelf) kind.Stoch (g.H.Shelf.fetches c.args.shelf.now) (g.H.Shelf.fetches c.fetched_if.new.shelf) (g.H.Shelf.fetches c.fetched_if-2.new.shelf)
+    (to_time (sources_view c.args.sources.now) (g.H.Shelf.fetches c.args.shelf.now) (g.H.Shelf.fetches c.fetched.new.shelf) (g.H.Shelf.fetches c.fetched_if.new.shelf) c.in-Ok.ensures.names c.in-Ok-fetched_if.ensures.names)
+    (sources_view c.args.sources.now).stoch refl c.in-Err-fetched_if-2.fault c.in-Err-fetched_if-2.ensures.cause c.in-Err-fetched_if-2.ensures.stops
+
+pub returns-in-Err-fetched_if-3-clause-stops : goal.returns-in-Err-fetched_if-3-clause-stops
+returns-in-Err-fetched_if-3-clause-stops g c = stops_if (sources_view c.args.sources.now) (g.H.Shelf.content c.fetched_if-2.new.shelf) kind.Edits (g.H.Shelf.fetches c.args.shelf.now) (g.H.Shelf.fetches c.fetched_if-2.new.shelf) (g.H.Shelf.fetches c.fetched_if-3.new.shelf)
+    (to_stoch (sources_view c.args.sources.now) (g.H.Shelf.fetches c.args.shelf.now) (g.H.Shelf.fetches c.fetched_if.new.shelf) (g.H.Shelf.fetches c.fetched_if-2.new.shelf) (to_time (sources_view c.args.sources.now) (g.H.Shelf.fetches c.args.shelf.now) (g.H.Shelf.fetches c.fetched.new.shelf) (g.H.Shelf.fetches c.fetched_if.new.shelf) c.in-Ok.ensures.names c.in-Ok-fetched_if.ensures.names) c.in-Ok-fetched_if-2.ensures.names)
+    (sources_view c.args.sources.now).edits refl c.in-Err-fetched_if-3.fault c.in-Err-fetched_if-3.ensures.cause c.in-Err-fetched_if-3.ensures.stops
+
+pub returns-in-Err-fetched_if-4-clause-stops : goal.returns-in-Err-fetched_if-4-clause-stops
+returns-in-Err-fetched_if-4-clause-stops g c = stops_if (sources_view c.args.sources.now) (g.H.Shelf.content c.fetched_if-3.new.shelf) kind.Report (g.H.Shelf.fetches c.args.shelf.now) (g.H.Shelf.fetches c.fetched_if-3.new.shelf) (g.H.Shelf.fetches c.fetched_if-4.new.shelf)
+    (to_edits (sources_view c.args.sources.now) (g.H.Shelf.fetches c.args.shelf.now) (g.H.Shelf.fetches c.fetched_if-2.new.shelf) (g.H.Shelf.fetches c.fetched_if-3.new.shelf) (to_stoch (sources_view c.args.sources.now) (g.H.Shelf.fetches c.args.shelf.now) (g.H.Shelf.fetches c.fetched_if.new.shelf) (g.H.Shelf.fetches c.fetched_if-2.new.shelf) (to_time (sources_view c.args.sources.now) (g.H.Shelf.fetches c.args.shelf.now) (g.H.Shelf.fetches c.fetched.new.shelf) (g.H.Shelf.fetches c.fetched_if.new.shelf) c.in-Ok.ensures.names c.in-Ok-fetched_if.ensures.names) c.in-Ok-fetched_if-2.ensures.names) c.in-Ok-fetched_if-3.ensures.names)
+    (sources_view c.args.sources.now).report refl c.in-Err-fetched_if-4.fault c.in-Err-fetched_if-4.ensures.cause c.in-Err-fetched_if-4.ensures.stops
