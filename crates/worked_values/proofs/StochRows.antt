@@ -1,8 +1,9 @@
 -- The rows of StochValues, computed; those on cores go by the names and the numbers that the file gives them.
-use Rattle.std.proofs.Common.{[], refl, arith}
+use Rattle.std.proofs.Common.{[], take, refl, arith}
 use Rattle.std.specs.Prelude.{◌^◌, codes, length}
 use Rattle.std.proofs.lemmas.Bool.{ltb-true}
 use Rattle.rationals.specs.Rational.{◌÷◌, ◌+ℚ◌, ◌*ℚ◌, neg_ℚ, zero_ℚ, reduce, smaller, divides, nat_divides}
+use Rattle.smps_words.specs.Line.{line_of}
 use Rattle.core_defs.proofs.Texts.{core_file_laws}
 use Rattle.stoch_defs.specs.Section.{mode_of}
 use Rattle.worked_values.specs.Told.{lines_told}
@@ -73,11 +74,18 @@ entries = record {
   earlier_column = refl;
   later_column = refl;
   a_core = (core_file_laws.meaning column_rhs (ltb-true (length column_rhs) (2 ^ 63) refl) (record {
+    number = 6;
     read = lines_told column_rhs;
-    rest = [];
-    split = refl;
-    fit = (refl, (refl, (refl, (refl, (refl, (refl, tt))))));
-    end = refl;
-    whole = refl;
+    whole = record {
+      read = take 5 (lines_told column_rhs);
+      line = line_of 6 (codes "ENDATA");
+      rest = [];
+      split = refl;
+      fit = (refl, refl, (refl, refl, (refl, refl, (refl, refl, (refl, refl, (refl, refl, tt))))));
+      end = refl;
+      number_is = refl;
+      is = refl;
+    };
+    columns = refl;
   }));
 }

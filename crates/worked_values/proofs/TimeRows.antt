@@ -1,11 +1,12 @@
 -- The rows of TimeValues, computed; those on cores go by the names that the file gives them.
-use Rattle.std.proofs.Common.{◌≡◌, ◌++◌, ap, ap₂, ℕ, suc, List, [], ◌∷◌, Option, refl}
+use Rattle.std.proofs.Common.{◌≡◌, ◌++◌, ap, ap₂, ℕ, suc, List, [], ◌∷◌, take, Option, refl}
 use Rattle.std.specs.Prelude.{◌^◌, codes, length}
 use Rattle.std.proofs.lemmas.Bool.{ltb-true}
 use Rattle.rationals.specs.Rational.{◌÷◌, ◌+ℚ◌, neg_ℚ, zero_ℚ, reduce, smaller, divides, nat_divides}
 use Rattle.smps_words.specs.Names.{place_of}
 use Rattle.core_defs.specs.declared.program.Core.{Core}
 use Rattle.core_defs.specs.Means.{TextMeans}
+use Rattle.smps_words.specs.Line.{line_of}
 use Rattle.core_defs.proofs.Texts.{core_file_laws}
 use Rattle.time_defs.specs.Stated.{start_row, if_there, started, row_stage, column_stage}
 use Rattle.worked_values.specs.Told.{lines_told}
@@ -68,11 +69,18 @@ time_files = record {
   need_placed = λ core. refl;
   sum_placed = λ core. refl;
   a_core = (core_file_laws.meaning mix (ltb-true (length mix) (2 ^ 63) refl) (record {
+    number = 16;
     read = lines_told mix;
-    rest = [];
-    split = refl;
-    fit = (refl, (refl, (refl, (refl, (refl, (refl, (refl, (refl, (refl, (refl, (refl, (refl, (refl, (refl, (refl, (refl, tt))))))))))))))));
-    end = refl;
-    whole = refl;
+    whole = record {
+      read = take 15 (lines_told mix);
+      line = line_of 16 (codes "ENDATA");
+      rest = [];
+      split = refl;
+      fit = (refl, refl, (refl, refl, (refl, refl, (refl, refl, (refl, refl, (refl, refl, (refl, refl, (refl, refl, (refl, refl, (refl, refl, (refl, refl, (refl, refl, (refl, refl, (refl, refl, (refl, refl, (refl, refl, tt))))))))))))))));
+      end = refl;
+      number_is = refl;
+      is = refl;
+    };
+    columns = refl;
   }));
 }

@@ -3,7 +3,7 @@ use Rattle.std.specs.Prelude.{◌≡◌, ℕ, true, pos, List, [], ◌∷◌, Op
 use Rattle.rationals.specs.Rational.{◌÷◌}
 use Rattle.smps_words.specs.declared.entry.Entry.TheVariants.{Cost, Matrix, Rhs}
 use Rattle.refusals.specs.declared.cause.Cause.{Cause}
-use Rattle.core_defs.specs.Cause.{number_of_cause}
+use Rattle.refusals.specs.Cause.{number_of_cause}
 use Rattle.scen_defs.specs.Cover.{cover}
 use Rattle.edit_defs.specs.declared.edit.Edit.TheVariants as edit
 use Rattle.edit_script.specs.Commands.{word_of, changing, command_of}
