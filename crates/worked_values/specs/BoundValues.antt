@@ -1,6 +1,6 @@
 -- BOUNDS: what each line sets.
 use Prim.Native.String.{String}
-use Rattle.std.specs.Prelude.{◌≡◌, ℕ, ◌*◌, ◌^◌, List, ◌++◌, Option, Some, None, Result, Ok, Err, codes}
+use Rattle.std.specs.Prelude.{◌≡◌, ℕ, ◌*◌, ◌^◌, List, ◌++◌, Some, None, Result, Ok, Err, codes}
 use Rattle.rationals.specs.Rational.{ℚ}
 use Rattle.refusals.specs.Results.{unless_refused}
 use Rattle.core_defs.specs.declared.bounds.ColumnBounds.{ColumnBounds}
