@@ -2,8 +2,9 @@
 use Rattle.std.proofs.Common.{◌≡◌, ◌∙◌, ap, ap₂, refl, ℕ, suc, ◌+◌, ◌<◌, Bool, true, false, List, [], ◌∷◌, ◌++◌, map, flat_map, length, get_or, nat_eq, arith, if◌then◌else◌}
 use Rattle.std.proofs.lemmas.Bool.Decides.{nat_tests}
 use Rattle.std.specs.List.{filter}
+use Rattle.rationals.specs.Choices.{pick}
 use Rattle.stoch_defs.specs.Random.{Block}
-use Rattle.scen_defs.specs.Lists.{Each, pick}
+use Rattle.scen_defs.specs.Lists.{Each}
 use Rattle.build_defs.specs.Scenarios.{stages_from, by_period}
 use Rattle.build_defs.proofs.EachLemmas.{each_flat}
 use Rattle.tree_build.specs.declared.wheels.Wheel.{Wheel}

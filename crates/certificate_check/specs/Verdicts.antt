@@ -3,7 +3,7 @@ use Rattle.std.specs.Prelude.{Bool, true, false, not, ◌&&◌, eqb, is_some, le
 use Rattle.rationals.specs.Rational.{ℚ, zero_ℚ, at_most}
 use Rattle.rationals.specs.Order.{same}
 use Rattle.rationals.specs.Passes.{Operation}
-use Rattle.scen_defs.specs.Lists.{pick}
+use Rattle.rationals.specs.Choices.{pick}
 use Rattle.scen_defs.specs.Values.{At, at}
 use Rattle.scen_defs.specs.Program.{content}
 use Rattle.scen_defs.specs.Flat.{without_costs}

@@ -8,13 +8,13 @@ use Rattle.rationals.specs.Rational.{ℚ, le_antisym_ℚ, le_of_same_ℚ, not_le
 use Rattle.rationals.specs.Order.{compare, same}
 use Rattle.rationals.specs.Passes.{Operation, passes}
 use Rattle.rationals.proofs.OrderMeaning.{less_means, greater_means}
+use Rattle.rationals.specs.Choices.{pick}
 use Rattle.scen_defs.specs.declared.program.Program.{Program}
 use Rattle.scen_defs.specs.declared.report.Finding.{Finding}
 use Rattle.scen_defs.specs.declared.report.Finding.TheVariants.{Optimal, Infeasible, Unbounded, OpenPassed, OpenSolves}
 use Rattle.scen_defs.specs.declared.report.Place.{Place}
 use Rattle.scen_defs.specs.declared.report.Place.TheVariants.{Dual}
 use Rattle.scen_defs.specs.declared.report.Report.{Report}
-use Rattle.scen_defs.specs.Lists.{pick}
 use Rattle.scen_defs.specs.Values.{At, at}
 use Rattle.scen_defs.specs.Program.{View, IsTree}
 use Rattle.scen_defs.specs.Flat.{cost, value, without_costs}

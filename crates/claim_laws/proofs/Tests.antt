@@ -3,8 +3,8 @@ use Rattle.std.proofs.Common.{◌≡◌, Bool, true, false, List, [], Result, Ok
 use Rattle.std.specs.Prelude.{◌⊎◌}
 use Rattle.rationals.specs.Rational.{ℚ, zero_ℚ, ◌<ℚ◌, at_most, at_most_true, not_le_of_lt_ℚ}
 use Rattle.rationals.specs.Passes.{Operation}
+use Rattle.rationals.specs.Choices.{pick}
 use Rattle.scen_defs.specs.declared.program.Program.{Program}
-use Rattle.scen_defs.specs.Lists.{pick}
 use Rattle.scen_defs.specs.Values.{At, at}
 use Rattle.scen_defs.specs.Program.{View, IsTree, content}
 use Rattle.scen_defs.specs.Flat.{Feasible, cost, IsGood, value, without_costs, ShowsInfeasible, IsDirection}

@@ -7,8 +7,9 @@ use Rattle.std.proofs.lemmas.Bool.{ne_eqb}
 use Rattle.std.proofs.lemmas.Bool.Decides.{nat_tests}
 use Rattle.rationals.specs.Rational.{ℚ, zero_ℚ, ◌+ℚ◌, add_zero_ℚ, zero_add_ℚ}
 use Rattle.rationals.specs.Sparse.{Entry, Ascending, Ascending-weaker, coefficient, value_if}
-use Rattle.rationals.specs.Forms.{find, pick, put_unless, is_zero, IsForm, AllNonzero, EndsBelow}
+use Rattle.rationals.specs.Forms.{find, put_unless, is_zero, IsForm, AllNonzero, EndsBelow}
 use Rattle.rationals.proofs.Lowest.{zero_from_num, num_zero}
+use Rattle.rationals.specs.Choices.{pick}
 use Rattle.core_defs.specs.Terms.{with_term, nonzero_terms}
 use Rattle.core_defs.proofs.NameLemmas.{At, Missing, Distinct, Changes, name_is, same_either_way}
 
@@ -42,15 +43,15 @@ find_below : (start row : ℕ) (terms : List Entry) → Ascending start terms �
 find_below start row [] rises low = refl
 find_below start row (term ∷ terms) rises low =
     let apart : eqb term.column row ≡ false = ne_eqb term.column row (λ same. absurd (omega (arith, rises.0))) in
-    ap (λ here. pick here term.value (find terms row)) apart ∙ find_below (suc term.column) row terms rises.1 (omega (arith, rises.0))
+    ap (λ here. pick here (Some term.value) (find terms row)) apart ∙ find_below (suc term.column) row terms rises.1 (omega (arith, rises.0))
 
 find_first : (start row : ℕ) (value : Option ℚ) (terms : List Entry) → row ≡ start → Ascending (suc start) terms → find (put_some start value terms) row ≡ value
 find_first start row None terms same rises = find_below (suc start) row terms rises (omega arith)
-find_first start row (Some value) terms same rises = let here : eqb start row ≡ true = grind (arith, nat_tests) in ap (λ known. pick known value (find terms row)) here
+find_first start row (Some value) terms same rises = let here : eqb start row ≡ true = grind (arith, nat_tests) in ap (λ known. pick known (Some value) (find terms row)) here
 
 find_later : (start row : ℕ) (value : Option ℚ) (terms : List Entry) → start < row → find (put_some start value terms) row ≡ find terms row
 find_later start row None terms low = refl
-find_later start row (Some value) terms low = let apart : eqb start row ≡ false = ne_eqb start row (λ same. absurd (omega arith)) in ap (λ known. pick known value (find terms row)) apart
+find_later start row (Some value) terms low = let apart : eqb start row ≡ false = ne_eqb start row (λ same. absurd (omega arith)) in ap (λ known. pick known (Some value) (find terms row)) apart
 
 -- what is stated of a name is found at its place
 pub find_at : (start row : ℕ) (names : List (List ℕ)) (place : ℕ) (name : List ℕ) (stated : List ℕ → Option ℚ) → At names place name → row ≡ start + place → find (terms_at start names stated) row ≡ stated name
@@ -142,7 +143,7 @@ zero_is : (value : ℚ) → is_zero value ≡ true → value ≡ zero_ℚ
 zero_is value is = zero_from_num value ((signed_Decides value.num (pos 0)).0 is)
 
 coefficient_if : (here zero_ : Bool) (term : Entry) (rest : List Entry) (later : Option ℚ) (row : ℕ) → eqb term.column row ≡ here → is_zero term.value ≡ zero_ → (here ≡ true → coefficient rest row ≡ zero_ℚ) → coefficient rest row ≡ unwrap_or later zero_ℚ →
-    coefficient (put_unless zero_ term.column term.value rest) row ≡ unwrap_or (pick here term.value later) zero_ℚ
+    coefficient (put_unless zero_ term.column term.value rest) row ≡ unwrap_or (pick here (Some term.value) later) zero_ℚ
 coefficient_if true true term rest later row at is none e = none refl ∙ sym (zero_is term.value is)
 coefficient_if false true term rest later row at is none e = e
 coefficient_if true false term rest later row at is none e = ap (λ b. value_if b term.value +ℚ coefficient rest row) at ∙ ap (λ v. term.value +ℚ v) (none refl) ∙ add_zero_ℚ term.value

@@ -3,7 +3,7 @@ use Rattle.std.proofs.Common.{◌≡◌, ℕ, suc, ◌+◌, ◌-◌, ◌<◌, �
 use Rattle.std.proofs.Common.{ltb, refl, sym, ap, ap₂, ◌∙◌, arith, append_assoc, add-one, Option}
 use Rattle.std.proofs.lemmas.Bool.{lt-ltb, le-ltb, ltb-true}
 use Rattle.std.proofs.lemmas.List.{append-nil, length_push, length-set, set_at, length-append, drop_all}
-use Rattle.scen_defs.specs.Lists.{pick}
+use Rattle.rationals.specs.Choices.{pick}
 use Rattle.scen_defs.specs.Program.{Node, is_live, place_content, nodes_content}
 use Rattle.scen_defs.specs.declared.program.Node.{Node as NodeOf}
 use Rattle.cut_pool.specs.Held.{Held}

@@ -2,7 +2,8 @@
 use Rattle.std.proofs.Common.{◌≡◌, ℕ, zero, suc, ◌<◌, ◌≤◌, Bool, true, false, List, [], ◌∷◌, length, get_or, set, take, drop, ◌++◌, Some, None}
 use Rattle.std.proofs.Common.{slice_get, refl, subst, sym, ap, ap₂, ◌∙◌, arith}
 use Rattle.std.proofs.lemmas.List.{length-map, length-set, set-get_or, get_or_default, append-nil, drop_all, take_all, map-set}
-use Rattle.scen_defs.specs.Lists.{pick, passes_at}
+use Rattle.rationals.specs.Choices.{pick}
+use Rattle.scen_defs.specs.Lists.{passes_at}
 use Rattle.cut_defs.specs.declared.versions.Due.{Due}
 use Rattle.cut_defs.specs.Stored.{Stored}
 use Rattle.cut_pool.specs.declared.offer.Offer.{Offer}

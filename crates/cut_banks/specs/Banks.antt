@@ -1,8 +1,9 @@
 -- The pools of both banks: one bank for the Feasible and Cost runs, one for the Recession run.
 use Rattle.std.specs.Prelude.{ℕ, Bool, List, Option}
+use Rattle.rationals.specs.Choices.{pick}
 use Rattle.scen_defs.specs.declared.report.Kind.{Kind}
 use Rattle.scen_defs.specs.declared.report.Kind.TheVariants.{Feasible, Recession, Cost}
-use Rattle.scen_defs.specs.Lists.{pick, passes_at}
+use Rattle.scen_defs.specs.Lists.{passes_at}
 use Rattle.scen_defs.specs.Program.{Node}
 use Rattle.cut_defs.specs.declared.kinds.Bank.{Bank}
 use Rattle.cut_defs.specs.declared.kinds.Bank.TheVariants.{Plain, Cone}

@@ -1,6 +1,7 @@
 -- What the test before a cut is put in says.
 use Rattle.std.proofs.Common.{◌≡◌, false, ◌||◌, List, [], ◌∷◌, Some, None, refl, sym, ap, ap₂, ◌∙◌}
-use Rattle.scen_defs.specs.Lists.{Each, pick}
+use Rattle.rationals.specs.Choices.{pick}
+use Rattle.scen_defs.specs.Lists.{Each}
 use Rattle.cut_defs.specs.declared.versions.Stamp.{Stamp}
 use Rattle.cut_defs.specs.declared.versions.Touch.{Touch}
 use Rattle.cut_defs.specs.Stored.{Stored}

@@ -9,7 +9,7 @@ use Rattle.rationals.specs.declared.Op.TheVariants.{Add, Sub}
 use Rattle.rationals.specs.Passes.{Operation, sub_walk, add_product_walk, then_walk}
 use Rattle.rationals.specs.Sparse.{coefficient, value_if}
 use Rattle.rationals.proofs.WalkLaws.{walk_value, step_value}
-use Rattle.scen_defs.specs.Lists.{pick}
+use Rattle.rationals.specs.Choices.{pick}
 use Rattle.scen_model.proofs.WalkEnds.{ended}
 use Rattle.cut_defs.specs.declared.kinds.CutKind.{CutKind}
 use Rattle.cut_defs.specs.declared.kinds.CutKind.TheVariants.{Bound, Ray}

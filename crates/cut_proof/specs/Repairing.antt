@@ -4,7 +4,7 @@ use Rattle.rationals.specs.Rational.{ℚ}
 use Rattle.rationals.specs.Order.{same}
 use Rattle.rationals.specs.Sparse.{coefficient}
 use Rattle.rationals.specs.Passes.{Operation, sub_walk, add_product_walk, then_walk}
-use Rattle.scen_defs.specs.Lists.{pick}
+use Rattle.rationals.specs.Choices.{pick}
 use Rattle.cut_defs.specs.declared.kinds.Part.TheVariants.{Rows}
 use Rattle.cut_defs.specs.declared.versions.Shift.{Shift}
 use Rattle.cut_defs.specs.declared.versions.Touch.{Touch}

@@ -9,8 +9,9 @@ use Rattle.rationals.specs.Sums.{sum_ℚ}
 use Rattle.rationals.specs.Sparse.{Entry, coefficient, value_if}
 use Rattle.rationals.specs.Forms.{put, put_unless, is_zero}
 use Rattle.rationals.proofs.Lowest.{zero_from_num}
+use Rattle.rationals.specs.Choices.{pick}
 use Rattle.scen_defs.specs.declared.program.NodeRow.{NodeRow}
-use Rattle.scen_defs.specs.Lists.{Each, Once, Absent, is_in, pick}
+use Rattle.scen_defs.specs.Lists.{Each, Once, Absent, is_in}
 use Rattle.scen_defs.proofs.SumLaws.{sum-pick, sum-none}
 use Rattle.scen_model.proofs.WalkEnds.{ended}
 use Rattle.cut_defs.specs.declared.datum.ColumnBounds.{ColumnBounds}

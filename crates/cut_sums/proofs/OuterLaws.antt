@@ -6,11 +6,12 @@ use Rattle.rationals.specs.Sparse.{Entry, Ascending, Ascending-weaker, coefficie
 use Rattle.rationals.specs.Forms.{AllNonzero, IsForm, put, put_unless, is_zero}
 use Rattle.rationals.specs.Passes.{then_walk}
 use Rattle.rationals.proofs.Lowest.{zero_from_num, num_zero}
+use Rattle.rationals.specs.Choices.{pick}
 use Rattle.std.specs.Cmp.{signed_Decides}
 use Rattle.std.proofs.Common.{pos}
 use Rattle.frac128.proofs.FormLemmas.{value_here, value_past, value_none, put_zero}
 use Rattle.scen_defs.specs.declared.program.NodeRow.{NodeRow}
-use Rattle.scen_defs.specs.Lists.{Each, is_in, pick}
+use Rattle.scen_defs.specs.Lists.{Each, is_in}
 use Rattle.cut_defs.specs.declared.kinds.CutKind.{CutKind}
 use Rattle.cut_defs.specs.declared.kinds.CutKind.TheVariants.{Bound, Ray}
 use Rattle.cut_defs.specs.declared.datum.ColumnBounds.{ColumnBounds}

@@ -9,10 +9,11 @@ use Rattle.rationals.specs.Forms.{EndsBelow}
 use Rattle.rationals.specs.Passes.{Operation, answer, too_wide, add_product_walk, less_product_walk, then_walk}
 use Rattle.rationals.proofs.WalkLaws.{step_value}
 use Rattle.frac128.proofs.FormLemmas.{value_here, value_past, value_none, rises_from, drop_read}
-use Rattle.scen_defs.specs.Lists.{Each, pick}
+use Rattle.scen_defs.specs.Lists.{Each}
 use Rattle.scen_model.specs.Walks.{less_from}
 use Rattle.scen_model.specs.Gathered.{Fits}
 use Rattle.rationals.proofs.OrderMeaning.{mul_walk_zero}
+use Rattle.rationals.specs.Choices.{pick}
 use Rattle.scen_model.proofs.Reduces.{nothing, product_fits}
 use Rattle.cut_defs.specs.declared.kinds.CutKind.{CutKind}
 use Rattle.cut_defs.specs.declared.kinds.CutKind.TheVariants.{Bound, Ray}

@@ -4,7 +4,8 @@ use Rattle.rationals.specs.Rational.{ℚ, zero_ℚ}
 use Rattle.rationals.specs.Sparse.{Entry, coefficient, Ascending}
 use Rattle.rationals.specs.Forms.{put}
 use Rattle.rationals.specs.Passes.{Operation, add_product_walk, then_walk}
-use Rattle.scen_defs.specs.Lists.{Each, pick}
+use Rattle.rationals.specs.Choices.{pick}
+use Rattle.scen_defs.specs.Lists.{Each}
 use Rattle.scen_defs.specs.declared.program.NodeRow.{NodeRow}
 use Rattle.scen_model.specs.Gathered.{Fits}
 use Rattle.cut_defs.specs.declared.datum.ColumnBounds.{ColumnBounds}

@@ -5,8 +5,8 @@ use Rattle.rationals.specs.Rational.{ℚ, zero_ℚ}
 use Rattle.rationals.specs.Sparse.{Entry, coefficient}
 use Rattle.rationals.specs.Forms.{put}
 use Rattle.rationals.specs.Passes.{Operation, add_product_walk, then_walk}
+use Rattle.rationals.specs.Choices.{pick}
 use Rattle.scen_defs.specs.declared.program.NodeRow.{NodeRow}
-use Rattle.scen_defs.specs.Lists.{pick}
 use Rattle.scen_defs.specs.Ends.{used_end}
 use Rattle.scen_model.specs.Walks.{product_from, less_from}
 use Rattle.cut_defs.specs.declared.datum.ColumnBounds.{ColumnBounds}

@@ -4,7 +4,7 @@ ghost use Rattle.rationals.specs.Rational.{◌+ℚ◌, ◌*ℚ◌};
 ghost use Rattle.rationals.specs.Sparse.{Ascending, coefficient};
 ghost use Rattle.rationals.specs.Forms.{EndsBelow};
 ghost use Rattle.rationals.specs.Passes.{add_product_walk};
-ghost use Rattle.scen_defs.specs.Lists.{pick};
+ghost use Rattle.rationals.specs.Choices.{pick};
 ghost use Rattle.scen_model.specs.Gathered.{Fits};
 ghost use Rattle.cut_sums.specs.Tallies.{AreZeros, MovesColumns, all_weighted_from, weighted_from};
 

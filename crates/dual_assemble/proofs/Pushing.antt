@@ -3,7 +3,8 @@ use Rattle.std.proofs.Common.{◌≡◌, ℕ, zero, suc, ◌+◌, ◌<◌, Bool,
 use Rattle.rationals.specs.Rational.{ℚ, zero_ℚ}
 use Rattle.rationals.specs.Sparse.{Entry, Ascending, Ascending-weaker}
 use Rattle.rationals.specs.Forms.{AllNonzero, IsForm}
-use Rattle.scen_defs.specs.Lists.{Each, pick}
+use Rattle.rationals.specs.Choices.{pick}
+use Rattle.scen_defs.specs.Lists.{Each}
 use Rattle.scen_defs.specs.Values.{At, IsBefore, EndsBefore}
 use Rattle.scen_defs.proofs.NodeReads.{drop_read}
 use Rattle.scen_defs.proofs.ValueLaws.{each-push}

@@ -3,7 +3,7 @@ use Rattle.std.proofs.Common.{◌≡◌, Bool, true, false, List, ◌∷◌, Opt
 use Rattle.rationals.specs.Rational.{ℚ}
 use Rattle.rationals.specs.declared.Op.{Op}
 use Rattle.rationals.specs.Passes.{Operation, answer, passes, then_walk, value_of, walk}
-use Rattle.scen_defs.specs.Lists.{pick}
+use Rattle.rationals.specs.Choices.{pick}
 use Rattle.edit_defs.specs.Operations.{first_passing, operation}
 
 -- to that value, where no operation passes; else to the first that does

@@ -4,9 +4,10 @@ use Rattle.std.proofs.lemmas.Bool.{eq-eqb, ne_eqb, leb-true, leb-false, ltb-true
 use Rattle.std.proofs.lemmas.List.{length-map}
 use Rattle.std.proofs.lemmas.List.Sums.{sum_by-cons}
 use Rattle.rationals.specs.Rational.{ℚ}
+use Rattle.rationals.specs.Choices.{pick}
 use Rattle.scen_defs.specs.declared.program.Node.{Node as NodeOf}
 use Rattle.scen_defs.specs.declared.program.NodeRow.{NodeRow}
-use Rattle.scen_defs.specs.Lists.{Once, passes_at, pick}
+use Rattle.scen_defs.specs.Lists.{Once, passes_at}
 use Rattle.scen_defs.specs.Program.{Node, Program, is_live, node_at, place_content, nodes_content, scenarios_content}
 use Rattle.scen_defs.specs.declared.program.Scenario.{Scenario as ScenarioOf}
 use Rattle.scen_defs.specs.Valid.{IsProgram, row_at}

@@ -4,8 +4,8 @@ use Rattle.std.proofs.lemmas.Bool.{ne_eqb, eqb-false, ltb-true, ltb-false, le-lt
 use Rattle.rationals.specs.Rational.{ℚ, zero_ℚ}
 use Rattle.rationals.specs.Sparse.{Entry, Ascending}
 use Rattle.rationals.specs.Forms.{put, put_unless, is_zero, AllNonzero, IsForm}
+use Rattle.rationals.specs.Choices.{pick}
 use Rattle.frac128.proofs.FormLemmas.{put_zero}
-use Rattle.scen_defs.specs.Lists.{pick}
 use Rattle.edit_defs.specs.After.{set_entry}
 use Rattle.edit_apply.specs.InPlace.{Starts, behind}
 

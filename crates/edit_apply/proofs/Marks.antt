@@ -3,7 +3,8 @@ use Rattle.std.proofs.Common.{◌≡◌, ℕ, zero, suc, ◌+◌, ◌<◌, ◌�
 use Rattle.std.proofs.lemmas.Bool.{eq-eqb, ne_eqb}
 use Rattle.scen_defs.specs.declared.program.Node.{Node as NodeOf}
 use Rattle.rationals.specs.Rational.{ℚ}
-use Rattle.scen_defs.specs.Lists.{is_in, pick}
+use Rattle.rationals.specs.Choices.{pick}
+use Rattle.scen_defs.specs.Lists.{is_in}
 use Rattle.scen_defs.specs.declared.program.Scenario.{Scenario as ScenarioOf}
 use Rattle.scen_defs.specs.Program.{Node, Scenario, place_content, nodes_content, scenario_content, scenarios_content}
 use Rattle.scen_defs.specs.Valid.{is_reached}

@@ -1,7 +1,7 @@
 -- The numbers of a new path, and the copies of its nodes, stage by stage.
 use Rattle.std.proofs.Common.{◌≡◌, ℕ, zero, suc, ◌+◌, ◌-◌, ◌<◌, ◌≤◌, Bool, true, false, ltb, List, [], ◌∷◌, ◌++◌, length, drop, append-nil, Option, Some, None, refl, sym, ap, ap₂, ◌∙◌, arith}
 use Rattle.std.proofs.lemmas.Bool.{ltb-true, ltb-false}
-use Rattle.scen_defs.specs.Lists.{pick}
+use Rattle.rationals.specs.Choices.{pick}
 use Rattle.scen_defs.specs.Program.{Node}
 use Rattle.edit_defs.specs.After.{copies, copy, new_path}
 use Rattle.edit_apply.specs.Kept.{new_node}

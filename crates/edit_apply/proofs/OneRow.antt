@@ -1,10 +1,11 @@
 -- One row among a node's rows.
 use Rattle.std.proofs.Common.{◌≡◌, ℕ, zero, suc, ◌+◌, ◌<◌, ◌≤◌, Bool, true, eqb, List, [], ◌∷◌, length, get_or, drop, map, slice_set, Option, Some, inl, inr, refl, sym, ap, ap₂, subst, ◌∙◌, arith}
 use Rattle.std.proofs.lemmas.Bool.{eq-eqb, ne_eqb}
+use Rattle.rationals.specs.Choices.{pick}
 use Rattle.scen_defs.specs.declared.program.Node.{Node as NodeOf}
 use Rattle.scen_defs.specs.declared.program.Row.{Row}
 use Rattle.scen_defs.specs.declared.program.NodeRow.{NodeRow}
-use Rattle.scen_defs.specs.Lists.{Once, Absent, passes_at, pick}
+use Rattle.scen_defs.specs.Lists.{Once, Absent, passes_at}
 use Rattle.scen_defs.specs.Program.{Node, Program, node_at, nodes_content}
 use Rattle.scen_defs.specs.Valid.{row_at, IsProgram}
 use Rattle.scen_defs.proofs.Valid.{once-passes}

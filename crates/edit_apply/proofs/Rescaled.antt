@@ -3,7 +3,7 @@ use Rattle.std.proofs.Common.{◌≡◌, ℕ, Bool, true, false, not, ◌||◌, 
 use Rattle.rationals.specs.Rational.{ℚ, one_ℚ, ◌-ℚ◌, ◌*ℚ◌, ◌/ℚ◌}
 use Rattle.rationals.specs.declared.Op.TheVariants.{Sub, Mul, Div}
 use Rattle.rationals.specs.Passes.{Operation, passes, answer, then_walk, then_value, sub_walk, div_walk}
-use Rattle.scen_defs.specs.Lists.{pick}
+use Rattle.rationals.specs.Choices.{pick}
 use Rattle.scen_defs.specs.Program.{Scenario, Program}
 use Rattle.scen_tree.specs.declared.position.Position.{Position}
 use Rattle.scen_tree.specs.Chances.{Chances, chances_walk}

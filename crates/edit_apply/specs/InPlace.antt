@@ -2,7 +2,7 @@
 use Rattle.std.specs.Prelude.{ℕ, ◌≤◌, eqb, List, [], ◌∷◌, map}
 use Rattle.rationals.specs.Rational.{ℚ}
 use Rattle.rationals.specs.Sparse.{Entry}
-use Rattle.scen_defs.specs.Lists.{pick}
+use Rattle.rationals.specs.Choices.{pick}
 use Rattle.scen_defs.specs.Program.{Node}
 use Rattle.smps_build.specs.Single.{Interval}
 use Rattle.edit_defs.specs.After.{change_row, with_ends, with_entry, set_entry}

@@ -1,6 +1,7 @@
 -- Which nodes are kept, and the numbers of new ones.
 use Rattle.std.specs.Prelude.{ℕ, suc, ◌+◌, ◌-◌, ltb, Bool, false, ◌||◌, List, [], ◌∷◌, get_or, Option, None}
-use Rattle.scen_defs.specs.Lists.{is_in, pick}
+use Rattle.rationals.specs.Choices.{pick}
+use Rattle.scen_defs.specs.Lists.{is_in}
 use Rattle.scen_defs.specs.Program.{Node, Scenario}
 use Rattle.scen_defs.specs.Valid.{is_reached}
 

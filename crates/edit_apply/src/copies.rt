@@ -1,6 +1,6 @@
 // Copies of a path's nodes.
 ghost use Rattle.std.specs.Prelude.{◌≡◌, ◌+◌, ◌<◌, ◌^◌, ◌++◌, ◌∷◌, [], IfOk, OnOk, Some, None, length};
-ghost use Rattle.scen_defs.specs.Lists.{pick};
+ghost use Rattle.rationals.specs.Choices.{pick};
 ghost use Rattle.edit_apply.specs.Kept.{new_node};
 ghost use Rattle.scen_defs.specs.Program.{node_at, node_content, no_node, nodes_content};
 ghost use Rattle.edit_defs.specs.After.{copies, copy, new_path};

@@ -1,6 +1,6 @@
 // Which nodes are kept where a scenario goes.
 ghost use Rattle.std.specs.Prelude.{◌≡◌, ◌∷◌, [], IfOk, None, false, get_or, length, map, replicate};
-ghost use Rattle.scen_defs.specs.Lists.{pick};
+ghost use Rattle.rationals.specs.Choices.{pick};
 ghost use Rattle.scen_defs.specs.Program.{place_content, nodes_content, scenarios_content};
 ghost use Rattle.scen_tree.specs.Trees.{position_of};
 ghost use Rattle.edit_defs.specs.Limits.{counts, place_counts};

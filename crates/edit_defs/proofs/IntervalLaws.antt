@@ -7,8 +7,8 @@ use Rattle.rationals.specs.Rational.{ℚ, zero_ℚ, neg_ℚ, ◌+ℚ◌, ◌≤�
 use Rattle.rationals.specs.Ring.Given.{nothing, fact}
 use Rattle.smps_words.specs.declared.row_kind.RowKind.{RowKind}
 use Rattle.smps_words.specs.declared.row_kind.RowKind.TheVariants.{Less, Greater, Equal}
-use Rattle.scen_defs.specs.Lists.{pick}
 use Rattle.rationals.specs.Intervals.{InOrder}
+use Rattle.rationals.specs.Choices.{pick}
 use Rattle.scen_defs.specs.Valid.{has_low, has_high}
 use Rattle.smps_build.specs.Single.{size, Interval, interval_walk}
 use Rattle.edit_defs.specs.Intervals.{interval, right_side, right_walk, width, Apart}

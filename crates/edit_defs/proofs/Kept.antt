@@ -4,9 +4,10 @@ use Rattle.std.proofs.lemmas.Bool.{eq-eqb, le-leb, or_right}
 use Rattle.rationals.specs.Rational.{ℚ}
 use Rattle.rationals.specs.Sparse.{Entry as Term}
 use Rattle.rationals.specs.Forms.{is_zero, put_unless, put}
+use Rattle.rationals.specs.Choices.{pick}
 use Rattle.smps_words.specs.declared.entry.Entry.{Entry}
 use Rattle.smps_words.specs.declared.entry.Entry.TheVariants.{Cost, Matrix, Rhs}
-use Rattle.scen_defs.specs.Lists.{Each, is_in, passes_at, pick}
+use Rattle.scen_defs.specs.Lists.{Each, is_in, passes_at}
 use Rattle.scen_defs.specs.declared.program.Column.{Column}
 use Rattle.scen_defs.specs.declared.program.Row.{Row}
 use Rattle.scen_defs.specs.declared.program.NodeRow.{NodeRow}

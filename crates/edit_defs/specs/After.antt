@@ -4,10 +4,11 @@ use Rattle.std.specs.Prelude.{Option, Some, None}
 use Rattle.rationals.specs.Rational.{ℚ, zero_ℚ, one_ℚ, ◌-ℚ◌, ◌*ℚ◌, ◌/ℚ◌}
 use Rattle.rationals.specs.Sparse.{Entry as Term}
 use Rattle.rationals.specs.Forms.{put}
+use Rattle.rationals.specs.Choices.{pick}
 use Rattle.smps_words.specs.Names.{same_name}
 use Rattle.smps_words.specs.declared.entry.Entry.{Entry}
 use Rattle.smps_words.specs.declared.entry.Entry.TheVariants.{Cost, Matrix, Rhs}
-use Rattle.scen_defs.specs.Lists.{keep, pick}
+use Rattle.scen_defs.specs.Lists.{keep}
 use Rattle.scen_defs.specs.declared.program.NodeRow.{NodeRow}
 use Rattle.scen_defs.specs.Program.{Node, Scenario, Program, node_at, column_at}
 use Rattle.scen_defs.specs.Valid.{row_at, is_reached}

@@ -2,11 +2,11 @@
 use Rattle.std.specs.Prelude.{◌<◌, Bool, false, not, ◌&&◌, ltb, leb, length, Option, Some, None}
 use Rattle.rationals.specs.Rational.{ℚ, zero_ℚ, one_ℚ, at_most}
 use Rattle.rationals.specs.Passes.{Operation}
+use Rattle.rationals.specs.Choices.{pick}
 use Rattle.smps_words.specs.declared.entry.Entry.{Entry}
 use Rattle.smps_words.specs.declared.entry.Entry.TheVariants.{Cost, Matrix, Rhs}
 use Rattle.refusals.specs.declared.cause.Cause.{Cause}
 use Rattle.refusals.specs.declared.cause.Cause.TheVariants as cause
-use Rattle.scen_defs.specs.Lists.{pick}
 use Rattle.scen_defs.specs.Program.{Program, column_at}
 use Rattle.smps_words.specs.Field.{IsField}
 use Rattle.scen_defs.specs.Valid.{row_at}

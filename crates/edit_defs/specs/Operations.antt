@@ -4,9 +4,9 @@ use Rattle.rationals.specs.Rational.{ℚ, one_ℚ, ◌-ℚ◌, ◌/ℚ◌}
 use Rattle.rationals.specs.declared.Op.{Op}
 use Rattle.rationals.specs.declared.Op.TheVariants.{Sub, Mul, Div}
 use Rattle.rationals.specs.Passes.{Operation, passes}
+use Rattle.rationals.specs.Choices.{pick}
 use Rattle.smps_words.specs.declared.entry.Entry.{Entry}
 use Rattle.smps_words.specs.declared.entry.Entry.TheVariants.{Cost, Matrix, Rhs}
-use Rattle.scen_defs.specs.Lists.{pick}
 use Rattle.scen_defs.specs.Program.{Scenario, Program}
 use Rattle.scen_defs.specs.Valid.{row_at}
 use Rattle.scen_tree.specs.Trees.{tree_walk}

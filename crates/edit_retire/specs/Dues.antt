@@ -1,7 +1,7 @@
 -- The sweeps that follow the touches of an edit.
 use Rattle.std.specs.Prelude.{ℕ, zero, suc, Bool, false, not, ◌&&◌, ◌||◌, eqb, List, [], ◌∷◌, ◌++◌, Option, Some, None}
 use Rattle.rationals.specs.Rational.{zero_ℚ}
-use Rattle.scen_defs.specs.Lists.{pick}
+use Rattle.rationals.specs.Choices.{pick}
 use Rattle.scen_defs.specs.Program.{View}
 use Rattle.edit_defs.specs.Touches.{is_rows, is_gone}
 use Rattle.cut_defs.specs.declared.kinds.Bank.{Bank}

@@ -3,9 +3,9 @@ use Rattle.std.specs.Prelude.{ℕ, List, Option, Some, None}
 use Rattle.rationals.specs.Rational.{ℚ}
 use Rattle.rationals.specs.declared.Op.TheVariants.{Sub}
 use Rattle.rationals.specs.Passes.{passes}
+use Rattle.rationals.specs.Choices.{pick}
 use Rattle.smps_words.specs.declared.entry.Entry.{Entry}
 use Rattle.smps_words.specs.declared.entry.Entry.TheVariants.{Cost, Matrix, Rhs}
-use Rattle.scen_defs.specs.Lists.{pick}
 use Rattle.scen_defs.specs.Program.{Program}
 use Rattle.edit_defs.specs.declared.edit.Edit.{Edit}
 use Rattle.edit_defs.specs.declared.edit.Edit.TheVariants.{Set, Prob, Drop, Add}

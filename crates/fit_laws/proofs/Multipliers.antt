@@ -6,11 +6,12 @@ use Rattle.std.proofs.lemmas.Bool.{eq-eqb}
 use Rattle.rationals.specs.Rational.{zero_ℚ, one_ℚ, ◌+ℚ◌, ◌*ℚ◌, zero_add_ℚ, add_zero_ℚ, mul_zero_ℚ}
 use Rattle.rationals.specs.Sparse.{Entry, coefficient, value_if, Ascending}
 use Rattle.rationals.specs.Forms.{AllNonzero, IsForm}
+use Rattle.rationals.specs.Choices.{pick}
 use Rattle.scen_defs.specs.declared.program.NodeRow.{NodeRow}
 use Rattle.scen_defs.specs.declared.program.Row.{Row}
 use Rattle.scen_defs.specs.declared.report.Kind.{Kind}
 use Rattle.scen_defs.specs.declared.report.Kind.TheVariants.{Feasible, Recession, Cost}
-use Rattle.scen_defs.specs.Lists.{Each, is_in, passes_at, places, pick}
+use Rattle.scen_defs.specs.Lists.{Each, is_in, passes_at, places}
 use Rattle.scen_defs.specs.Values.{At, at}
 use Rattle.scen_defs.specs.Program.{Node, Program, View, is_live, node_at}
 use Rattle.scen_defs.specs.Flat.{zero_row}

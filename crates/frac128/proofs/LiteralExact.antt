@@ -7,15 +7,16 @@ use Rattle.std.proofs.lemmas.Nat.{pow-add}
 use native.Mathlib.Nat.{mul_assoc, mul_comm, zero-mul}
 use Rattle.rationals.specs.Rational.{ℚ, zero_ℚ, ◌÷◌, frac_same}
 use Rattle.rationals.specs.Passes.{wide}
+use Rattle.rationals.specs.Choices.{pick}
 use Rattle.frac128.specs.declared.text.NumFault.TheVariants.{Wide}
 use Rattle.frac128.specs.Literals.{LiteralLaws}
-use Rattle.frac128.specs.Numbers.{choose, decimal_value, power_value}
+use Rattle.frac128.specs.Numbers.{decimal_value, power_value}
 use Rattle.ratio128.specs.Ratio.{signed}
 use Rattle.frac128.proofs.ParseLemmas.{ten_pos}
 use Rattle.frac128.proofs.LiteralLemmas.{decimal_found}
 use Rattle.frac128.proofs.ReadBack.{read_back, trims, zero_is}
 
-chosen : {X E : Type 0} (b : Bool) (f : E) (x v : X) → choose b (Err f) (Ok x) ≡ Ok v → v ≡ x
+chosen : {X E : Type 0} (b : Bool) (f : E) (x v : X) → pick b (Err f) (Ok x) ≡ Ok v → v ≡ x
 chosen true f x v e = absurd (cc)
 chosen false f x v e = let h : x ≡ v = cc in sym h
 

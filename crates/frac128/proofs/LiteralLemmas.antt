@@ -7,8 +7,9 @@ use Rattle.std.proofs.Math.Nat.{mul-mod_left, mul-div_cancel}
 use native.Mathlib.Nat.{pow-zero, zero-mul}
 use Rattle.rationals.specs.Rational.{zero_ℚ, ◌÷◌}
 use Rattle.rationals.specs.Passes.{wide}
+use Rattle.rationals.specs.Choices.{pick}
 use Rattle.frac128.specs.declared.text.NumFault.TheVariants.{Wide}
-use Rattle.frac128.specs.Numbers.{choose, number, number_from, is_nothing, exponent, with_exponent, decimal_literal, literal_value, decimal_value, power_value, trim}
+use Rattle.frac128.specs.Numbers.{number, number_from, is_nothing, exponent, with_exponent, decimal_literal, literal_value, decimal_value, power_value, trim}
 use Rattle.frac128.specs.Numbers.Literal.{no_number}
 use Rattle.ratio128.specs.Ratio.{signed}
 use Rattle.frac128.specs.Significand.{IsTrimmed, HasWideSignificand, AllDigits}
@@ -49,14 +50,14 @@ trim_all zero m (suc z) e h n = absurd (omega arith)
 trim_all (suc k) m zero e h n =
     let v : m * 10 ^ 0 ≡ m = times_one m in
     let t : (m * 10 ^ 0) % 10 == 0 ≡ false = ne_eqb _ _ (λ q. n (ap (λ a. a % 10) (sym v) ∙ q)) in
-    ap (λ b. choose b (trim k (m * 10 ^ 0 / 10) (e +ℤ pos 1)) (m * 10 ^ 0, e)) t ∙ ap₂ (λ a b. (a, b)) v (nothing e)
+    ap (λ b. pick b (trim k (m * 10 ^ 0 / 10) (e +ℤ pos 1)) (m * 10 ^ 0, e)) t ∙ ap₂ (λ a b. (a, b)) v (nothing e)
 trim_all (suc k) m (suc z) e h n =
     let v : m * 10 ^ suc z ≡ (m * 10 ^ z) * 10 = ap (λ j. m * 10 ^ j) (sym (add-one z)) ∙ one_zero m z in
     let t : (m * 10 ^ suc z) % 10 == 0 ≡ true = eq-eqb _ _ (ap (λ a. a % 10) v ∙ mul-mod_left (m * 10 ^ z) 10) in
     let ten : 0 < 10 = omega arith in
     let d : m * 10 ^ suc z / 10 ≡ m * 10 ^ z = ap (λ a. a / 10) v ∙ mul-div_cancel (m * 10 ^ z) ten in
     let s : (e +ℤ pos 1) +ℤ pos z ≡ e +ℤ pos (suc z) = omega (arith, ints) in
-    ap (λ b. choose b (trim k (m * 10 ^ suc z / 10) (e +ℤ pos 1)) (m * 10 ^ suc z, e)) t
+    ap (λ b. pick b (trim k (m * 10 ^ suc z / 10) (e +ℤ pos 1)) (m * 10 ^ suc z, e)) t
     ∙ ap (λ a. trim k a (e +ℤ pos 1)) d ∙ trim_all k m z (e +ℤ pos 1) (omega arith) n ∙ ap (λ a. (m, a)) s
 
 -- ---- the value of a decimal number
@@ -79,8 +80,8 @@ module _ (s : Bool) (e : ℤ) where
   decimal_zero n z t = ap (λ k. decimal_value s k e) (t.value ∙ zero-mul (10 ^ z))
 
   wide_power : (m : ℕ) (p : ℤ) → wide m ≡ true → power_value s m p ≡ Err Wide
-  wide_power m (pos k) w = ap (λ b. choose (b || (wide (10 ^ k) || wide (m * 10 ^ k))) (Err Wide) (Ok (signed s (m * 10 ^ k) ÷ 1))) w
-  wide_power m (negsuc k) w = ap (λ b. choose (b || wide (10 ^ suc k)) (Err Wide) (Ok (signed s m ÷ (10 ^ suc k)))) w
+  wide_power m (pos k) w = ap (λ b. pick (b || (wide (10 ^ k) || wide (m * 10 ^ k))) (Err Wide) (Ok (signed s (m * 10 ^ k) ÷ 1))) w
+  wide_power m (negsuc k) w = ap (λ b. pick (b || wide (10 ^ suc k)) (Err Wide) (Ok (signed s m ÷ (10 ^ suc k)))) w
 
   decimal_long : (n : ℕ) → HasWideSignificand n → decimal_value s n e ≡ Err Wide
   decimal_long n t =
@@ -95,7 +96,7 @@ some_digit n (d ∷ ds) h e = refl
 -- digits of which there are some, with an exponent
 pub with_digits_value : (s : Bool) (ds ps rest : List ℕ) (e : ℤ) → is_nothing (ds ++ ps) ≡ false → Some e ≡ exponent rest → literal_value s (decimal_literal ds ps rest) ≡ decimal_value s (number (ds ++ ps)) (e +ℤ neg_ℤ (pos (length ps)))
 with_digits_value s ds ps rest e h f =
-    ap (λ b. literal_value s (choose b no_number (with_exponent (number (ds ++ ps)) (length ps) (exponent rest)))) h
+    ap (λ b. literal_value s (pick b no_number (with_exponent (number (ds ++ ps)) (length ps) (exponent rest)))) h
     ∙ ap (λ x. literal_value s (with_exponent (number (ds ++ ps)) (length ps) x)) (sym f)
 
 pub long_value : (s : Bool) (ds ps rest : List ℕ) (e : ℤ) → Some e ≡ exponent rest → HasWideSignificand (number (ds ++ ps)) → Err Wide ≡ literal_value s (decimal_literal ds ps rest)

@@ -9,9 +9,10 @@ use Rattle.std.proofs.lemmas.Fmt.{decimal_by_steps_wide}
 use native.Mathlib.Nat.{pow-zero}
 use Rattle.rationals.specs.Rational.{ℚ, ◌÷◌, zero_ℚ, frac_self}
 use Rattle.rationals.specs.Passes.{wide}
+use Rattle.rationals.specs.Choices.{pick}
 use Rattle.ratio128.specs.Ratio.{signed}
 use Rattle.frac128.specs.Text.{text_of, text_by}
-use Rattle.frac128.specs.Numbers.{choose, slash, decimal_literal, with_exponent, is_digit, digits, after_digits, number, is_nothing, is_negative, after_sign, plus, minus, literal, literal_after, fraction_literal, literal_value, decimal_value, power_value, read_number}
+use Rattle.frac128.specs.Numbers.{slash, decimal_literal, with_exponent, is_digit, digits, after_digits, number, is_nothing, is_negative, after_sign, plus, minus, literal, literal_after, fraction_literal, literal_value, decimal_value, power_value, read_number}
 use Rattle.frac128.specs.Numbers.Literal.{no_number, fraction}
 use Rattle.frac128.specs.Significand.{IsTrimmed}
 use Rattle.frac128.proofs.SignificandLemmas.{one_zero, ten_times}
@@ -60,18 +61,18 @@ decimal_digits = decimal_by_steps_wide AreDigitsOf one more
 
 digits-append : (ds bs : List ℕ) → Digits ds → digits (ds ++ bs) ≡ ds ++ digits bs
 digits-append [] bs a = refl
-digits-append (d ∷ ds) bs a = ap (λ t. choose t (d ∷ digits (ds ++ bs)) []) a.0 ∙ ap (λ l. d ∷ l) (digits-append ds bs a.1)
+digits-append (d ∷ ds) bs a = ap (λ t. pick t (d ∷ digits (ds ++ bs)) []) a.0 ∙ ap (λ l. d ∷ l) (digits-append ds bs a.1)
 
 after_digits-append : (ds bs : List ℕ) → Digits ds → after_digits (ds ++ bs) ≡ after_digits bs
 after_digits-append [] bs a = refl
-after_digits-append (d ∷ ds) bs a = ap (λ t. choose t (after_digits (ds ++ bs)) (d ∷ ds ++ bs)) a.0 ∙ after_digits-append ds bs a.1
+after_digits-append (d ∷ ds) bs a = ap (λ t. pick t (after_digits (ds ++ bs)) (d ∷ ds ++ bs)) a.0 ∙ after_digits-append ds bs a.1
 
 no_sign : (d c : ℕ) → is_digit d ≡ true → c < 48 → d == c ≡ false
 no_sign d c h k = let low : 48 ≤ d = leb-true 48 d (and_parts _ _ h).0 in ne_eqb d c (λ e. absurd (omega (arith, e)))
 
 after_no_sign : (ds bs : List ℕ) → Digits ds → is_nothing ds ≡ false → after_sign (ds ++ bs) ≡ ds ++ bs
 after_no_sign [] bs a h = absurd (cc)
-after_no_sign (d ∷ ds) bs a h = ap (λ t. choose t (ds ++ bs) (d ∷ ds ++ bs)) (or_from (d == plus) (d == minus) (no_sign d plus a.0 (omega arith)) (no_sign d minus a.0 (omega arith)))
+after_no_sign (d ∷ ds) bs a h = ap (λ t. pick t (ds ++ bs) (d ∷ ds ++ bs)) (or_from (d == plus) (d == minus) (no_sign d plus a.0 (omega arith)) (no_sign d minus a.0 (omega arith)))
 
 not_negative : (ds bs : List ℕ) → Digits ds → is_nothing ds ≡ false → is_negative (ds ++ bs) ≡ false
 not_negative [] bs a h = absurd (cc)
@@ -116,7 +117,7 @@ whole_value s n p h =
     or_from _ _ (narrow t.m (omega (arith, v))) (or_from _ _ (narrow (10 ^ t.z) (omega (arith, v))) (narrow (t.m * 10 ^ t.z) (omega (arith, v)))) in
     let power : pos 0 +ℤ pos t.z ≡ pos t.z = omega (arith, ints) in
     decimal_found s (pos 0) n t.m t.z t.above t.trimmed ∙ ap (power_value s t.m) power
-    ∙ ap (λ b. choose b (Err Wide) (Ok (signed s (t.m * 10 ^ t.z) ÷ 1))) fits ∙ ap (λ k. Ok (signed s k ÷ 1)) (sym v)
+    ∙ ap (λ b. pick b (Err Wide) (Ok (signed s (t.m * 10 ^ t.z) ÷ 1))) fits ∙ ap (λ k. Ok (signed s k ÷ 1)) (sym v)
 
 pub zero_is : (s : Bool) → zero_ℚ ≡ signed s 0 ÷ 1
 unfolding zero_ℚ
@@ -136,7 +137,7 @@ module _ (s : Bool) (n : ℕ) (ds : List ℕ) (a : AreDigitsOf n ds) (h : n < 2 
       let e : literal ds ≡ decimal_literal ds [] [] =
       ap₂ literal_after (ap digits (sym same) ∙ digits-append ds [] a.all ∙ same) (ap after_digits (sym same) ∙ after_digits-append ds [] a.all) in
       let some : is_nothing (ds ++ []) ≡ false = ap is_nothing same ∙ a.some in
-      ap (literal_value s) e ∙ ap (λ b. literal_value s (choose b no_number (with_exponent (number (ds ++ [])) 0 (Some (pos 0))))) some
+      ap (literal_value s) e ∙ ap (λ b. literal_value s (pick b no_number (with_exponent (number (ds ++ [])) 0 (Some (pos 0))))) some
       ∙ ap (λ k. decimal_value s k (pos 0)) (ap number same ∙ a.value) ∙ small_value s n h
 
   module _ (d : ℕ) (bs : List ℕ) (b : AreDigitsOf d bs) (p : 0 < d) (k : d < 2 ^ 127) where
@@ -150,10 +151,10 @@ module _ (s : Bool) (n : ℕ) (ds : List ℕ) (a : AreDigitsOf n ds) (h : n < 2 
         ap₂ literal_after (digits-append ds (slash ∷ bs) a.all ∙ same) (after_digits-append ds (slash ∷ bs) a.all) in
         let v : number bs ≡ d = b.value in
         let whole : is_nothing (after_digits bs) && leb 1 (number bs) ≡ true = and_from _ _ (ap is_nothing below) (le-leb 1 (number bs) (omega (arith, v))) in
-        ap (literal_value s) e ∙ ap (λ t. literal_value s (choose t no_number (choose (is_nothing (after_digits bs) && leb 1 (number bs)) (fraction (number ds) (number bs)) no_number))) a.some
-        ∙ ap (λ t. literal_value s (choose t (fraction (number ds) (number bs)) no_number)) whole
+        ap (literal_value s) e ∙ ap (λ t. literal_value s (pick t no_number (pick (is_nothing (after_digits bs) && leb 1 (number bs)) (fraction (number ds) (number bs)) no_number))) a.some
+        ∙ ap (λ t. literal_value s (pick t (fraction (number ds) (number bs)) no_number)) whole
         ∙ ap₂ (λ i j. literal_value s (fraction i j)) a.value b.value
-        ∙ ap (λ t. choose t (Err Wide) (Ok (signed s n ÷ d))) (or_from _ _ (narrow n h) (narrow d k))
+        ∙ ap (λ t. pick t (Err Wide) (Ok (signed s n ÷ d))) (or_from _ _ (narrow n h) (narrow d k))
 
 -- ---- signs
 

@@ -5,8 +5,8 @@ use Rattle.rationals.specs.declared.Op.{Op}
 use Rattle.rationals.specs.Rational.{ℚ}
 use Rattle.rationals.specs.Passes.{Operation, then_walk, step_walk}
 use Rattle.rationals.specs.Sparse.{Entry}
+use Rattle.rationals.specs.Choices.{pick}
 use Rattle.lp_defs.specs.Walks.{Walk}
-use Rattle.scen_defs.specs.Lists.{pick}
 use Rattle.cut_defs.specs.declared.datum.ColumnBounds.{ColumnBounds}
 use Rattle.interval_form.specs.declared.part.Part.{Part}
 use Rattle.interval_form.specs.Parts.{bound_at, part_at, spread, spread_form}

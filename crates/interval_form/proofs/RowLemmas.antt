@@ -8,13 +8,13 @@ use Rattle.rationals.specs.OrderLaws.{same_means}
 use Rattle.rationals.specs.Passes.{then_walk, step_walk, sub_walk}
 use Rattle.rationals.specs.Sparse.{Entry, product, coefficient}
 use Rattle.rationals.proofs.WalkLaws.{step_value}
+use Rattle.rationals.specs.Choices.{pick}
 use Rattle.smps_words.specs.declared.row_kind.RowKind.{RowKind}
 use Rattle.smps_words.specs.declared.row_kind.RowKind.TheVariants.{Less, Greater, Equal}
 use Rattle.lp_defs.specs.Walks.{Walk, after_ok, sub_walk_is}
 use Rattle.lp_defs.specs.Program.{IsFormBelow}
 use Rattle.slack_form.specs.declared.limits.Limit.{Limit}
 use Rattle.slack_form.specs.Limits.{AllBelow}
-use Rattle.scen_defs.specs.Lists.{pick}
 use Rattle.scen_defs.specs.declared.program.NodeRow.{NodeRow}
 use Rattle.cut_defs.specs.declared.datum.ColumnBounds.{ColumnBounds}
 use Rattle.interval_form.specs.declared.part.Part.{Part}

@@ -3,7 +3,7 @@ ghost use Rattle.std.specs.Prelude.{◌≡◌, ◌++◌, IfOk, OnOk, length};
 ghost use Rattle.rationals.specs.declared.Op.TheVariants.{Add, Sub};
 ghost use Rattle.rationals.specs.Passes.{step_walk};
 ghost use Rattle.rationals.specs.Sparse.{coefficient};
-ghost use Rattle.scen_defs.specs.Lists.{pick};
+ghost use Rattle.rationals.specs.Choices.{pick};
 ghost use Rattle.interval_form.specs.Own.{place_of, own_entry, other_entry, own_form, other_form};
 ghost use Rattle.cut_defs.specs.Data.{BoundsRise};
 ghost use Rattle.interval_form.specs.Parts.{spread_form};

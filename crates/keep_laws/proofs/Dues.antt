@@ -1,7 +1,8 @@
 -- An edit has few sweeps.
 use Rattle.std.proofs.Common.{◌≡◌, ℕ, zero, suc, ◌+◌, ◌-◌, ◌*◌, ◌<◌, ◌≤◌, Bool, true, false, ◌&&◌, not, eqb, List, [], ◌∷◌, ◌++◌, map, take, length, length-append, Option, Some, None, refl, sym, ap, subst, arith}
 use Rattle.std.proofs.lemmas.List.{length-map}
-use Rattle.scen_defs.specs.Lists.{pick, passes_at}
+use Rattle.rationals.specs.Choices.{pick}
+use Rattle.scen_defs.specs.Lists.{passes_at}
 use Rattle.scen_defs.specs.Program.{Node, Program, View, view_of, is_live, node_at}
 use Rattle.scen_defs.specs.Valid.{IsProgram, Follows}
 use Rattle.cut_defs.specs.declared.kinds.Bank.{Bank}

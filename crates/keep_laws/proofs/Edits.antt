@@ -3,7 +3,8 @@ use Rattle.std.proofs.Common.{◌≡◌, ◌⊎◌, inl, inr, ℕ, zero, suc, �
 use Rattle.std.proofs.lemmas.Bool.{and_parts, eq-eqb, eqb-false, ltb-false}
 use Rattle.rationals.specs.Forms.{IsForm}
 use Rattle.rationals.specs.Rational.{ℚ}
-use Rattle.scen_defs.specs.Lists.{Each, pick, passes_at}
+use Rattle.rationals.specs.Choices.{pick}
+use Rattle.scen_defs.specs.Lists.{Each, passes_at}
 use Rattle.scen_defs.specs.Program.{Node, Program, view_of, is_live}
 use Rattle.scen_defs.specs.Valid.{Lives, IsProgram}
 use Rattle.scen_defs.specs.declared.report.Kind.{Kind}

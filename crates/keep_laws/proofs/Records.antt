@@ -11,6 +11,7 @@ use Rattle.rationals.specs.Sparse.{Entry}
 use Rattle.rationals.specs.Forms.{IsForm, EndsBelow, is_zero, put, put_unless}
 use Rattle.rationals.proofs.Lowest.{num_zero}
 use Rattle.rationals.proofs.WalkLaws.{pushed_is_form}
+use Rattle.rationals.specs.Choices.{pick}
 use Rattle.lp_defs.specs.Solution.{Solution, Optimum, Nowhere, Endless, Cut_off, Passes, solution}
 use Rattle.lp_defs.specs.Program as lp
 use Rattle.lp_defs.specs.Walks.{Walk}
@@ -19,7 +20,7 @@ use Rattle.farkas_ray.specs.Halts.{or_passed}
 use Rattle.slack_form.specs.declared.limits.Limit.{Limit}
 use Rattle.slack_form.specs.Standard.{turned_back}
 use Rattle.interval_form.specs.Spans.{limit_count}
-use Rattle.scen_defs.specs.Lists.{Each, pick, places}
+use Rattle.scen_defs.specs.Lists.{Each, places}
 use Rattle.scen_defs.specs.Program.{Program, node_at, is_live}
 use Rattle.scen_defs.specs.Flat.{zero_row}
 use Rattle.scen_defs.specs.Valid.{IsProgram, Lives}

@@ -1,7 +1,8 @@
 -- What an edit touches: the versions behind it, the places of its touches, and its sweeps.
 use Rattle.std.proofs.Common.{◌≡◌, ◌⊎◌, inl, inr, ℕ, zero, suc, ◌+◌, ◌<◌, ◌≤◌, ◌^◌, ◌-◌, Bool, true, false, ◌&&◌, ◌||◌, not, eqb, List, [], ◌∷◌, ◌++◌, length, Option, refl, sym, ap, ap₂, subst, ◌∙◌, arith, eqb-true}
 use Rattle.std.proofs.lemmas.Bool.{eq-eqb, ne_eqb, and_parts, or_right}
-use Rattle.scen_defs.specs.Lists.{Each, pick}
+use Rattle.rationals.specs.Choices.{pick}
+use Rattle.scen_defs.specs.Lists.{Each}
 use Rattle.scen_defs.specs.Program.{Program, View}
 use Rattle.scen_defs.specs.Valid.{Lives, IsProgram}
 use Rattle.cut_defs.specs.declared.kinds.Bank.{Bank}

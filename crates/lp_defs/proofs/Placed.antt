@@ -6,6 +6,7 @@ use Rattle.rationals.specs.Ring.Eqs.{done, by_eq}
 use Rattle.rationals.specs.Sums.{sum_ℚ}
 use Rattle.rationals.specs.Sparse.{Entry, value_if, product, coefficient, Ascending}
 use Rattle.rationals.specs.Forms.{IsForm, AllNonzero}
+use Rattle.rationals.specs.Choices.{pick}
 use Rattle.lp_defs.specs.Tests.{is_zero, is_zero_true, is_zero_false}
 use Rattle.lp_defs.specs.Lines.{value_at}
 use Rattle.lp_defs.specs.Path.{Row}
@@ -13,7 +14,7 @@ use Rattle.lp_defs.specs.Linear.{AllRows}
 use Rattle.lp_defs.specs.Ends.{unit}
 use Rattle.lp_defs.specs.Basis.{IsUnits, point, ray}
 use Rattle.lp_defs.specs.Trace.{NotIn}
-use Rattle.lp_defs.specs.Placed.{pick, placed, placed_nonzero, all_placed, point_form, ray_form, BasicsDiffer}
+use Rattle.lp_defs.specs.Placed.{placed, placed_nonzero, all_placed, point_form, ray_form, BasicsDiffer}
 
 -- ---- the coefficients
 eqb_sym : (a b : ℕ) → eqb a b ≡ eqb b a

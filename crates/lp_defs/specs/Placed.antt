@@ -1,15 +1,12 @@
 -- The points and rays of tableaus as forms: values put into their places, column by column.
-use Rattle.std.specs.Prelude.{ℕ, Bool, true, false, ltb, List, [], ◌∷◌}
+use Rattle.std.specs.Prelude.{ℕ, ltb, List, [], ◌∷◌}
+use Rattle.rationals.specs.Choices.{pick}
 use Rattle.rationals.specs.Rational.{ℚ, one_ℚ, neg_ℚ}
 use Rattle.rationals.specs.Sparse.{Entry}
 use Rattle.lp_defs.specs.Tests.{is_zero}
 use Rattle.lp_defs.specs.Lines.{value_at}
 use Rattle.lp_defs.specs.Path.{Row}
 use Rattle.lp_defs.specs.Trace.{NotIn}
-
-abbrev pub pick : {A : Type 0} → Bool → A → A → A
-pick true a b = a
-pick false a b = b
 
 -- an entry behind those of lesser columns
 abbrev pub placed : ℕ → ℚ → List Entry → List Entry

@@ -8,6 +8,7 @@ use Rattle.std.proofs.lemmas.List.Sums.{sum_by-cons}
 use Rattle.rationals.specs.Rational.{ℚ}
 use Rattle.rationals.specs.Sparse.{Entry as Term, coefficient}
 use Rattle.rationals.specs.Forms.{put_unless, is_zero}
+use Rattle.rationals.specs.Choices.{pick}
 use Rattle.smps_words.specs.Line.{TextLine}
 use Rattle.smps_words.specs.Names.{same_name}
 use Rattle.smps_words.specs.declared.entry.Entry.TheVariants.{Matrix}
@@ -34,7 +35,7 @@ use Rattle.core_defs.proofs.Steps.{step_sound, nothing_sound}
 use Rattle.core_defs.proofs.Texts.{cause_is, whole_sound, whole_data}
 use Rattle.stoch_defs.specs.Entries.{no_column}
 use Rattle.stoch_defs.specs.Random.Random.{Blocks}
-use Rattle.scen_defs.specs.Lists.{pick, places}
+use Rattle.scen_defs.specs.Lists.{places}
 use Rattle.time_defs.specs.Means.{Stages}
 use Rattle.build_defs.specs.Nodes.{Stand, nodes_of, form_at, value_in, entries_at}
 use Rattle.build_defs.specs.Scenarios.{scenarios_of}

@@ -7,8 +7,9 @@ use Rattle.std.specs.Ordering.{nat_cmp}
 use Rattle.std.specs.BTreeMap.{insert_entry}
 use Rattle.rationals.specs.Rational.{ℚ}
 use Rattle.rationals.specs.Sparse.{Entry, Ascending}
-use Rattle.rationals.specs.Forms.{find, pick}
+use Rattle.rationals.specs.Forms.{find}
 use Rattle.rationals.proofs.FormSteps.{find_below}
+use Rattle.rationals.specs.Choices.{pick}
 use Rattle.frac128.proofs.FormLemmas.{rises_from}
 use Rattle.core_defs.specs.Terms.{terms_of, with_term}
 use Rattle.core_defs.proofs.PairLemmas.{or_later}
@@ -23,13 +24,13 @@ rest_rises xs ys rises = subst (Ascending 0) (drop-append_seam xs ys) (rises_fro
 
 -- ---- what is found
 
-or_pick : (here : Bool) (v : ℚ) (rest other : Option ℚ) → pick here v (or_later rest other) ≡ or_later (pick here v rest) other
+or_pick : (here : Bool) (v : ℚ) (rest other : Option ℚ) → pick here (Some v) (or_later rest other) ≡ or_later (pick here (Some v) rest) other
 or_pick true v rest other = refl
 or_pick false v rest other = refl
 
 pub find_append : (xs ys : List Entry) (row : ℕ) → find (xs ++ ys) row ≡ or_later (find xs row) (find ys row)
 find_append [] ys row = refl
-find_append (x ∷ xs) ys row = ap (pick (x.column == row) x.value) (find_append xs ys row) ∙ or_pick (x.column == row) x.value (find xs row) (find ys row)
+find_append (x ∷ xs) ys row = ap (pick (x.column == row) (Some x.value)) (find_append xs ys row) ∙ or_pick (x.column == row) x.value (find xs row) (find ys row)
 
 -- ---- a term more
 

@@ -7,13 +7,14 @@ use Rattle.std.specs.declared.cmp.Ordering.TheVariants.{Less, Equal, Greater}
 use Rattle.std.specs.BTreeMap.{insert_entry, is_at}
 use Rattle.rationals.specs.Rational.{ℚ}
 use Rattle.rationals.specs.Sparse.{Entry}
-use Rattle.rationals.specs.Forms.{find, pick}
+use Rattle.rationals.specs.Forms.{find}
+use Rattle.rationals.specs.Choices.{pick}
 use Rattle.core_defs.specs.Terms.{terms_of, with_term}
 
 at_key : (row key : ℕ) → is_at (nat_cmp row) key ≡ (key == row)
 at_key row key = grind (arith, nat_tests)
 
-same_choice : (here : Bool) (value : ℚ) (rest : Option ℚ) → cond here (Some value) rest ≡ pick here value rest
+same_choice : (here : Bool) (value : ℚ) (rest : Option ℚ) → cond here (Some value) rest ≡ pick here (Some value) rest
 same_choice true value rest = refl
 same_choice false value rest = refl
 
@@ -22,7 +23,7 @@ pub lookup_is : (es : List (ℕ × ℚ)) (row : ℕ) → lookup (is_at (nat_cmp 
 lookup_is [] row = refl
 lookup_is (e ∷ es) row = rw (at_key row e.0, lookup_is es row) (same_choice (e.0 == row) e.1 (find (terms_of es) row))
 
-pub none_here : (here : Bool) (value : ℚ) (rest : Option ℚ) → pick here value rest ≡ None → (here ≡ false) × (rest ≡ None)
+pub none_here : (here : Bool) (value : ℚ) (rest : Option ℚ) → pick here (Some value) rest ≡ None → (here ≡ false) × (rest ≡ None)
 none_here true value rest none = cc
 none_here false value rest none = (refl, none)
 

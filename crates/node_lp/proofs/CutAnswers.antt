@@ -7,8 +7,9 @@ use Rattle.rationals.specs.Sums.{sum_ℚ}
 use Rattle.rationals.specs.Sparse.{Entry, coefficient, product}
 use Rattle.rationals.specs.Forms.{is_zero}
 use Rattle.rationals.specs.Passes.{then_walk}
+use Rattle.rationals.specs.Choices.{pick}
 use Rattle.lp_defs.specs.Walks.{Walk, after_ok}
-use Rattle.scen_defs.specs.Lists.{Each, is_in, pick}
+use Rattle.scen_defs.specs.Lists.{Each, is_in}
 use Rattle.scen_defs.specs.Ends.{worth}
 use Rattle.scen_defs.specs.declared.program.NodeRow.{NodeRow}
 use Rattle.cut_defs.specs.Data.{Datum}

@@ -8,6 +8,7 @@ use Rattle.rationals.specs.Totals.{sum_walk}
 use Rattle.rationals.specs.Sparse.{Entry, product, coefficient}
 use Rattle.rationals.specs.Forms.{put}
 use Rattle.rationals.proofs.WalkLaws.{walk_value, step_value, sum_from_is}
+use Rattle.rationals.specs.Choices.{pick}
 use Rattle.lp_defs.specs.Program as lp
 use Rattle.lp_defs.specs.Certificates as lp_shows
 use Rattle.lp_defs.specs.Solution.{Solution, Optimum, Nowhere, Endless, Cut_off, Passes}
@@ -15,7 +16,6 @@ use Rattle.lp_defs.specs.Walks.{after_ok, sub_walk_is}
 use Rattle.farkas_ray.specs.Sums.{ray_walk}
 use Rattle.slack_form.specs.declared.limits.Limits.{Limits}
 use Rattle.slack_form.specs.Standard.{standard_of, signed, turned_back}
-use Rattle.scen_defs.specs.Lists.{pick}
 use Rattle.scen_defs.specs.declared.program.NodeRow.{NodeRow}
 use Rattle.cut_defs.specs.declared.datum.ColumnBounds.{ColumnBounds}
 use Rattle.interval_form.specs.declared.part.Part.{Part}

@@ -4,7 +4,7 @@ use Rattle.std.specs.Cmp.{signed_Decides}
 use Rattle.rationals.specs.Rational.{ℚ, zero_ℚ}
 use Rattle.rationals.specs.Forms.{is_zero}
 use Rattle.rationals.proofs.Lowest.{zero_from_num, num_zero}
-use Rattle.scen_defs.specs.Lists.{pick}
+use Rattle.rationals.specs.Choices.{pick}
 use Rattle.cut_defs.specs.Stored.{Stored, StoredUses}
 use Rattle.cut_defs.specs.Stored.StoredUses.{No_stored, Use_stored}
 use Rattle.cut_proof.specs.declared.cut.Used.{Used}

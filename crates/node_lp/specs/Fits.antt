@@ -2,7 +2,8 @@
 use Rattle.std.specs.Prelude.{ℕ, suc, ◌^◌, Bool, true, false, ◌&&◌, ltb, eqb, length, List, [], ◌∷◌, Option, Some, None}
 use Rattle.rationals.specs.Sparse.{Entry}
 use Rattle.rationals.specs.Forms.{IsForm}
-use Rattle.scen_defs.specs.Lists.{Each, pick}
+use Rattle.rationals.specs.Choices.{pick}
+use Rattle.scen_defs.specs.Lists.{Each}
 use Rattle.interval_form.specs.Own.{place_of}
 use Rattle.interval_form.specs.Rows.{HasForm}
 use Rattle.cut_defs.specs.declared.datum.ColumnBounds.{ColumnBounds}

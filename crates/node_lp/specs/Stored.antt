@@ -2,10 +2,11 @@
 use Rattle.std.specs.Prelude.{◌≡◌, List, [], ◌∷◌}
 use Rattle.rationals.specs.Rational.{ℚ, zero_ℚ, ◌<ℚ◌}
 use Rattle.rationals.specs.Forms.{is_zero}
-use Rattle.scen_defs.specs.Lists.{Each, pick}
+use Rattle.scen_defs.specs.Lists.{Each}
 use Rattle.scen_defs.specs.Ends.{IsGoodAt}
 use Rattle.scen_defs.specs.declared.program.NodeRow.{NodeRow}
 use Rattle.rationals.specs.Sparse.{coefficient}
+use Rattle.rationals.specs.Choices.{pick}
 use Rattle.cut_defs.specs.declared.kinds.CutKind.{CutKind}
 use Rattle.cut_defs.specs.declared.datum.ColumnBounds.{ColumnBounds}
 use Rattle.cut_defs.specs.Data.{Datum}

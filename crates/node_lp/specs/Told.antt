@@ -1,7 +1,7 @@
 -- What is told of a node: what is found, with the cut that its multipliers and weights make.
 use Rattle.std.specs.Prelude.{Bool, true, false, List, [], ◌∷◌, ◌++◌, Option, Some, None, Result, Ok, Err}
 use Rattle.rationals.specs.Passes.{Operation}
-use Rattle.scen_defs.specs.Lists.{pick}
+use Rattle.rationals.specs.Choices.{pick}
 use Rattle.cut_defs.specs.Data.{Datum}
 use Rattle.cut_defs.specs.Stored.{Source, Stored, source_of}
 use Rattle.cut_defs.specs.declared.kinds.CutKind.{CutKind}

@@ -13,13 +13,14 @@ use Rattle.farkas_ray.specs.Sums.{ray_walk}
 use Rattle.farkas_ray.specs.Halts.{or_passed}
 use Rattle.slack_form.specs.declared.limits.Limit.{Limit}
 use Rattle.slack_form.specs.Standard.{standard_from, turned_back}
-use Rattle.scen_defs.specs.Lists.{Each, pick}
+use Rattle.scen_defs.specs.Lists.{Each}
 use Rattle.cut_defs.specs.declared.datum.ColumnBounds.{ColumnBounds}
 use Rattle.interval_form.specs.declared.part.Part.{Part}
 use Rattle.interval_form.specs.declared.part.Vector.TheVariants.{Point}
 use Rattle.interval_form.specs.Parts.{parts_from, behind_all, part_at, spread_form, value_walk}
 use Rattle.interval_form.specs.Spans.{limit_count}
 use Rattle.rationals.specs.Totals.{sum_walk}
+use Rattle.rationals.specs.Choices.{pick}
 use Rattle.scen_defs.specs.declared.program.NodeRow.{NodeRow}
 use Rattle.interval_form.specs.Rows.{terms_walk, right_walk, own_limits_from, bound_limits_from}
 use Rattle.cut_defs.specs.declared.datum.Share.{Share}

@@ -2,8 +2,9 @@
 ghost use Rattle.std.specs.Prelude.{◌≡◌, ◌++◌, ◌<◌, ◌≤◌, ◌+◌, ◌^◌, true, length, [], ◌∷◌, IfOk, OnOk};
 ghost use Rattle.std.specs.Prelude.{MatchResult, Ok};
 ghost use Rattle.rationals.specs.Forms.{IsForm};
+ghost use Rattle.rationals.specs.Choices.{pick};
 ghost use Rattle.frac128.specs.Faults.{FaultOf, IfNotMemory};
-ghost use Rattle.scen_defs.specs.Lists.{Each, pick};
+ghost use Rattle.scen_defs.specs.Lists.{Each};
 ghost use Rattle.interval_form.specs.Own.{own_form};
 ghost use Rattle.cut_defs.specs.Data.{BoundsRise};
 ghost use Rattle.interval_form.specs.Parts.{AreParts, spread_form};

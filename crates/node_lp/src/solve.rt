@@ -1,10 +1,11 @@
 //! The solve of a node's program.
 ghost use Rattle.std.specs.Prelude.{◌≡◌, ◌<◌, ◌≤◌, ◌+◌, ◌^◌, [], length, IfOk, MatchResult, Ok};
 ghost use Rattle.rationals.specs.Sparse.{coefficient};
+ghost use Rattle.rationals.specs.Choices.{pick};
 ghost use Rattle.frac128.specs.Faults.{FaultOf, IfNotMemory};
 ghost use Rattle.lp_defs.specs.Solution.{Solution};
 ghost use Rattle.simplex_core.specs.Told.{Tells, Shows as ShowsItself};
-ghost use Rattle.scen_defs.specs.Lists.{Each, pick};
+ghost use Rattle.scen_defs.specs.Lists.{Each};
 ghost use Rattle.cut_defs.specs.Data.{BoundsRise};
 ghost use Rattle.interval_form.specs.Parts.{AreParts, behind_all, parts_from, spread_form};
 ghost use Rattle.interval_form.specs.Rows.{HasForm};

@@ -5,10 +5,10 @@ use Rattle.rationals.specs.Rational.{ℚ, one_ℚ}
 use Rattle.rationals.specs.Forms.{add_scaled_walk}
 use Rattle.rationals.specs.Passes.{Operation, then_value}
 use Rattle.rationals.specs.Sparse.{Entry}
+use Rattle.rationals.specs.Choices.{pick}
 use Rattle.frac128.specs.declared.form.FormFault.{FormFault}
 use Rattle.frac128.specs.declared.form.FormFault.TheVariants as form_fault
 use Rattle.frac128.specs.Faults.{FaultOf}
-use Rattle.scen_defs.specs.Lists.{pick}
 use Rattle.scen_defs.specs.Program.{Program}
 use Rattle.scen_defs.specs.declared.report.Kind.{Kind}
 use Rattle.scen_defs.specs.declared.report.Kind.TheVariants.{Feasible, Recession}

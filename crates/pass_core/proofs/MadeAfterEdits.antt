@@ -1,6 +1,7 @@
 -- All cuts are made for books where there are none, and behind an edit, whose sweeps repair by shifts of the books.
 use Rattle.std.proofs.Common.{◌≡◌, ℕ, zero, suc, Bool, true, false, ◌&&◌, eqb, ltb, List, [], ◌∷◌, Option, Some, None, replicate, refl, sym, subst}
-use Rattle.scen_defs.specs.Lists.{Each, pick}
+use Rattle.rationals.specs.Choices.{pick}
+use Rattle.scen_defs.specs.Lists.{Each}
 use Rattle.scen_defs.specs.Program.{Node, is_live}
 use Rattle.scen_defs.specs.declared.report.Kind.{Kind}
 use Rattle.cut_defs.specs.declared.kinds.Bank.{Bank}

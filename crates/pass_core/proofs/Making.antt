@@ -6,7 +6,8 @@ use Rattle.std.proofs.lemmas.List.{length-map, get_or-set_same, get_or-set_other
 use Rattle.rationals.specs.Rational.{ℚ, zero_ℚ, ◌<ℚ◌}
 use Rattle.rationals.specs.Forms.{is_zero}
 use Rattle.rationals.specs.Sparse.{Entry}
-use Rattle.scen_defs.specs.Lists.{Each, pick, is_in, places, passes_at}
+use Rattle.rationals.specs.Choices.{pick}
+use Rattle.scen_defs.specs.Lists.{Each, is_in, places, passes_at}
 use Rattle.scen_defs.specs.declared.program.Node.{Node as NodeOf}
 use Rattle.scen_defs.specs.Program.{Program, View, is_live, node_at, nodes_content, IsLive, IsTree}
 use Rattle.scen_defs.specs.Flat.{children}

@@ -5,7 +5,8 @@ use Rattle.std.proofs.lemmas.Bool.Decides.{nat_tests}
 use Rattle.std.proofs.lemmas.List.{length-map}
 use Rattle.rationals.specs.Rational.{one_ℚ, ne_of_gt_ℚ, zero_lt_one_ℚ}
 use Rattle.rationals.specs.Sums.{sum_ℚ}
-use Rattle.scen_defs.specs.Lists.{Each, places, passes_at, pick}
+use Rattle.rationals.specs.Choices.{pick}
+use Rattle.scen_defs.specs.Lists.{Each, places, passes_at}
 use Rattle.scen_defs.specs.Program.{Node, Scenario, Program, is_live, node_at, or_root}
 use Rattle.scen_defs.specs.Valid.{Lives, HasParent, Follows, FitsScenario, IsProgram}
 use Rattle.scen_tree.specs.Trees.{position_by, position_of, is_below, children_of}

@@ -5,8 +5,8 @@ use Rattle.std.specs.Option.{option_map}
 use Rattle.rationals.specs.Rational.{ℚ}
 use Rattle.rationals.specs.Passes.{Operation}
 use Rattle.rationals.specs.Sparse.{Entry}
+use Rattle.rationals.specs.Choices.{pick}
 use Rattle.scen_defs.specs.declared.report.Kind.{Kind}
-use Rattle.scen_defs.specs.Lists.{pick}
 use Rattle.scen_defs.specs.declared.report.Place.{Place}
 use Rattle.scen_defs.specs.declared.report.Place.TheVariants.{Solve, Cut, Cost, Ground, Dual, Check}
 use Rattle.node_lp.specs.declared.solved.Solved.{Solved}

@@ -4,7 +4,8 @@ use Rattle.std.specs.Option.{option_map, option_to_list}
 use Rattle.std.proofs.lemmas.Bool.{leb-true, lt-ltb}
 use Rattle.std.proofs.lemmas.List.{length-map}
 use Rattle.rationals.specs.Sparse.{Entry}
-use Rattle.scen_defs.specs.Lists.{Each, pick, keep, places, passes_at}
+use Rattle.rationals.specs.Choices.{pick}
+use Rattle.scen_defs.specs.Lists.{Each, keep, places, passes_at}
 use Rattle.scen_defs.specs.Program.{Program, View, is_live, node_at}
 use Rattle.scen_defs.specs.Flat.{is_child as is_child_of, children}
 use Rattle.scen_defs.specs.Valid.{IsProgram, Lives}

@@ -1,6 +1,7 @@
 -- The table of a state: the machine of the program that it fits, and what a step does to it.
 use Rattle.std.specs.Prelude.{◌≡◌, ℕ, ◌+◌, ◌<◌, ◌≤◌, ◌^◌, Bool, true, false, None, List, length, slice_index, IfSome}
-use Rattle.scen_defs.specs.Lists.{pick, passes_at}
+use Rattle.rationals.specs.Choices.{pick}
+use Rattle.scen_defs.specs.Lists.{passes_at}
 use Rattle.scen_defs.specs.Program.{Program, is_live}
 use Rattle.cut_defs.specs.Stored.{source_of}
 use Rattle.cut_banks.specs.declared.banks.Banks.{Banks}

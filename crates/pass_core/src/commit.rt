@@ -1,7 +1,7 @@
 //! What a solve leaves.
 ghost use Rattle.std.specs.Prelude.{◌≡◌, ◌⊎◌, ◌<◌, ℕ, true, false, None, Some, Ok, Err, IfOk, IfSome, OnOk, OnErr};
 ghost use Rattle.rationals.specs.Passes.{Operation};
-ghost use Rattle.scen_defs.specs.Lists.{pick};
+ghost use Rattle.rationals.specs.Choices.{pick};
 ghost use Rattle.scen_defs.specs.Program.{content, node_at, Program as ProgramOf};
 ghost use Rattle.scen_tree.specs.Trees.{Tree as TreeOf};
 ghost use Rattle.cut_defs.specs.Stored.{source_of, IsMadeFor};

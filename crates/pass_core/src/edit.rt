@@ -1,6 +1,7 @@
 //! What an edit of the program leaves.
 ghost use Rattle.std.specs.Prelude.{◌≡◌, ◌<◌, ◌∷◌, [], false, None, length, IfOk, OnOk};
-ghost use Rattle.scen_defs.specs.Lists.{Each, pick};
+ghost use Rattle.rationals.specs.Choices.{pick};
+ghost use Rattle.scen_defs.specs.Lists.{Each};
 ghost use Rattle.scen_defs.specs.Program.{content, Program as ProgramOf};
 ghost use Rattle.run_data.specs.Counts.{grown};
 ghost use Rattle.cut_banks.specs.Banks.{fit_banks, swept_banks, edited_banks};

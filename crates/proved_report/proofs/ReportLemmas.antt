@@ -4,7 +4,6 @@ use Rattle.std.specs.Prelude.{◌<◌, ◌^◌}
 use Rattle.rationals.specs.Rational.{ℚ}
 use Rattle.rationals.specs.Order.{same}
 use Rattle.rationals.specs.OrderLaws.{same_means}
-use Rattle.scen_defs.specs.Lists.{pick}
 use Rattle.scen_defs.specs.Values.{At, at}
 use Rattle.scen_defs.specs.Fits.{ListsHaveNames}
 use Rattle.scen_defs.specs.Program.{View, IsTree, content}
@@ -18,6 +17,7 @@ use Rattle.report_defs.specs.Shows.{Together, ShowsLower, ShowsUpper, ShowsNothi
 use Rattle.report_defs.specs.Findings.{has_direction, has_ray, has_extra}
 use Rattle.report_defs.specs.Truth.{Reasons, Explains, IsTrue, HasCounts}
 use Rattle.rationals.specs.Passes.{Operation, passes}
+use Rattle.rationals.specs.Choices.{pick}
 use Rattle.proved_report.specs.declared.open.Open.{Open}
 use Rattle.proved_report.specs.declared.open.Open.TheVariants.{Solves, Pivots, Passed}
 use Rattle.proved_report.specs.declared.tested.Tested.{Tested}

@@ -1,7 +1,7 @@
 -- Why a report is left open, where no more is known of the method than what it says.
 use Rattle.std.specs.Prelude.{◌≡◌, ◌⊎◌, ℕ, true}
 use Rattle.rationals.specs.Passes.{Operation, passes}
-use Rattle.scen_defs.specs.Lists.{pick}
+use Rattle.rationals.specs.Choices.{pick}
 use Rattle.scen_defs.specs.declared.report.Finding.{Finding}
 use Rattle.scen_defs.specs.declared.report.Finding.TheVariants.{OpenSolves, OpenPivots, OpenPassed}
 use Rattle.report_defs.specs.Truth.{Reasons}

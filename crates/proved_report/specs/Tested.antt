@@ -4,7 +4,7 @@ use Rattle.rationals.specs.Rational.{ℚ, zero_ℚ, at_most}
 use Rattle.rationals.specs.Passes.{Operation}
 use Rattle.rationals.specs.Replies.{Reply, IsReply}
 use Rattle.rationals.specs.Replies.Reply.{Says, Silent}
-use Rattle.scen_defs.specs.Lists.{pick}
+use Rattle.rationals.specs.Choices.{pick}
 use Rattle.scen_defs.specs.Values.{At, at}
 use Rattle.scen_defs.specs.Program.{content}
 use Rattle.scen_defs.specs.Flat.{without_costs}

@@ -1,6 +1,6 @@
 //! The report of what a method claims.
 ghost use Rattle.std.specs.Prelude.{◌≡◌, IfOk};
-ghost use Rattle.scen_defs.specs.Lists.{pick};
+ghost use Rattle.rationals.specs.Choices.{pick};
 ghost use Rattle.scen_defs.specs.Fits.{ListsHaveNames};
 ghost use Rattle.report_defs.specs.Truth.{IsTrue, HasCounts};
 ghost use Rattle.proved_report.specs.Open.{given};

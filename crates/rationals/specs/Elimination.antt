@@ -137,19 +137,19 @@ eliminate (suc n) ls =
     eliminate n (crosses (positive moved) (negative moved) (neutral moved))
 
 -- the factors of the first line that uses the goal and has no positive constant
-abbrev pub pick : List Line → List ℕ
-pick [] = []
-pick (l ∷ ls) = elim l.at [
-  | [] ↦ pick ls
+abbrev pub first_factors : List Line → List ℕ
+first_factors [] = []
+first_factors (l ∷ ls) = elim l.at [
+  | [] ↦ first_factors ls
   | z ∷ _ ↦ elim (le_z z (pos 0)) [
-    | false ↦ pick ls
-    | true ↦ elim l.by [ [] ↦ pick ls | k ∷ ks ↦ elim k [ zero ↦ pick ls | suc j ↦ suc j ∷ ks ] ]
+    | false ↦ first_factors ls
+    | true ↦ elim l.by [ [] ↦ first_factors ls | k ∷ ks ↦ elim k [ zero ↦ first_factors ls | suc j ↦ suc j ∷ ks ] ]
   ]
 ]
 
 -- factors for the polynomials of a list that begins with the denied goal
 abbrev pub factors : List (List Term) → List ℕ
-factors ps = let ms = monos_of ps [] in pick (eliminate (length ms) (lines (length ps) 0 ms ps))
+factors ps = let ms = monos_of ps [] in first_factors (eliminate (length ms) (lines (length ps) 0 ms ps))
 
 -- k times a polynomial
 abbrev pub scaled : ℕ → List Term → List Term

@@ -10,11 +10,12 @@ use Rattle.std.proofs.lemmas.List.{append-nil}
 use Rattle.rationals.specs.Rational.{ℚ, zero_ℚ}
 use Rattle.rationals.specs.Order.{same}
 use Rattle.rationals.specs.OrderLaws.{same_means}
+use Rattle.rationals.specs.Choices.{pick}
 use Rattle.frac128.specs.Text.{text_of}
 use Rattle.smps_words.specs.Line.{is_blank}
 use Rattle.smps_words.specs.Names.{place_of, IsNumbered}
 use Rattle.smps_words.proofs.NumberedNames.{none_numbered, numbered_snoc}
-use Rattle.scen_defs.specs.Lists.{Each, pick}
+use Rattle.scen_defs.specs.Lists.{Each}
 use Rattle.smps_words.specs.Field.{IsField}
 use Rattle.scen_defs.specs.Valid.{Differ, AreNames}
 use Rattle.scen_defs.specs.Values.{At, IsBefore, EndsBefore, Rises}

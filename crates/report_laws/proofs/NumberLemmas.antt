@@ -5,12 +5,12 @@ use Rattle.std.specs.Prelude.{codes, IfSome}
 use Rattle.std.specs.Fmt.{decimal}
 use Rattle.std.proofs.lemmas.Bool.Decides.{nat_tests}
 use Rattle.rationals.specs.Rational.{ℚ}
+use Rattle.rationals.specs.Choices.{pick}
 use Rattle.frac128.specs.Numbers.{read_number}
 use Rattle.frac128.specs.Text.{text_of}
 use Rattle.frac128.proofs.ReadBack.{read_back}
 use Rattle.smps_words.specs.Names.{same_name}
 use Rattle.smps_words.proofs.NumberedNames.{same_name_refl}
-use Rattle.scen_defs.specs.Lists.{pick}
 use Rattle.report_text.specs.Text.{end_text}
 use Rattle.report_reader.specs.Answers.{bad}
 use Rattle.report_reader.specs.Numbers.{printed, fraction, end_value, end_of, counted, count_by, count, small}

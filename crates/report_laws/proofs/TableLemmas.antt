@@ -7,8 +7,9 @@ use Rattle.std.specs.Fmt.{decimal}
 use Rattle.std.proofs.lemmas.Bool.{ne_eqb}
 use Rattle.std.proofs.lemmas.List.{append-nil}
 use Rattle.rationals.specs.Rational.{zero_ℚ}
+use Rattle.rationals.specs.Choices.{pick}
 use Rattle.frac128.specs.Text.{text_of}
-use Rattle.scen_defs.specs.Lists.{Each, pick}
+use Rattle.scen_defs.specs.Lists.{Each}
 use Rattle.scen_defs.specs.Valid.{AreNames}
 use Rattle.scen_defs.specs.Values.{At, Rises}
 use Rattle.scen_defs.specs.declared.program.Program.{Program}

@@ -1,8 +1,8 @@
 -- Where words and pieces end.
 use Rattle.std.proofs.Common.{◌≡◌, ◌≢◌, ◌<◌, ℕ, zero, suc, Bool, true, false, List, [], ◌∷◌, length, get_or, take, drop, nat_eq, Option, Some, None, Err, MatchOption, refl, subst, arith}
 use Rattle.std.proofs.lemmas.Bool.{eq-eqb, ne_eqb}
+use Rattle.rationals.specs.Choices.{pick}
 use Rattle.refusals.specs.declared.cause.Cause.TheVariants as cause
-use Rattle.scen_defs.specs.Lists.{pick}
 use Rattle.report_reader.specs.Pieces.{lines_of, after, grown, cut}
 
 -- a word goes on where the text ends

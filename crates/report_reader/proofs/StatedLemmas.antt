@@ -8,10 +8,11 @@ use Rattle.std.proofs.lemmas.List.{append-nil}
 use Rattle.std.proofs.lemmas.List.Concat.{flat_map-append}
 use Rattle.rationals.specs.Rational.{ℚ, zero_ℚ}
 use Rattle.rationals.specs.Order.{same as same_value}
+use Rattle.rationals.specs.Choices.{pick}
 use Rattle.frac128.specs.Text.{text_of}
 use Rattle.smps_words.specs.Names.{same_name, place_of}
 use Rattle.smps_words.proofs.NumberedNames.{place_of_right}
-use Rattle.scen_defs.specs.Lists.{Each, pick}
+use Rattle.scen_defs.specs.Lists.{Each}
 use Rattle.scen_defs.specs.Values.{At}
 use Rattle.scen_defs.specs.declared.program.Program.{Program}
 use Rattle.scen_defs.specs.declared.report.Finding.{Finding}

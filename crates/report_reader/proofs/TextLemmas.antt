@@ -8,12 +8,12 @@ use Rattle.rationals.specs.Rational.{ℚ}
 use Rattle.rationals.specs.Passes.{Operation}
 use Rattle.rationals.specs.declared.Op.{Op}
 use Rattle.rationals.specs.declared.Op.TheVariants.{Add, Sub, Mul, Div}
+use Rattle.rationals.specs.Choices.{pick}
 use Rattle.frac128.specs.Numbers.{read_number}
 use Rattle.frac128.specs.Text.{text_of}
 use Rattle.frac128.specs.declared.text.NumFault.{NumFault}
 use Rattle.frac128.specs.declared.text.NumFault.TheVariants as faults
 use Rattle.smps_words.specs.Names.{same_name}
-use Rattle.scen_defs.specs.Lists.{pick}
 use Rattle.scen_defs.specs.declared.report.Place.{Place}
 use Rattle.scen_defs.specs.declared.report.Place.TheVariants.{Solve, Cut, Cost, Ground, Dual}
 use Rattle.scen_defs.specs.declared.report.Finding.{Finding}

@@ -2,12 +2,12 @@
 use Rattle.std.specs.Prelude.{ℕ, ℤ, pos, negsuc, Bool, true, false, ◌^◌, nat_lt, List, Option, Some, None, Result, Ok, Err, codes}
 use Rattle.std.specs.Fmt.{decimal}
 use Rattle.rationals.specs.Rational.{ℚ}
+use Rattle.rationals.specs.Choices.{pick}
 use Rattle.frac128.specs.Numbers.{read_number}
 use Rattle.frac128.specs.Text.{text_of}
 use Rattle.frac128.specs.declared.text.NumFault.{NumFault}
 use Rattle.frac128.specs.declared.text.NumFault.TheVariants as faults
 use Rattle.smps_words.specs.Names.{same_name}
-use Rattle.scen_defs.specs.Lists.{pick}
 use Rattle.refusals.specs.declared.cause.Cause.{Cause}
 use Rattle.refusals.specs.declared.cause.Cause.TheVariants as cause
 use Rattle.report_reader.specs.Answers.{on_ok, bad}

@@ -1,6 +1,6 @@
 -- Pieces of a text: what follows a word, what stands before a byte, and the lines.
 use Rattle.std.specs.Prelude.{ℕ, Bool, true, false, nat_eq, List, [], ◌∷◌, Option, Some, None, Result, Ok}
-use Rattle.scen_defs.specs.Lists.{pick}
+use Rattle.rationals.specs.Choices.{pick}
 use Rattle.refusals.specs.declared.cause.Cause.{Cause}
 use Rattle.report_reader.specs.Answers.{bad}
 

@@ -10,8 +10,9 @@ use Rattle.scen_defs.specs.declared.report.Kind.TheVariants.{Feasible, Recession
 use Rattle.scen_defs.specs.declared.program.Column.{Column}
 use Rattle.scen_defs.specs.declared.program.Row.{Row}
 use Rattle.scen_defs.specs.declared.program.NodeRow.{NodeRow}
-use Rattle.scen_defs.specs.Lists.{Each, Once, pick, places}
+use Rattle.scen_defs.specs.Lists.{Each, Once, places}
 use Rattle.rationals.specs.Intervals.{InOrder}
+use Rattle.rationals.specs.Choices.{pick}
 use Rattle.scen_defs.specs.Program.{Node, Program, View, view_of, is_live, node_at, or_root, IsLive, IsNode, IsColumnOf, IsTree, total}
 use Rattle.scen_defs.specs.Flat.{zero_row, is_child, children, share}
 use Rattle.scen_defs.specs.Valid.{Lives, HasParent, IsProgram}

@@ -1,6 +1,6 @@
 -- What stays the same in all runs of a program: its frame.
 use Rattle.std.specs.Prelude.{ℕ, zero, suc, List, [], ◌∷◌, ◌++◌, eqb, ltb, map, length, Option, Some, None, slice_get, slice_index_or}
-use Rattle.scen_defs.specs.Lists.{pick}
+use Rattle.rationals.specs.Choices.{pick}
 use Rattle.scen_defs.specs.Program.{Node, Program, View, view_of, or_root}
 use Rattle.scen_defs.specs.declared.program.Column.{Column}
 use Rattle.scen_tree.specs.Trees.{position_of, children_from}

@@ -1,6 +1,6 @@
 -- Whether nothing is left to find in a run, and why.
 use Rattle.std.specs.Prelude.{ℕ, leb, Bool, ◌&&◌, is_some, Option, Some, None}
-use Rattle.scen_defs.specs.Lists.{pick}
+use Rattle.rationals.specs.Choices.{pick}
 use Rattle.scen_defs.specs.declared.report.Kind.{Kind}
 use Rattle.scen_defs.specs.declared.report.Kind.TheVariants.{Feasible, Recession, Cost}
 use Rattle.proved_report.specs.declared.open.Open.{Open}

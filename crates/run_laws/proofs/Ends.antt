@@ -6,7 +6,7 @@ use Rattle.std.specs.Ordering.{is_lt, MatchOrdering}
 use Rattle.rationals.specs.Rational.{◌≤ℚ◌, ◌<ℚ◌, lt_le_ℚ, le_refl_ℚ, le_of_same_ℚ}
 use Rattle.rationals.specs.Order.{compare}
 use Rattle.rationals.proofs.OrderMeaning.{compare_means}
-use Rattle.scen_defs.specs.Lists.{pick}
+use Rattle.rationals.specs.Choices.{pick}
 use Rattle.run_ends.specs.declared.ends.Priced.{Priced}
 use Rattle.run_ends.specs.declared.ends.Bounded.{Bounded}
 use Rattle.run_ends.specs.Ends.{cheaper, greater_end}

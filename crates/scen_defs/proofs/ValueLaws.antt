@@ -2,7 +2,8 @@
 use Rattle.std.proofs.Common.{◌≡◌, ◌≢◌, ℕ, zero, suc, ◌<◌, ◌≤◌, Bool, true, false, ◌&&◌, eqb, List, [], ◌∷◌, ◌++◌, length, drop, get_or, refl, sym, ap, ap₂, subst, ◌∙◌, arith, eqb-true, ◌+◌, add-one}
 use Rattle.std.proofs.lemmas.Bool.{eq-eqb}
 use Rattle.rationals.specs.Rational.{ℚ, zero_ℚ}
-use Rattle.scen_defs.specs.Lists.{Each, pick}
+use Rattle.rationals.specs.Choices.{pick}
+use Rattle.scen_defs.specs.Lists.{Each}
 use Rattle.scen_defs.proofs.NodeReads.{drop_read}
 use Rattle.scen_defs.specs.Values.{At, at, IsAt, IsBefore, EndsBefore, Rises, AreValues}
 

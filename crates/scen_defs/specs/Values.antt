@@ -1,7 +1,8 @@
 -- Numbers at nodes: at (node, column) for a point, at (node, row) for multipliers.
 use Rattle.std.specs.Prelude.{◌≡◌, ◌≢◌, ℕ, ◌≤◌, ◌<◌, ◌&&◌, eqb, List, [], ◌∷◌}
 use Rattle.rationals.specs.Rational.{ℚ, zero_ℚ}
-use Rattle.scen_defs.specs.Lists.{Each, pick}
+use Rattle.rationals.specs.Choices.{pick}
+use Rattle.scen_defs.specs.Lists.{Each}
 
 pub record At : Type 0 where
   pub node : ℕ

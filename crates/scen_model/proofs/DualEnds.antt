@@ -7,8 +7,9 @@ use Rattle.rationals.specs.Passes.{then_walk, mul_walk, add_product_walk, less_p
 use Rattle.rationals.specs.Sums.{sum_ℚ}
 use Rattle.rationals.specs.Sparse.{coefficient, value_if}
 use Rattle.rationals.proofs.WalkLaws.{walk_value, step_value}
+use Rattle.rationals.specs.Choices.{pick}
 use Rattle.scen_defs.specs.declared.program.NodeRow.{NodeRow}
-use Rattle.scen_defs.specs.Lists.{Each, pick}
+use Rattle.scen_defs.specs.Lists.{Each}
 use Rattle.scen_defs.specs.Ends.{used_end, IsFinite, number, IsGoodAt, worth}
 use Rattle.scen_defs.specs.Program.{View, total}
 use Rattle.scen_defs.specs.Flat.{is_above, subtree, reduced, GoodAt, IsGood, value}

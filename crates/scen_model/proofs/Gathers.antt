@@ -2,7 +2,8 @@
 use Rattle.std.proofs.Common.{◌≡◌, ℕ, ◌<◌, Bool, true, false, ◌||◌, eqb, List, [], ◌∷◌, Result, Ok, length, get_or, refl, sym, ap, subst, ◌∙◌, eqb-true}
 use Rattle.rationals.specs.Rational.{ℚ}
 use Rattle.rationals.specs.Passes.{Operation, add_walk, then_walk}
-use Rattle.scen_defs.specs.Lists.{is_in, pick}
+use Rattle.rationals.specs.Choices.{pick}
+use Rattle.scen_defs.specs.Lists.{is_in}
 use Rattle.scen_model.specs.Gathered.{Fits, Moves}
 
 -- what is left to do from the numbers now is what there was to do from those at the start

@@ -8,11 +8,12 @@ use Rattle.std.proofs.lemmas.Bool.Decides.{eqb_tells}
 use Rattle.rationals.specs.Rational.{ℚ, zero_ℚ, ◌*ℚ◌, mul_zero_ℚ}
 use Rattle.rationals.specs.Sparse.{Entry, coefficient, Ascending}
 use Rattle.rationals.specs.Passes.{Operation, mul_walk, less_product_walk, then_walk}
+use Rattle.rationals.specs.Choices.{pick}
 use Rattle.scen_defs.specs.declared.program.Column.{Column}
 use Rattle.scen_defs.specs.declared.program.NodeRow.{NodeRow}
 use Rattle.scen_defs.specs.declared.program.Program.{Program as ProgramOf}
 use Rattle.scen_defs.specs.declared.program.Node.{Node as NodeOf}
-use Rattle.scen_defs.specs.Lists.{pick, passes_at}
+use Rattle.scen_defs.specs.Lists.{passes_at}
 use Rattle.scen_defs.specs.Program.{View, Node, Program, content, nodes_content, is_live, view_of, column_at}
 use Rattle.scen_defs.specs.Flat.{up, home, is_above}
 use Rattle.scen_model.specs.Walks.{total_walk, less_from, less_step, less_all, reduced_walk}

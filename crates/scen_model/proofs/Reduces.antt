@@ -4,7 +4,7 @@ use Rattle.std.proofs.lemmas.Bool.{ne_eqb}
 use Rattle.rationals.specs.Rational.{ℚ, zero_ℚ, ◌+ℚ◌, ◌-ℚ◌, ◌*ℚ◌, zero_add_ℚ, add_zero_ℚ, zero_mul_ℚ, mul_zero_ℚ, by_ring, terms}
 use Rattle.rationals.specs.Sparse.{Entry, coefficient, value_if, Ascending}
 use Rattle.rationals.specs.Passes.{Operation, answer, too_wide, less_product_walk, mul_walk, then_walk}
-use Rattle.scen_defs.specs.Lists.{pick}
+use Rattle.rationals.specs.Choices.{pick}
 use Rattle.scen_model.specs.Gathered.{Fits, entries_from}
 
 -- an answer that is a value

@@ -7,7 +7,8 @@ use Rattle.rationals.specs.Passes.{Operation, add_walk, add_product_walk, then_w
 use Rattle.rationals.specs.Sums.{sum_ℚ}
 use Rattle.rationals.specs.Sparse.{Entry, product, value_if}
 use Rattle.rationals.proofs.WalkLaws.{walk_value, step_value}
-use Rattle.scen_defs.specs.Lists.{Each, is_in, pick}
+use Rattle.rationals.specs.Choices.{pick}
+use Rattle.scen_defs.specs.Lists.{Each, is_in}
 use Rattle.scen_defs.specs.Program.{Scenario}
 use Rattle.scen_model.specs.declared.stop.Stop.{Stop}
 use Rattle.scen_model.specs.declared.stop.Stop.TheVariants.{Decided}

@@ -7,8 +7,9 @@ use Rattle.rationals.specs.Replies.Reply.{Says, Silent}
 use Rattle.rationals.specs.Rational.{ℚ, zero_ℚ, at_most}
 use Rattle.rationals.specs.Passes.{Operation, too_wide, mul_walk, less_product_walk, add_product_walk, then_walk}
 use Rattle.rationals.specs.Sparse.{Entry, coefficient}
+use Rattle.rationals.specs.Choices.{pick}
 use Rattle.scen_defs.specs.declared.program.Column.{Column}
-use Rattle.scen_defs.specs.Lists.{passes_at, pick}
+use Rattle.scen_defs.specs.Lists.{passes_at}
 use Rattle.scen_defs.specs.Program.{View, Program, is_live, view_of}
 use Rattle.scen_defs.specs.Flat.{up, home}
 use Rattle.scen_model.specs.declared.stop.Stop.{Stop}

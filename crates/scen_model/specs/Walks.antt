@@ -3,8 +3,9 @@ use Rattle.std.specs.Prelude.{ℕ, Bool, true, false, not, ◌&&◌, List, [], �
 use Rattle.rationals.specs.Rational.{ℚ, zero_ℚ, at_most}
 use Rattle.rationals.specs.Sparse.{Entry, coefficient}
 use Rattle.rationals.specs.Passes.{Operation, add_walk, mul_walk, add_product_walk, less_product_walk, then_walk}
+use Rattle.rationals.specs.Choices.{pick}
 use Rattle.scen_defs.specs.declared.program.NodeRow.{NodeRow}
-use Rattle.scen_defs.specs.Lists.{is_in, pick}
+use Rattle.scen_defs.specs.Lists.{is_in}
 use Rattle.scen_defs.specs.Ends.{used_end}
 use Rattle.scen_defs.specs.Program.{View, Scenario}
 use Rattle.scen_defs.specs.Flat.{along, is_above, zero_end}

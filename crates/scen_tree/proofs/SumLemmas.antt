@@ -6,10 +6,11 @@ use Rattle.rationals.specs.Rational.{ℚ, zero_ℚ, one_ℚ, inv_ℚ, inverse_of
 use Rattle.rationals.specs.Passes.{Operation, add_walk, div_walk, then_walk, answer, too_wide}
 use Rattle.rationals.proofs.OrderMeaning.{mul_walk_zero}
 use Rattle.rationals.proofs.Lowest.{num_zero}
+use Rattle.rationals.specs.Choices.{pick}
 use Rattle.std.specs.Result.{MatchResult, IsErrAnd}
 use Rattle.scen_tree.specs.declared.fault.TreeFault.{TreeFault}
 use Rattle.scen_tree.specs.declared.fault.TreeFault.TheVariants.{Passed}
-use Rattle.scen_defs.specs.Lists.{is_in, pick}
+use Rattle.scen_defs.specs.Lists.{is_in}
 use Rattle.scen_defs.specs.Program.{Scenario}
 use Rattle.scen_model.specs.Walks.{total_from}
 use Rattle.scen_tree.specs.Chances.{Sum, gathered_from, TreeFaultOf}

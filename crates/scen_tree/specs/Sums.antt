@@ -2,7 +2,8 @@
 use Rattle.std.specs.Prelude.{ℕ, zero, suc, List, [], ◌∷◌, Result, Ok, Err}
 use Rattle.rationals.specs.Rational.{ℚ, zero_ℚ}
 use Rattle.rationals.specs.Passes.{add_walk, then_walk}
-use Rattle.scen_defs.specs.Lists.{is_in, pick}
+use Rattle.rationals.specs.Choices.{pick}
+use Rattle.scen_defs.specs.Lists.{is_in}
 use Rattle.scen_defs.specs.Program.{Scenario}
 use Rattle.scen_model.specs.Walks.{total_from}
 use Rattle.scen_tree.specs.Chances.{Sum}

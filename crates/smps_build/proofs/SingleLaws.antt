@@ -15,8 +15,9 @@ use Rattle.core_defs.specs.declared.program.Core.{Core}
 use Rattle.scen_defs.specs.declared.program.Column.{Column}
 use Rattle.scen_defs.specs.declared.program.Row.{Row}
 use Rattle.scen_defs.specs.declared.program.NodeRow.{NodeRow}
-use Rattle.scen_defs.specs.Lists.{Each, pick, places, passes_at}
+use Rattle.scen_defs.specs.Lists.{Each, places, passes_at}
 use Rattle.rationals.specs.Intervals.{InOrder}
+use Rattle.rationals.specs.Choices.{pick}
 use Rattle.scen_defs.specs.Program.{Node, Program, Scenario, node_at}
 use Rattle.scen_defs.specs.Valid.{AreNames, Lives, FitsRow, FitsNode, FitsColumn, HasEnds, has_low, has_high, row_at, is_reached, IsProgram}
 use Rattle.scen_defs.proofs.SumLaws.{each-map}

@@ -5,7 +5,8 @@ use Rattle.std.proofs.lemmas.Bool.{eq-eqb, ne_eqb}
 use Rattle.rationals.specs.Rational.{ℚ, zero_ℚ, ◌+ℚ◌, ◌*ℚ◌, ◌≤ℚ◌, add_comm_ℚ, mul_zero_ℚ, zero_add_ℚ}
 use Rattle.rationals.specs.Sums.{sum_ℚ, sum-map}
 use Rattle.rationals.specs.Sparse.{Entry, coefficient, product}
-use Rattle.scen_defs.specs.Lists.{Each, pick}
+use Rattle.rationals.specs.Choices.{pick}
+use Rattle.scen_defs.specs.Lists.{Each}
 use Rattle.scen_defs.specs.Program.{View}
 use Rattle.scen_defs.specs.Flat.{children}
 use Rattle.scen_defs.proofs.SumLaws.{sum-ext}

@@ -6,7 +6,7 @@ use Rattle.std.proofs.lemmas.List.Elements.{Contains-append_left, Contains-appen
 use Rattle.rationals.specs.Rational.{ℚ, zero_ℚ, ◌≤ℚ◌, at_most, at_most_true, le_refl_ℚ}
 use Rattle.rationals.specs.Sparse.{Entry}
 use Rattle.rationals.specs.Passes.{Operation, then_walk}
-use Rattle.scen_defs.specs.Lists.{pick}
+use Rattle.rationals.specs.Choices.{pick}
 use Rattle.cut_defs.specs.declared.kinds.CutKind.{CutKind}
 use Rattle.cut_defs.specs.declared.kinds.CutKind.TheVariants.{Bound, Ray}
 use Rattle.cut_defs.specs.declared.versions.Stamp.{Stamp}

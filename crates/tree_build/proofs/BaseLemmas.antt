@@ -4,7 +4,8 @@ use Rattle.std.proofs.lemmas.Bool.Decides.{nat_tests}
 use Rattle.rationals.specs.Rational.{ℚ}
 use Rattle.rationals.specs.Sparse.{Entry as Term, coefficient}
 use Rattle.rationals.specs.Forms.{put}
-use Rattle.scen_defs.specs.Lists.{pick, places}
+use Rattle.rationals.specs.Choices.{pick}
+use Rattle.scen_defs.specs.Lists.{places}
 use Rattle.smps_words.specs.declared.entry.Entry.TheVariants.{Cost, Matrix}
 use Rattle.core_defs.specs.declared.program.Core.{Core}
 use Rattle.core_defs.specs.declared.parts.ColumnDef.{ColumnDef}

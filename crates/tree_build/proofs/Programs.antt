@@ -16,7 +16,8 @@ use Rattle.scen_defs.specs.declared.program.Column.{Column}
 use Rattle.scen_defs.specs.declared.program.Row.{Row}
 use Rattle.scen_defs.specs.declared.program.NodeRow.{NodeRow}
 use Rattle.rationals.specs.Intervals.{InOrder}
-use Rattle.scen_defs.specs.Lists.{Each, is_in, pick, places, passes_at}
+use Rattle.rationals.specs.Choices.{pick}
+use Rattle.scen_defs.specs.Lists.{Each, is_in, places, passes_at}
 use Rattle.scen_defs.specs.Program.{Node, Scenario, Program, node_at}
 use Rattle.smps_words.specs.Field.{IsField}
 use Rattle.scen_defs.specs.Valid.{Lives, HasParent, FitsRow, FitsNode, Follows, FitsScenario, is_reached, FitsColumn, row_at, has_low, has_high, AreNames, IsSmall, HasNames, IsProgram}

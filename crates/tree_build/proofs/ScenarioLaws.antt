@@ -3,9 +3,10 @@ use Rattle.std.proofs.Common.{◌≡◌, ◌∙◌, ap, sym, refl, subst, ℕ, z
 use Rattle.std.proofs.lemmas.List.{length_push, length-map}
 use Rattle.std.proofs.lemmas.Bool.Decides.{nat_tests}
 use Rattle.rationals.specs.Rational.{ℚ, zero_ℚ, one_ℚ, ◌<ℚ◌, mul_pos_ℚ, zero_lt_one_ℚ}
+use Rattle.rationals.specs.Choices.{pick}
 use Rattle.time_defs.specs.Means.{Stages}
 use Rattle.stoch_defs.specs.Random.{Block, Branch}
-use Rattle.scen_defs.specs.Lists.{Each, pick}
+use Rattle.scen_defs.specs.Lists.{Each}
 use Rattle.scen_defs.specs.Program.{Scenario}
 use Rattle.build_defs.specs.Digits.{digits}
 use Rattle.build_defs.specs.Scenarios.{no_branch, stages_from}

@@ -6,6 +6,7 @@ use Rattle.rationals.specs.Rational.{ℚ, zero_ℚ, ◌+ℚ◌, zero_add_ℚ}
 use Rattle.rationals.specs.Sparse.{Entry as Term, coefficient, value_if}
 use Rattle.rationals.specs.Forms.{is_zero, put, put_unless}
 use Rattle.rationals.proofs.Lowest.{num_zero}
+use Rattle.rationals.specs.Choices.{pick}
 use Rattle.smps_words.specs.declared.entry.Entry.{Entry}
 use Rattle.smps_words.specs.declared.entry.Entry.TheVariants.{Cost, Matrix, Rhs}
 use Rattle.core_defs.specs.declared.parts.ColumnDef.{ColumnDef}
@@ -13,7 +14,7 @@ use Rattle.core_defs.specs.declared.program.Core.{Core}
 use Rattle.time_defs.specs.Means.{Stages, IsReached, entries_at as column_entries}
 use Rattle.stoch_defs.specs.Entries.{is_late, no_column}
 use Rattle.stoch_defs.specs.Random.{Sets}
-use Rattle.scen_defs.specs.Lists.{Each, pick, passes_at}
+use Rattle.scen_defs.specs.Lists.{Each, passes_at}
 use Rattle.scen_defs.proofs.Valid.{each-place}
 use Rattle.build_defs.specs.Nodes.{value_in, form_at, rows_at}
 use Rattle.tree_build.specs.declared.parts.RowValues.{RowValues}

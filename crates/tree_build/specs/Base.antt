@@ -2,9 +2,9 @@
 use Rattle.std.specs.Prelude.{ℕ, suc, List, [], ◌∷◌, get_or, length, nat_eq, nat_lt, ◌&&◌}
 use Rattle.rationals.specs.Sparse.{Entry as Term}
 use Rattle.rationals.specs.Forms.{put}
+use Rattle.rationals.specs.Choices.{pick}
 use Rattle.core_defs.specs.declared.parts.ColumnDef.{ColumnDef}
 use Rattle.core_defs.specs.declared.parts.RowDef.{RowDef}
-use Rattle.scen_defs.specs.Lists.{pick}
 use Rattle.stoch_defs.specs.Entries.{no_column, no_row}
 use Rattle.tree_build.specs.declared.parts.RowValues.{RowValues}
 

@@ -1,7 +1,7 @@
 -- The cases of blocks that a scenario chooses, like the digits of a number.
 use Rattle.std.specs.Prelude.{ℕ, suc, ◌<◌, ◌+◌, ◌*◌, ◌/◌, ◌%◌, List, [], ◌∷◌, map, flat_map, length, nat_eq}
 use Rattle.std.specs.Prelude.{nat_le, if◌then◌else◌}
-use Rattle.scen_defs.specs.Lists.{pick}
+use Rattle.rationals.specs.Choices.{pick}
 use Rattle.stoch_defs.specs.Random.{Block}
 use Rattle.build_defs.specs.Scenarios.{stages_from}
 use Rattle.tree_build.specs.declared.wheels.Wheel.{Wheel}

@@ -3,8 +3,9 @@ use Rattle.std.proofs.Common.{◌≡◌, ◌⊎◌, inl, inr, ℕ, zero, suc, �
 use Rattle.std.proofs.Common.{refl, sym, ap, ap₂, subst, ◌∙◌, arith}
 use Rattle.rationals.specs.Passes.{passes}
 use Rattle.rationals.specs.declared.Op.TheVariants.{Sub}
+use Rattle.rationals.specs.Choices.{pick}
 use Rattle.smps_words.specs.declared.entry.Entry.TheVariants.{Cost as CostEntry, Matrix, Rhs}
-use Rattle.scen_defs.specs.Lists.{Each, pick}
+use Rattle.scen_defs.specs.Lists.{Each}
 use Rattle.scen_defs.specs.Program.{Program, View, view_of}
 use Rattle.scen_defs.specs.Valid.{Lives, IsProgram}
 use Rattle.scen_defs.specs.declared.report.Kind.{Kind}

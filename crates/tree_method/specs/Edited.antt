@@ -1,7 +1,7 @@
 -- The method behind an edit of its program: which pools are swept for what the edit touches.
 use Rattle.std.specs.Prelude.{◌≡◌, ◌<◌, Bool, true, false, length, List, [], Option, None, Ok, Err}
 use Rattle.rationals.specs.Passes.{Operation}
-use Rattle.scen_defs.specs.Lists.{pick}
+use Rattle.rationals.specs.Choices.{pick}
 use Rattle.scen_defs.specs.declared.report.Kind.TheVariants.{Feasible}
 use Rattle.scen_defs.specs.declared.report.Place.TheVariants.{Dual}
 use Rattle.scen_defs.specs.Program.{Node, Program, view_of}

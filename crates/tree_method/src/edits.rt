@@ -1,5 +1,6 @@
 //! How the method goes on behind an edit of its program.
 ghost use Rattle.std.specs.Prelude.{◌≡◌, ℕ, [], ◌∷◌, false, List, IfOk, IfNone, OnOk, MatchOption};
+ghost use Rattle.rationals.specs.Choices.{pick};
 ghost use Rattle.scen_defs.specs.Program.{content, Program as ProgramOf};
 ghost use Rattle.scen_defs.specs.declared.report.Kind.TheVariants.{Feasible};
 ghost use Rattle.edit_defs.specs.After.{after};
@@ -12,7 +13,6 @@ ghost use Rattle.pass_core.specs.Versions.{next_versions};
 ghost use Rattle.pass_core.specs.declared.budget.Budget.{Budget as BudgetOf};
 ghost use Rattle.pass_core.specs.Explained.{IsUnstopped};
 ghost use Rattle.run_data.specs.Frames.{frame_of};
-ghost use Rattle.scen_defs.specs.Lists.{pick};
 ghost use Rattle.tree_method.specs.Edited.{is_grown, dues_of, fit_versions, KeepsTabled, ClearsStop, IsEdited, HasNoTree};
 ghost use Rattle.edit_defs.specs.declared.edit.Edit.{Edit as EditOf};
 ghost use Rattle.tree_method.specs.Stands.{StandsOn, GoesOn, CarriesVersions};

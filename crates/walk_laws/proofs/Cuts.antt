@@ -5,7 +5,7 @@ use Rattle.rationals.specs.Rational.{ℚ, zero_ℚ, at_most}
 use Rattle.rationals.specs.Forms.{put}
 use Rattle.rationals.specs.Sparse.{Entry, coefficient}
 use Rattle.rationals.specs.Passes.{Operation, then_walk}
-use Rattle.scen_defs.specs.Lists.{pick}
+use Rattle.rationals.specs.Choices.{pick}
 use Rattle.scen_defs.specs.declared.program.NodeRow.{NodeRow}
 use Rattle.scen_defs.specs.Ends.{used_end}
 use Rattle.scen_defs.specs.Values.{At, at}

@@ -9,9 +9,10 @@ use Rattle.rationals.specs.Forms.{put}
 use Rattle.rationals.specs.Sparse.{Entry, coefficient}
 use Rattle.rationals.specs.Passes.{Operation, then_walk}
 use Rattle.rationals.specs.Totals.{sum_from}
+use Rattle.rationals.specs.Choices.{pick}
 use Rattle.smps_words.specs.declared.row_kind.RowKind.{RowKind}
 use Rattle.smps_words.specs.declared.row_kind.RowKind.TheVariants.{Less, Greater, Equal}
-use Rattle.scen_defs.specs.Lists.{Each, pick}
+use Rattle.scen_defs.specs.Lists.{Each}
 use Rattle.scen_defs.specs.declared.program.NodeRow.{NodeRow}
 use Rattle.cut_defs.specs.declared.datum.ColumnBounds.{ColumnBounds}
 use Rattle.cut_defs.specs.declared.datum.Share.{Share}

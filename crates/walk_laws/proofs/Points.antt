@@ -9,7 +9,8 @@ use Rattle.rationals.specs.Forms.{is_zero, put, put_unless, add_scaled_walk}
 use Rattle.rationals.specs.Sparse.{Entry}
 use Rattle.rationals.specs.Passes.{Operation, answer, too_wide, passes, value_of, walk, mul_walk}
 use Rattle.rationals.proofs.OrderMeaning.{walk_fits}
-use Rattle.scen_defs.specs.Lists.{Each, pick}
+use Rattle.rationals.specs.Choices.{pick}
+use Rattle.scen_defs.specs.Lists.{Each}
 use Rattle.scen_defs.proofs.SumLaws.{each-map}
 use Rattle.scen_defs.proofs.ValueLaws.{each-push}
 use Rattle.scen_model.specs.Gathered.{Fits}

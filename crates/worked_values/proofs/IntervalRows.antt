@@ -3,8 +3,8 @@ use Rattle.std.proofs.Common.{◌≡◌, ◌∙◌, Bool, true, false, Some, Res
 use Rattle.rationals.specs.declared.Op.TheVariants.{Add, Sub}
 use Rattle.rationals.specs.Rational.{ℚ, ◌÷◌, ◌+ℚ◌, ◌-ℚ◌, ◌≤ℚ◌, ◌<ℚ◌, neg_ℚ, zero_ℚ, reduce, smaller, divides, nat_divides, at_most, at_most_true, at_most_false, not_le_of_lt_ℚ, by_ring, terms}
 use Rattle.rationals.specs.Passes.{Operation, too_wide, answer, then_walk}
+use Rattle.rationals.specs.Choices.{pick}
 use Rattle.smps_words.specs.declared.row_kind.RowKind.TheVariants.{Less, Greater, Equal}
-use Rattle.scen_defs.specs.Lists.{pick}
 use Rattle.smps_build.specs.Single.{Interval, size, interval_walk}
 use Rattle.worked_values.specs.IntervalValues.{IntervalsAreAsDocumented}
 

@@ -1,6 +1,6 @@
 use Rattle.std.proofs.Common.{◌+◌, Ok, sym, ap, ◌∙◌}
 use Rattle.std.proofs.lemmas.Result.{err_from_is_err_and}
-use Rattle.scen_defs.specs.Lists.{pick}
+use Rattle.rationals.specs.Choices.{pick}
 use Rattle.scen_defs.specs.Program.{content, view_of}
 use Rattle.scen_defs.specs.Flat.{is_above}
 use Rattle.scen_defs.specs.Values.{at}

@@ -3,7 +3,7 @@ use Rattle.std.proofs.lemmas.List.{at_drop_more}
 use Rattle.std.proofs.lemmas.Bool.Decides.{nat_tests}
 use Rattle.rationals.specs.Sparse.{Entry}
 use Rattle.rationals.specs.Forms.{EndsBelow, put}
-use Rattle.scen_defs.specs.Lists.{pick}
+use Rattle.rationals.specs.Choices.{pick}
 use Rattle.smps_build.proofs.BelowLemmas.{below-more}
 use Rattle.stoch_defs.specs.Entries.{no_column}
 use Rattle.tree_build.specs.Base.{base_costs}

@@ -1,6 +1,5 @@
 use Rattle.std.proofs.Common.{◌≡◌, None, IfSome, OnOk, refl, sym, ap, subst, ◌∙◌}
 use Rattle.scen_defs.specs.Program.{content, node_at}
-use Rattle.scen_defs.specs.Lists.{pick}
 use Rattle.scen_defs.specs.declared.report.Place.{Place}
 use Rattle.scen_defs.specs.declared.report.Place.TheVariants.{Solve, Cut}
 use Rattle.node_lp.specs.declared.solved.Solved.{Solved}
@@ -16,6 +15,7 @@ use Rattle.pass_core.proofs.Explaining.{then_kept, left_kept, point_gives, point
 use Rattle.pass_core.specs.Made.{run_book, IsMadeAbout, KeepsMade}
 use Rattle.pass_core.proofs.Making.{then_made}
 use Rattle.rationals.specs.Passes.{Operation}
+use Rattle.rationals.specs.Choices.{pick}
 use Rattle.run_ends.specs.Costs.{joined_cost}
 use Rattle.pass_core.specs.Reasons.{PassesAtCost, Halts, cost_halts, solve_halts, IsAtSolve, IsOfSolve, GainsReasons}
 use Rattle.pass_core.proofs.Reasoning.{stopped_reasons, told_at, solve_reasons, stuck_wider}
