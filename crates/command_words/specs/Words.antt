@@ -1,10 +1,11 @@
 -- The words of a command.
-use Rattle.std.specs.Prelude.{◌≡◌, ℕ, ◌+◌, ◌*◌, ◌-◌, Bool, true, false, List, [], ◌∷◌, ◌++◌, length, Option, Some, None}
+use Rattle.std.specs.Prelude.{◌≡◌, ℕ, Bool, true, false, List, [], ◌∷◌, ◌++◌, length, Option, Some, None}
 use Rattle.std.specs.Prelude.{is_none, map, option_map}
 use Rattle.std.specs.Prelude.{if◌then◌else◌, nat_eq, leb, ltb, ◌==◌, not, ◌&&◌, codes}
 use Rattle.std.specs.Cmp.Lexicographic.{pointwise}
 use Rattle.std.specs.Coded.{Coded-set, coded_list, coded_option, coded_ℕ}
 use Rattle.std.specs.List.{position_or_len, before_first, after_first}
+use Rattle.frac128.specs.Numbers.{is_digit, number_from}
 use Rattle.command_words.specs.declared.flag.Flag.{Flag}
 use Rattle.command_words.specs.declared.flag.Flag.TheVariants.{Core, Time, Stoch, Edits, Report, Solves, Pivots, Workers}
 use Rattle.command_words.specs.declared.flag.Flag.TheVariants.{Start, Stages, Branches, Size, Text}
@@ -19,18 +20,10 @@ abbrev pub is_value : List ℕ → Bool
 is_value [] = false
 is_value (byte ∷ _) = not (nat_eq byte 45)
 
--- a digit stands from 48 on
-abbrev pub is_digit : ℕ → Bool
-is_digit byte = leb 48 byte && leb byte 57
-
+-- each byte is a digit
 abbrev pub are_digits : List ℕ → Bool
 are_digits [] = true
 are_digits (byte ∷ bytes) = is_digit byte && are_digits bytes
-
--- the number of some digits behind those that are read
-abbrev pub number_from : ℕ → List ℕ → ℕ
-number_from read [] = read
-number_from read (byte ∷ bytes) = number_from (read * 10 + (byte - 48)) bytes
 
 -- a number has 1 to 10 decimal digits
 abbrev pub number_of : List ℕ → Option ℕ

@@ -1,6 +1,7 @@
 //! The values of options.
 ghost use Rattle.std.specs.Prelude.{◌≡◌, ◌≤◌, true, length, IfSome};
-ghost use Rattle.command_words.specs.Words.{is_value, is_digit, are_digits, number_from, number_of, number_within};
+ghost use Rattle.frac128.specs.Numbers.{is_digit, number_from};
+ghost use Rattle.command_words.specs.Words.{is_value, are_digits, number_of, number_within};
 
 /// A number has at most so many digits.
 const MOST_DIGITS: usize = 10;

@@ -8,6 +8,7 @@ use Rattle.smps_words.specs.Field.{IsField}
 use Rattle.smps_words.specs.Names.{IsNumbered}
 use Rattle.smps_build.proofs.CoreFits.{numbered_differ}
 use Rattle.rationals.specs.Rational.{one_ℚ}
+use Rattle.frac128.specs.Numbers.{number_from}
 use Rattle.stoch_defs.specs.Random.{Block, Branch}
 use Rattle.scen_defs.specs.Lists.{Each}
 use Rattle.scen_defs.specs.Program.{Scenario}
@@ -40,10 +41,6 @@ digits_are (suc room) n = go (nat_lt n 10) (digits_are room (n / 10))
     go false rest = each_append IsDigit (digits_in room (n / 10)) ((48 + n % 10) ∷ []) rest (omega arith, tt)
 
 -- the number that digits make
-abbrev number_from : ℕ → List ℕ → ℕ
-number_from n [] = n
-number_from n (b ∷ bs) = number_from (n * 10 + (b - 48)) bs
-
 number_push : (n : ℕ) (bs : List ℕ) (b : ℕ) → number_from n (bs ++ b ∷ []) ≡ number_from n bs * 10 + (b - 48)
 number_push n [] b = refl
 number_push n (c ∷ bs) b = number_push (n * 10 + (c - 48)) bs b

@@ -1,5 +1,6 @@
 use Rattle.std.proofs.Common.{◌≡◌, ◌<◌, ◌^◌, true, drop}
-use Rattle.command_words.specs.Words.{are_digits, number_from}
+use Rattle.frac128.specs.Numbers.{number_from}
+use Rattle.command_words.specs.Words.{are_digits}
 use Rattle.command_words.proofs.value.number_of_digits.Given as goal
 
 abbrev pub invariant-loop-byte : goal.invariant-loop-byte
