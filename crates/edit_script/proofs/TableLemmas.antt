@@ -3,10 +3,10 @@ use Rattle.std.proofs.Common.{◌≡◌, ◌∙◌, ap, suc, length, List, [], �
 use Rattle.scen_defs.specs.Program.{Program}
 use Rattle.scen_defs.specs.declared.program.Column.{Column}
 use Rattle.scen_defs.specs.declared.program.Row.{Row}
+use Rattle.scen_defs.specs.Names.{column_names, row_names}
 use Rattle.edit_defs.specs.After.{after}
 use Rattle.edit_defs.specs.declared.edit.Edit.{Edit}
 use Rattle.edit_defs.specs.declared.edit.Edit.TheVariants.{Set, Prob, Drop, Add}
-use Rattle.edit_script.specs.Commands.{column_names, row_names}
 use Rattle.edit_script.specs.Tables.{HasTables}
 use Rattle.edit_script.specs.declared.tables.Tables.{Tables}
 

@@ -1,5 +1,5 @@
 -- What a command of an edit list means for a program, and why it is refused.
-use Rattle.std.specs.Prelude.{⊤, ℕ, nat_eq, Bool, ◌||◌, List, [], ◌∷◌, map, codes, Option, Some, None, Result, Ok, Err}
+use Rattle.std.specs.Prelude.{⊤, ℕ, nat_eq, Bool, ◌||◌, List, [], ◌∷◌, codes, Option, Some, None, Result, Ok, Err}
 use Rattle.std.specs.Prelude.{if◌then◌else◌}
 use Rattle.smps_words.specs.Names.{same_name, place_of}
 use Rattle.smps_words.specs.declared.entry.Entry.{Entry}
@@ -8,8 +8,7 @@ use Rattle.refusals.specs.declared.cause.Cause.{Cause}
 use Rattle.refusals.specs.declared.cause.Cause.TheVariants as cause
 use Rattle.refusals.specs.Results.{◌>>=◌, needs}
 use Rattle.core_defs.specs.Number.{number_of}
-use Rattle.scen_defs.specs.declared.program.Column.{Column}
-use Rattle.scen_defs.specs.declared.program.Row.{Row}
+use Rattle.scen_defs.specs.Names.{column_names, row_names}
 use Rattle.scen_defs.specs.Program.{Program}
 use Rattle.smps_words.specs.Field.{IsField}
 use Rattle.edit_defs.specs.declared.edit.Edit.{Edit}
@@ -23,12 +22,6 @@ use Rattle.edit_script.specs.declared.command.Command.TheVariants.{Change, Work,
 use Rattle.edit_script.specs.Numbers.{count_of, inner_number}
 
 -- ---- entries: a column and the objective, a column and a row, or the set of right-hand sides and a row
-abbrev pub column_names : List Column → List (List ℕ)
-column_names columns = map (λ (c : Column). c.name) columns
-
-abbrev pub row_names : List Row → List (List ℕ)
-row_names rows = map (λ (r : Row). r.name) rows
-
 abbrev pub matrix_entry : ℕ → Option ℕ → Option Entry
 matrix_entry j None = None
 matrix_entry j (Some i) = Some (Matrix i j)

@@ -1,8 +1,8 @@
 -- The tables of a program's names.
 use Rattle.std.specs.Prelude.{◌≡◌}
 use Rattle.scen_defs.specs.Program.{Program}
+use Rattle.scen_defs.specs.Names.{column_names, row_names}
 use Rattle.edit_script.specs.declared.tables.Tables.{Tables}
-use Rattle.edit_script.specs.Commands.{column_names, row_names}
 
 -- the columns' and the rows' names by their numbers
 pub record HasTables (p : Program) (tables : Tables) : Type 0 where

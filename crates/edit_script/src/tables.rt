@@ -2,7 +2,7 @@
 ghost use Rattle.std.specs.Prelude.{◌≡◌, IfOk, OnOk};
 ghost use Rattle.scen_defs.specs.Program.{content};
 ghost use Rattle.scen_defs.specs.Valid.{Differ};
-ghost use Rattle.edit_script.specs.Commands.{column_names, row_names};
+ghost use Rattle.scen_defs.specs.Names.{column_names, row_names};
 ghost use Rattle.edit_script.specs.Tables.{HasTables};
 
 use edit_defs::{Edit, place_near};

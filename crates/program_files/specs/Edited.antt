@@ -1,11 +1,10 @@
 -- The script and the reports that two further texts mean for the program, and why they mean none.
-use Rattle.std.specs.Prelude.{◌≡◌, ◌⊎◌, ℕ, List, [], Option, Some, None, Result, Ok, Err, map}
+use Rattle.std.specs.Prelude.{◌≡◌, ◌⊎◌, ℕ, List, [], Option, Some, None, Result, Ok, Err}
 use Rattle.refusals.specs.declared.cause.Refusal.{Refusal}
 use Rattle.core_defs.specs.declared.program.Core.{Core}
 use Rattle.scen_defs.specs.Program.{Program, content}
+use Rattle.scen_defs.specs.Names.{column_names, row_names}
 use Rattle.scen_defs.specs.declared.program.Program.{Program as ProgramOf}
-use Rattle.scen_defs.specs.declared.program.Column.{Column}
-use Rattle.scen_defs.specs.declared.program.Row.{Row}
 use Rattle.scen_defs.specs.declared.report.Report.{Report}
 use Rattle.edit_defs.specs.declared.edit.Item.{Item}
 use Rattle.edit_script.specs.Script.{script_of}
@@ -35,8 +34,8 @@ pub record MeansReports (texts : Texts) (most : ℕ) (program : ProgramOf) (repo
 -- the reports of a report file, so many at most, with the names of the program's columns and rows; where there is none, these are none
 abbrev pub reports_for : ℕ → Program → Option (List ℕ) → Result (List Report) Refusal
 reports_for most p text = read_text (record {
-  columns = map (λ (column : Column). column.name) p.columns;
-  rows = map (λ (row : Row). row.name) p.rows;
+  columns = column_names p.columns;
+  rows = row_names p.rows;
   most = most;
 }) (or_empty text)
 

@@ -8,8 +8,9 @@ use Rattle.std.proofs.lemmas.List.{append-nil}
 use Rattle.scen_defs.specs.Valid.{AreNames}
 use Rattle.scen_defs.specs.declared.program.Program.{Program}
 use Rattle.scen_defs.specs.declared.report.Report.{Report}
+use Rattle.scen_defs.specs.Names.{column_names, row_names}
 use Rattle.report_defs.specs.Findings.{has_direction, has_ray}
-use Rattle.report_text.specs.Text.{finding_text, end_text, extra_text, list_text, column_names, row_names, report_text}
+use Rattle.report_text.specs.Text.{finding_text, end_text, extra_text, list_text, report_text}
 use Rattle.report_reader.specs.Lines.{blank_report, fresh, from_ray, from_dual, from_direction}
 use Rattle.report_laws.specs.Printable.{IsPrintable, ArePrintable}
 use Rattle.report_laws.specs.Law.{PrintedAreRead}
@@ -24,7 +25,7 @@ lines_joined : (r x n y s z e st f lo l up u c p d v w en t : List ℕ)
     ++ (e ++ (st ++ (f ++ (lo ++ (l ++ (up ++ (u ++ (c ++ (p ++ (d ++ (v ++ (w ++ (en ++ t)))))))))))))
 lines_joined r x n y s z e st f lo l up u c p d v w en t = simp append_assoc refl
 
-module _ (most : ℕ) (program : Program) (columns : AreNames (column_names program)) (rows : AreNames (row_names program))
+module _ (most : ℕ) (program : Program) (columns : AreNames (column_names program.columns.items)) (rows : AreNames (row_names program.rows.items))
     (reports : List Report) where
   abbrev States : List Report → Draft → List ℕ → Type 0
   States = Stated most program reports
@@ -33,8 +34,8 @@ module _ (most : ℕ) (program : Program) (columns : AreNames (column_names prog
       → r.number < 2 ^ 32
       → States (done ++ r ∷ []) (fresh (length done + 2)) text → States done (fresh r.number) (report_text program r ++ text)
   report_read done r text h few small later =
-      let columns_of : List (List ℕ) = column_names program in
-      let rows_of : List (List ℕ) = row_names program in
+      let columns_of : List (List ℕ) = column_names program.columns.items in
+      let rows_of : List (List ℕ) = row_names program.rows.items in
       let policy : List ℕ = list_text (codes "POLICY ") columns_of r.policy in
       let direction : List ℕ = list_text (codes "DIRECTION ") columns_of r.direction in
       let dual : List ℕ = list_text (codes "DUAL ") rows_of r.dual in

@@ -15,7 +15,8 @@ use Rattle.scen_defs.specs.Values.{At, Rises}
 use Rattle.scen_defs.specs.declared.program.Program.{Program}
 use Rattle.scen_defs.specs.declared.report.Finding.TheVariants.{Infeasible, Unbounded}
 use Rattle.scen_defs.specs.declared.report.Report.{Report}
-use Rattle.report_text.specs.Text.{value_text, list_text, column_names, row_names}
+use Rattle.scen_defs.specs.Names.{column_names, row_names}
+use Rattle.report_text.specs.Text.{value_text, list_text}
 use Rattle.report_reader.specs.Answers.{on_ok}
 use Rattle.report_reader.specs.Pieces.{after}
 use Rattle.report_reader.specs.Numbers.{count}
@@ -47,7 +48,7 @@ module _ (most : ℕ) (program : Program) where
     pub value_goes_on : (left : ℕ) → is_head (value left) ≡ false
     pub goes_on : (r : Report) → is_head (behind r) ≡ false
 
-  pub policy_list : IsList (codes "POLICY ") (column_names program) (λ list r. record r { policy = list })
+  pub policy_list : IsList (codes "POLICY ") (column_names program.columns.items) (λ list r. record r { policy = list })
       (from_policy (record (blank_report 0) { upper = Some zero_ℚ })) from_direction
   policy_list = record {
     value = λ left. _;
@@ -58,7 +59,7 @@ module _ (most : ℕ) (program : Program) where
     goes_on = direction_goes_on;
   }
 
-  pub direction_list : IsList (codes "DIRECTION ") (column_names program) (λ list r. record r { direction = list })
+  pub direction_list : IsList (codes "DIRECTION ") (column_names program.columns.items) (λ list r. record r { direction = list })
       (from_direction (record (blank_report 0) { finding = Unbounded })) from_dual
   direction_list = record {
     value = λ left. _;
@@ -69,7 +70,7 @@ module _ (most : ℕ) (program : Program) where
     goes_on = dual_goes_on;
   }
 
-  pub dual_list : IsList (codes "DUAL ") (row_names program) (λ list r. record r { dual = list })
+  pub dual_list : IsList (codes "DUAL ") (row_names program.rows.items) (λ list r. record r { dual = list })
       (from_dual (record (blank_report 0) { lower = Some zero_ℚ })) from_ray
   dual_list = record {
     value = λ left. _;
@@ -80,7 +81,7 @@ module _ (most : ℕ) (program : Program) where
     goes_on = ray_goes_on;
   }
 
-  pub ray_list : IsList (codes "RAY ") (row_names program) (λ list r. record r { ray = list })
+  pub ray_list : IsList (codes "RAY ") (row_names program.rows.items) (λ list r. record r { ray = list })
       (from_ray (record (blank_report 0) { finding = Infeasible })) (λ r. end_next)
   ray_list = record {
     value = λ left. _;

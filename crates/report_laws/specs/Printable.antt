@@ -10,7 +10,7 @@ use Rattle.scen_defs.specs.declared.report.Place.TheVariants.{Solve, Cut, Cost, 
 use Rattle.scen_defs.specs.declared.report.Finding.{Finding}
 use Rattle.scen_defs.specs.declared.report.Finding.TheVariants.{Optimal, Infeasible, Unbounded, OpenSolves, OpenPivots, OpenPassed}
 use Rattle.scen_defs.specs.declared.report.Report.{Report}
-use Rattle.report_text.specs.Text.{column_names, row_names}
+use Rattle.scen_defs.specs.Names.{column_names, row_names}
 use Rattle.report_reader.specs.Stated.{HasParts}
 
 -- a fraction of 128 bits
@@ -70,10 +70,10 @@ pub record IsPrintable (program : Program) (number : ℕ) (report : Report) : Ty
   pub lower : IfSome report.lower IsNarrow
   pub upper : IfSome report.upper IsNarrow
   pub extra : IfSome report.extra IsNarrow
-  pub policy : IfSome report.policy (AreOver (length (column_names program)))
-  pub direction : IfSome report.direction (AreOver (length (column_names program)))
-  pub dual : IfSome report.dual (AreOver (length (row_names program)))
-  pub ray : IfSome report.ray (AreOver (length (row_names program)))
+  pub policy : IfSome report.policy (AreOver (length (column_names program.columns.items)))
+  pub direction : IfSome report.direction (AreOver (length (column_names program.columns.items)))
+  pub dual : IfSome report.dual (AreOver (length (row_names program.rows.items)))
+  pub ray : IfSome report.ray (AreOver (length (row_names program.rows.items)))
 
 -- reports that are numbered from this number on
 abbrev pub ArePrintable : Program → ℕ → List Report → Type 0

@@ -18,8 +18,9 @@ use Rattle.scen_defs.specs.declared.program.Program.{Program}
 use Rattle.scen_defs.specs.declared.report.Finding.{Finding}
 use Rattle.scen_defs.specs.declared.report.Finding.TheVariants.{Optimal, Infeasible, Unbounded, OpenSolves, OpenPivots, OpenPassed}
 use Rattle.scen_defs.specs.declared.report.Report.{Report}
+use Rattle.scen_defs.specs.Names.{column_names, row_names}
 use Rattle.report_defs.specs.Findings.{has_direction, has_ray, has_extra}
-use Rattle.report_text.specs.Text.{finding_text, end_text, extra_text, value_text, list_text, column_names, row_names, head_text, ends_text, lists_text, report_text}
+use Rattle.report_text.specs.Text.{finding_text, end_text, extra_text, value_text, list_text, head_text, ends_text, lists_text, report_text}
 use Rattle.refusals.specs.declared.cause.Cause.{Cause}
 use Rattle.refusals.specs.declared.cause.Cause.TheVariants as cause
 use Rattle.refusals.specs.declared.cause.Refusal.{Refusal}
@@ -197,25 +198,25 @@ module _ (most : ℕ) (program : Program) where
   -- a list that is filed stands behind those before it
   filed_text : (kind : ListKind) (list : List At) (r : Report) → Ready kind r → base program (filed kind list r) ≡ base program r ++ list_text (list_word kind) (names_of (tables_of most program) kind) (Some list)
   filed_text lists.Policy list r h =
-      in_policy (head_text r ++ ends_text r) (list_text (codes "POLICY ") (column_names program) (Some list))
-      (list_text (codes "POLICY ") (column_names program) r.policy) (list_text (codes "DIRECTION ") (column_names program) r.direction)
-      (list_text (codes "DUAL ") (row_names program) r.dual) (list_text (codes "RAY ") (row_names program) r.ray)
-      (none_text (codes "POLICY ") (column_names program) h.1) (none_text (codes "DIRECTION ") (column_names program) h.2) (none_text (codes "DUAL ") (row_names program) h.3) (none_text (codes "RAY ") (row_names program) h.4)
+      in_policy (head_text r ++ ends_text r) (list_text (codes "POLICY ") (column_names program.columns.items) (Some list))
+      (list_text (codes "POLICY ") (column_names program.columns.items) r.policy) (list_text (codes "DIRECTION ") (column_names program.columns.items) r.direction)
+      (list_text (codes "DUAL ") (row_names program.rows.items) r.dual) (list_text (codes "RAY ") (row_names program.rows.items) r.ray)
+      (none_text (codes "POLICY ") (column_names program.columns.items) h.1) (none_text (codes "DIRECTION ") (column_names program.columns.items) h.2) (none_text (codes "DUAL ") (row_names program.rows.items) h.3) (none_text (codes "RAY ") (row_names program.rows.items) h.4)
   filed_text lists.Direction list r h =
-      in_direction (head_text r ++ ends_text r) (list_text (codes "DIRECTION ") (column_names program) (Some list))
-      (list_text (codes "POLICY ") (column_names program) r.policy) (list_text (codes "DIRECTION ") (column_names program) r.direction)
-      (list_text (codes "DUAL ") (row_names program) r.dual) (list_text (codes "RAY ") (row_names program) r.ray)
-      (none_text (codes "DIRECTION ") (column_names program) h.2) (none_text (codes "DUAL ") (row_names program) h.3) (none_text (codes "RAY ") (row_names program) h.4)
+      in_direction (head_text r ++ ends_text r) (list_text (codes "DIRECTION ") (column_names program.columns.items) (Some list))
+      (list_text (codes "POLICY ") (column_names program.columns.items) r.policy) (list_text (codes "DIRECTION ") (column_names program.columns.items) r.direction)
+      (list_text (codes "DUAL ") (row_names program.rows.items) r.dual) (list_text (codes "RAY ") (row_names program.rows.items) r.ray)
+      (none_text (codes "DIRECTION ") (column_names program.columns.items) h.2) (none_text (codes "DUAL ") (row_names program.rows.items) h.3) (none_text (codes "RAY ") (row_names program.rows.items) h.4)
   filed_text lists.Dual list r h =
-      in_dual (head_text r ++ ends_text r) (list_text (codes "DUAL ") (row_names program) (Some list))
-      (list_text (codes "POLICY ") (column_names program) r.policy) (list_text (codes "DIRECTION ") (column_names program) r.direction)
-      (list_text (codes "DUAL ") (row_names program) r.dual) (list_text (codes "RAY ") (row_names program) r.ray)
-      (none_text (codes "DUAL ") (row_names program) h.3) (none_text (codes "RAY ") (row_names program) h.4)
+      in_dual (head_text r ++ ends_text r) (list_text (codes "DUAL ") (row_names program.rows.items) (Some list))
+      (list_text (codes "POLICY ") (column_names program.columns.items) r.policy) (list_text (codes "DIRECTION ") (column_names program.columns.items) r.direction)
+      (list_text (codes "DUAL ") (row_names program.rows.items) r.dual) (list_text (codes "RAY ") (row_names program.rows.items) r.ray)
+      (none_text (codes "DUAL ") (row_names program.rows.items) h.3) (none_text (codes "RAY ") (row_names program.rows.items) h.4)
   filed_text lists.Ray list r h =
-      in_ray (head_text r ++ ends_text r) (list_text (codes "RAY ") (row_names program) (Some list))
-      (list_text (codes "POLICY ") (column_names program) r.policy) (list_text (codes "DIRECTION ") (column_names program) r.direction)
-      (list_text (codes "DUAL ") (row_names program) r.dual) (list_text (codes "RAY ") (row_names program) r.ray)
-      (none_text (codes "RAY ") (row_names program) h.4)
+      in_ray (head_text r ++ ends_text r) (list_text (codes "RAY ") (row_names program.rows.items) (Some list))
+      (list_text (codes "POLICY ") (column_names program.columns.items) r.policy) (list_text (codes "DIRECTION ") (column_names program.columns.items) r.direction)
+      (list_text (codes "DUAL ") (row_names program.rows.items) r.dual) (list_text (codes "RAY ") (row_names program.rows.items) r.ray)
+      (none_text (codes "RAY ") (row_names program.rows.items) h.4)
 
   filed_fits : (kind : ListKind) (list : List At) (r : Report) → Ready kind r → wanted kind r ≡ true → Arrives (behind kind r) (filed kind list r)
   filed_fits lists.Policy list r h w = at_direction (filed lists.Policy list r) (h.0, sym w, h.2, h.3, h.4)

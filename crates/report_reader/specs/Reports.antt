@@ -5,6 +5,7 @@ use Rattle.rationals.specs.Replies.Reply.{Says, Silent}
 use Rattle.rationals.specs.Choices.{pick}
 use Rattle.scen_defs.specs.declared.program.Program.{Program}
 use Rattle.scen_defs.specs.declared.report.Report.{Report}
+use Rattle.scen_defs.specs.Names.{column_names, row_names}
 use Rattle.refusals.specs.declared.cause.Cause.{Cause}
 use Rattle.refusals.specs.declared.cause.Cause.TheVariants as cause
 use Rattle.refusals.specs.declared.cause.Refusal.{Refusal}
@@ -13,7 +14,6 @@ use Rattle.refusals.specs.declared.cause.ReadFail.TheVariants.{Refused, Memory}
 use Rattle.refusals.specs.Results.{on_line}
 use Rattle.report_reader.specs.declared.fault.Fault.{Fault}
 use Rattle.report_reader.specs.declared.fault.Fault.TheVariants as fault
-use Rattle.report_text.specs.Text.{column_names, row_names}
 use Rattle.report_reader.specs.declared.draft.Next.{Next}
 use Rattle.report_reader.specs.declared.draft.Next.TheVariants as next
 use Rattle.report_reader.specs.declared.draft.Draft.{Draft}
@@ -55,7 +55,7 @@ reads tables done draft number (line ∷ lines) rest =
 
 -- the names of a program, and how many reports there may be
 abbrev pub tables_of : ℕ → Program → Tables
-tables_of most program = record { columns = column_names program; rows = row_names program; most = most }
+tables_of most program = record { columns = column_names program.columns.items; rows = row_names program.rows.items; most = most }
 
 -- the reports of a text with these names
 abbrev pub read_text : Tables → List ℕ → Result (List Report) Refusal

@@ -1,7 +1,7 @@
 //! The names of a program by number.
 ghost use Rattle.std.specs.Prelude.{◌≡◌, IfOk};
-ghost use Rattle.report_text.specs.Text.{column_names, row_names};
 ghost use Rattle.scen_defs.specs.Valid.{Differ};
+ghost use Rattle.scen_defs.specs.Names.{column_names, row_names};
 ghost use Rattle.report_reader.specs.Lines.{names_of};
 ghost use Rattle.report_reader.specs.Reports.{tables_of};
 
@@ -32,8 +32,8 @@ pub(crate) fn names_of(tables: &Tables, kind: ListKind) -> &Names
 }
 
 fn column_table(alloc: Global, program: &Program) -> Result<Names, Memory>
-    requires { Differ (column_names program.now) }
-    ensures { IfOk result (λ names. names ≡ column_names program.now) }
+    requires { Differ (column_names program.now.columns.items) }
+    ensures { IfOk result (λ names. names ≡ column_names program.now.columns.items) }
 {
     let mut names = Names::empty(alloc);
     for column in &program.columns {
@@ -43,8 +43,8 @@ fn column_table(alloc: Global, program: &Program) -> Result<Names, Memory>
 }
 
 fn row_table(alloc: Global, program: &Program) -> Result<Names, Memory>
-    requires { Differ (row_names program.now) }
-    ensures { IfOk result (λ names. names ≡ row_names program.now) }
+    requires { Differ (row_names program.now.rows.items) }
+    ensures { IfOk result (λ names. names ≡ row_names program.now.rows.items) }
 {
     let mut names = Names::empty(alloc);
     for row in &program.rows {

@@ -1,5 +1,5 @@
 -- The text of a report: its lines in order, each ended by a line feed (10), its fields separated by one space (32).
-use Rattle.std.specs.Prelude.{ℕ, List, [], ◌∷◌, ◌++◌, Option, Some, None, length, map, codes, slice_index_or}
+use Rattle.std.specs.Prelude.{ℕ, List, [], ◌∷◌, ◌++◌, Option, Some, None, length, codes, slice_index_or}
 use Rattle.std.specs.List.{flat_map}
 use Rattle.std.specs.Fmt.{decimal}
 use Rattle.rationals.specs.Rational.{ℚ}
@@ -8,6 +8,7 @@ use Rattle.rationals.specs.declared.Op.{Op}
 use Rattle.rationals.specs.declared.Op.TheVariants.{Add, Sub, Mul, Div}
 use Rattle.frac128.specs.Text.{text_of}
 use Rattle.scen_defs.specs.Values.{At}
+use Rattle.scen_defs.specs.Names.{column_names, row_names}
 use Rattle.scen_defs.specs.declared.program.Program.{Program}
 use Rattle.scen_defs.specs.declared.report.Place.{Place}
 use Rattle.scen_defs.specs.declared.report.Place.TheVariants.{Solve, Cut, Cost, Ground, Dual, Check}
@@ -69,12 +70,6 @@ list_text word names (Some values) = word ++ decimal (length values) ++ 10 ∷ f
 
 -- ---- the report
 
-abbrev pub column_names : Program → List (List ℕ)
-column_names program = map (λ column. column.name) program.columns.items
-
-abbrev pub row_names : Program → List (List ℕ)
-row_names program = map (λ row. row.name) program.rows.items
-
 abbrev pub head_text : Report → List ℕ
 head_text report =
     codes "REPORT " ++ decimal report.number ++ codes " NODES " ++ decimal report.nodes ++ codes " SCENARIOS " ++ decimal report.scenarios
@@ -95,9 +90,10 @@ ends_text report = outcome_then report (extra_text report.finding report.extra)
 
 abbrev pub lists_text : Program → Report → List ℕ
 lists_text program report =
-    list_text (codes "POLICY ") (column_names program) report.policy
-    ++ list_text (codes "DIRECTION ") (column_names program) report.direction
-    ++ list_text (codes "DUAL ") (row_names program) report.dual ++ list_text (codes "RAY ") (row_names program) report.ray
+    list_text (codes "POLICY ") (column_names program.columns.items) report.policy
+    ++ list_text (codes "DIRECTION ") (column_names program.columns.items) report.direction
+    ++ list_text (codes "DUAL ") (row_names program.rows.items) report.dual
+    ++ list_text (codes "RAY ") (row_names program.rows.items) report.ray
 
 abbrev pub report_text : Program → Report → List ℕ
 report_text program report = head_text report ++ ends_text report ++ lists_text program report ++ codes "END\n"

@@ -1,8 +1,9 @@
 //! The lists of a report.
 ghost use Rattle.std.specs.Prelude.{◌≡◌, ◌<◌, ◌++◌, ℕ, List, IfSome, IfOk, OnOk, length, map, slice_index_or, option_map};
 ghost use Rattle.std.specs.List.{flat_map};
-ghost use Rattle.report_text.specs.Text.{value_text, list_text, lists_text, column_names, row_names};
+ghost use Rattle.report_text.specs.Text.{value_text, list_text, lists_text};
 ghost use Rattle.scen_defs.specs.Fits.{HaveNames, ListsHaveNames};
+ghost use Rattle.scen_defs.specs.Names.{column_names, row_names};
 
 use crate::pieces::{put, put_count};
 use frac128::{Memory, print};
@@ -30,7 +31,7 @@ pub(crate) fn put_lists(
 
 /// The names of the columns in their order.
 fn column_names<'a>(alloc: Global, program: &'a Program) -> Result<Vec<&'a Name>, Memory>
-    ensures { IfOk result (λ names. map (λ name. name.now) names.items ≡ column_names program.now) }
+    ensures { IfOk result (λ names. map (λ name. name.now) names.items ≡ column_names program.now.columns.items) }
 {
     let mut names = Vec::new(alloc);
     for column in &program.columns {
@@ -41,7 +42,7 @@ fn column_names<'a>(alloc: Global, program: &'a Program) -> Result<Vec<&'a Name>
 
 /// The names of the rows in their order.
 fn row_names<'a>(alloc: Global, program: &'a Program) -> Result<Vec<&'a Name>, Memory>
-    ensures { IfOk result (λ names. map (λ name. name.now) names.items ≡ row_names program.now) }
+    ensures { IfOk result (λ names. map (λ name. name.now) names.items ≡ row_names program.now.rows.items) }
 {
     let mut names = Vec::new(alloc);
     for row in &program.rows {

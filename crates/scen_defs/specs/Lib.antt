@@ -3,6 +3,7 @@ pub mod Ends
 pub mod Values
 pub mod Trees
 pub mod Program
+pub mod Names
 pub mod Flat
 pub mod Valid
 pub mod ValidProofs

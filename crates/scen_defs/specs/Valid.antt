@@ -11,6 +11,7 @@ use Rattle.rationals.specs.Sparse.{Entry}
 use Rattle.scen_defs.specs.Lists.{Each, is_in, places, passes_at}
 use Rattle.rationals.specs.Intervals.{InOrder}
 use Rattle.scen_defs.specs.Trees.{Node, Scenario, Program, is_live, node_at}
+use Rattle.scen_defs.specs.Names.{column_names, row_names}
 use Rattle.scen_defs.specs.declared.program.Column.{Column}
 use Rattle.scen_defs.specs.declared.program.Row.{Row}
 use Rattle.scen_defs.specs.declared.program.NodeRow.{NodeRow}
@@ -107,8 +108,8 @@ pub record IsSmall (p : Program) : Type 0 where
 -- the names of periods, columns, rows and scenarios
 pub record HasNames (p : Program) : Type 0 where
   pub periods : AreNames p.periods
-  pub columns : AreNames (map (λ (c : Column). c.name) p.columns)
-  pub rows : AreNames (map (λ (r : Row). r.name) p.rows)
+  pub columns : AreNames (column_names p.columns)
+  pub rows : AreNames (row_names p.rows)
   pub scenarios : AreNames (map (λ (s : Scenario). s.name) p.scenarios)
 
 pub record IsProgram (p : Program) : Type 0 where

@@ -2,8 +2,8 @@
 use Rattle.std.proofs.Common.{◌≡◌, List, ℕ, subst, sym, None}
 use Rattle.smps_words.specs.Names.{place_of}
 use Rattle.scen_defs.specs.declared.program.Row.{Row}
-use Rattle.edit_script.specs.Commands.{row_names}
 use Rattle.scen_defs.proofs.NewNames.{next_is_new}
+use Rattle.scen_defs.specs.Names.{row_names}
 use Rattle.edit_script.proofs.tables.row_table.Goals as goal
 
 pub add-requires : goal.add-requires

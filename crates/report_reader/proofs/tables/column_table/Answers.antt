@@ -1,8 +1,8 @@
 use Rattle.std.proofs.Common.{◌≡◌, ◌<◌, List, ℕ, length, get_or, subst, sym, None}
 use Rattle.smps_words.specs.Names.{place_of}
 use Rattle.scen_defs.specs.declared.program.Column.{Column}
-use Rattle.report_text.specs.Text.{column_names}
 use Rattle.scen_defs.proofs.NewNames.{next_is_new}
+use Rattle.scen_defs.specs.Names.{column_names}
 use Rattle.report_reader.proofs.tables.column_table.Goals as goal
 
 pub add-requires : goal.add-requires

@@ -1,6 +1,6 @@
 use Rattle.std.proofs.Common.{◌≡◌, ◌++◌, map, drop}
-use Rattle.report_text.specs.Text.{column_names}
+use Rattle.scen_defs.specs.Names.{column_names}
 use Rattle.report_reader.proofs.tables.column_table.Given as goal
 
 abbrev pub invariant-loop-column : goal.invariant-loop-column
-invariant-loop-column l = l.names ++ map (λ column. column.name) (drop l.column-index l.program.columns.items) ≡ column_names l.program
+invariant-loop-column l = l.names ++ map (λ column. column.name) (drop l.column-index l.program.columns.items) ≡ column_names l.program.columns.items

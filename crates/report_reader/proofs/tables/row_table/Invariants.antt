@@ -1,6 +1,6 @@
 use Rattle.std.proofs.Common.{◌≡◌, ◌++◌, map, drop}
-use Rattle.report_text.specs.Text.{row_names}
+use Rattle.scen_defs.specs.Names.{row_names}
 use Rattle.report_reader.proofs.tables.row_table.Given as goal
 
 abbrev pub invariant-loop-row : goal.invariant-loop-row
-invariant-loop-row l = l.names ++ map (λ row. row.name) (drop l.row-index l.program.rows.items) ≡ row_names l.program
+invariant-loop-row l = l.names ++ map (λ row. row.name) (drop l.row-index l.program.rows.items) ≡ row_names l.program.rows.items
