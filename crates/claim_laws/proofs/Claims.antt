@@ -20,12 +20,13 @@ use Rattle.scen_defs.specs.Program.{View, IsTree}
 use Rattle.scen_defs.specs.Flat.{cost, value, without_costs}
 use Rattle.scen_defs.proofs.Duality.{weak_duality}
 use Rattle.report_defs.specs.Seen.{seen}
+use Rattle.report_defs.specs.Blank.{blank_report}
 use Rattle.proved_report.specs.declared.open.Open.{Open}
 use Rattle.proved_report.specs.declared.claim.Claim.{Claim}
 use Rattle.proved_report.specs.declared.claim.Claim.TheVariants.{Ends, Nowhere, Endless}
 use Rattle.proved_report.specs.Open.{finding_of}
 use Rattle.proved_report.specs.Tested.{or_before, by_cost, policy_test, dual_test, direction_test, ray_test}
-use Rattle.proved_report.specs.Reports.{blank_report, ends_report, ray_report, falling_report, claimed_report}
+use Rattle.proved_report.specs.Reports.{ends_report, ray_report, falling_report, claimed_report}
 use Rattle.claim_laws.specs.Held.{OptimumHolds, RayHolds, CostFalls, ClaimHolds, finding_for, TellsTest}
 use Rattle.claim_laws.specs.Laws.{ClaimsShow}
 use Rattle.claim_laws.proofs.Passing.{IsWide}

@@ -10,6 +10,7 @@ use Rattle.scen_defs.specs.declared.report.Place.TheVariants.{Dual}
 use Rattle.scen_defs.specs.declared.report.Report.{Report}
 use Rattle.report_defs.specs.Seen.{seen}
 use Rattle.report_defs.specs.Truth.{IsTrue}
+use Rattle.report_defs.specs.Blank.{blank_report}
 use Rattle.proved_report.specs.declared.claim.Claim.{Claim}
 use Rattle.proved_report.specs.declared.claim.Claim.TheVariants.{Ends, Nowhere, Endless}
 use Rattle.proved_report.specs.declared.open.Open.{Open}
@@ -17,7 +18,7 @@ use Rattle.proved_report.specs.declared.tested.Tested.{Tested}
 use Rattle.proved_report.specs.declared.tested.Tested.TheVariants.{Shows, Fails, Passes}
 use Rattle.proved_report.specs.Open.{given, finding_of}
 use Rattle.proved_report.specs.Tested.{or_before, policy_test, direction_test, ray_test, some_policy_test, some_dual_test}
-use Rattle.proved_report.specs.Reports.{IsFilled, IsClaimed, claimed_report, blank_report, ends_report, ray_report, falling_report}
+use Rattle.proved_report.specs.Reports.{IsFilled, IsClaimed, claimed_report, ends_report, ray_report, falling_report}
 use Rattle.proved_report.proofs.ShownLemmas.{policy-shown, direction-shown, ray-shown, some-policy-shown, some-dual-shown, policy-names, direction-names, ray-names, some-policy-names, some-dual-names}
 use Rattle.proved_report.proofs.ReportLemmas.{IsLeftOpen, left-open, before-given, ends_true, ends_names, nowhere_true, nowhere_names, endless_true, endless_names}
 

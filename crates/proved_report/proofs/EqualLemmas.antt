@@ -1,5 +1,6 @@
 -- A report of a claim isn't left open where its ends are equal.
 use Rattle.std.proofs.Common.{◌≡◌, ℕ, Bool, true, Option, Some, None, Result, Ok, Err, IfOk, sym, ap, ap₂, subst, ◌∙◌}
+use Rattle.report_defs.specs.Blank.{blank_report}
 use Rattle.rationals.specs.Rational.{ℚ}
 use Rattle.rationals.specs.Order.{same}
 use Rattle.rationals.specs.Choices.{pick}
@@ -15,7 +16,7 @@ use Rattle.proved_report.specs.declared.open.Open.{Open}
 use Rattle.proved_report.specs.declared.claim.Claim.{Claim}
 use Rattle.proved_report.specs.declared.claim.Claim.TheVariants.{Ends, Nowhere, Endless}
 use Rattle.proved_report.specs.Open.{finding_of}
-use Rattle.proved_report.specs.Reports.{blank_report, ends_report, ray_report, falling_report, claimed_report, IsClaimed, EqualIsOptimal}
+use Rattle.proved_report.specs.Reports.{ends_report, ray_report, falling_report, claimed_report, IsClaimed, EqualIsOptimal}
 use Rattle.proved_report.specs.Tested.{or_before, policy_test, direction_test, ray_test, some_policy_test, some_dual_test}
 
 none_some : {A : Type 0} (x : A) → ◌≡◌ {A = Option A} None (Some x) → ⊥

@@ -1,5 +1,6 @@
 -- The finding of a report of a claim that is left open: where the operation that it tells stands.
 use Rattle.std.proofs.Common.{◌≡◌, ◌⊎◌, ℕ, Bool, true, false, List, Option, Some, None, inl, inr, subst}
+use Rattle.report_defs.specs.Blank.{blank_report}
 use Rattle.rationals.specs.Order.{same}
 use Rattle.rationals.specs.Passes.{Operation, passes}
 use Rattle.rationals.specs.Choices.{pick}
@@ -19,7 +20,7 @@ use Rattle.proved_report.specs.declared.claim.Claim.TheVariants.{Ends, Nowhere, 
 use Rattle.proved_report.specs.Open.{finding_of}
 use Rattle.proved_report.specs.Passing.{PassesInPoint, PassesInMultipliers, PassesInTest}
 use Rattle.proved_report.specs.Tested.{or_before, policy_test, direction_test, ray_test, some_policy_test, some_dual_test}
-use Rattle.proved_report.specs.Reports.{ends_report, ray_report, falling_report, blank_report, claimed_report}
+use Rattle.proved_report.specs.Reports.{ends_report, ray_report, falling_report, claimed_report}
 
 -- ---- the finding of a report that is left open, and its reason
 picked : (holds : Bool) (at place : Place) (p o : Operation) (solves : ℕ) → pick holds (OpenPassed at p) (OpenSolves solves) ≡ OpenPassed place o

@@ -24,8 +24,9 @@ use Rattle.proved_report.specs.declared.tested.Tested.{Tested}
 use Rattle.proved_report.specs.declared.tested.Tested.TheVariants.{Shows, Fails, Passes}
 use Rattle.proved_report.specs.Open.{given, finding_of}
 use Rattle.report_defs.specs.Seen.{seen}
+use Rattle.report_defs.specs.Blank.{blank_report}
 use Rattle.proved_report.specs.Tested.{or_before}
-use Rattle.proved_report.specs.Reports.{IsFilled, blank_report, ends_report, ray_report, falling_report}
+use Rattle.proved_report.specs.Reports.{IsFilled, ends_report, ray_report, falling_report}
 use Rattle.proved_report.proofs.ShownLemmas.{IfShown, IsSlope, HasNames}
 use Rattle.proved_report.proofs.CountLemmas.{node_places, scenario_places}
 

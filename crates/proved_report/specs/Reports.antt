@@ -12,27 +12,12 @@ use Rattle.scen_defs.specs.declared.report.Report.{Report}
 use Rattle.proved_report.specs.declared.tested.Tested.{Tested}
 use Rattle.proved_report.specs.declared.tested.Tested.TheVariants.{Shows, Fails, Passes}
 use Rattle.report_defs.specs.Seen.{seen}
+use Rattle.report_defs.specs.Blank.{blank_report}
 use Rattle.proved_report.specs.Tested.{shown_number, or_before, policy_test, direction_test, ray_test, some_policy_test, some_dual_test}
 use Rattle.proved_report.specs.declared.open.Open.{Open}
 use Rattle.proved_report.specs.declared.claim.Claim.{Claim}
 use Rattle.proved_report.specs.declared.claim.Claim.TheVariants.{Ends, Nowhere, Endless}
 use Rattle.proved_report.specs.Open.{finding_of}
-
--- a report without ends and lists
-abbrev pub blank_report : ℕ → ℕ → ℕ → Finding → Report
-blank_report number nodes scenarios finding = record {
-  number = number;
-  nodes = nodes;
-  scenarios = scenarios;
-  finding = finding;
-  lower = None;
-  upper = None;
-  extra = None;
-  policy = None;
-  direction = None;
-  dual = None;
-  ray = None;
-}
 
 -- equal ends are OPTIMAL
 abbrev pub ends_finding : Option ℚ → Option ℚ → Finding → Finding

@@ -1,4 +1,5 @@
 pub mod Seen
+pub mod Blank
 pub mod Shows
 pub mod Findings
 pub mod Truth

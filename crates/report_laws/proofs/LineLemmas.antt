@@ -14,13 +14,14 @@ use Rattle.scen_defs.specs.declared.report.Finding.{Finding}
 use Rattle.scen_defs.specs.declared.report.Finding.TheVariants.{Optimal, Infeasible, Unbounded, OpenSolves, OpenPivots, OpenPassed}
 use Rattle.scen_defs.specs.declared.report.Report.{Report}
 use Rattle.report_defs.specs.Findings.{has_direction, has_ray, has_extra}
+use Rattle.report_defs.specs.Blank.{blank_report}
 use Rattle.report_text.specs.Text.{finding_text, end_text, extra_text}
 use Rattle.refusals.specs.declared.cause.Cause.{Cause}
 use Rattle.refusals.specs.declared.cause.Refusal.{Refusal}
 use Rattle.refusals.specs.Results.{on_line}
 use Rattle.report_reader.specs.Answers.{bad}
 use Rattle.report_reader.specs.Pieces.{Lines, lines_of}
-use Rattle.report_reader.specs.Lines.{blank_report, fresh, from_ray, from_dual, from_direction, from_policy, from_extra, head_line}
+use Rattle.report_reader.specs.Lines.{fresh, from_ray, from_dual, from_direction, from_policy, from_extra, head_line}
 use Rattle.report_reader.specs.Lines.{status_line, lower_line, upper_line, extra_word, extra_line, line_at, step}
 use Rattle.report_reader.specs.Reports.{tables_of, is_head, done_behind, draft_behind, reads}
 use Rattle.report_laws.specs.Printable.{IsNarrow, IsSized}
@@ -46,7 +47,7 @@ draft_at next r = record { report = r; list = []; next = next }
 
 -- the line END, which comes behind all lists
 abbrev pub end_next : Next
-end_next = from_ray (blank_report 0)
+end_next = from_ray (blank_report 0 0 0 Optimal)
 
 -- ---- which line comes next: that of a report that goes on
 
@@ -124,7 +125,7 @@ module _ (most : ℕ) (program : Program) (reports : List Report) where
         (next : Next) → Takes next status_line → States done (draft_at next (record r { nodes = n; scenarios = s })) text
 
     pub head_read : (i n s : ℕ) (text : List ℕ) → i ≤ most → i < 2 ^ 32 → n < 2 ^ 32 → s < 2 ^ 32
-        → AfterCounts (blank_report i) n s text → States done (fresh i) (counts (decimal i) (decimal n) (decimal s) ++ 10 ∷ text)
+        → AfterCounts (blank_report i 0 0 Optimal) n s text → States done (fresh i) (counts (decimal i) (decimal n) (decimal s) ++ 10 ∷ text)
     head_read i n s text m h k l later =
         let few : nat_lt most i ≡ false = grind (arith, nat_tests, m) in
         let own : nat_eq i i ≡ true = eq-eqb i i refl in
@@ -132,7 +133,7 @@ module _ (most : ℕ) (program : Program) (reports : List Report) where
         let behind_i : List ℕ = codes "NODES " ++ (decimal n ++ (codes " SCENARIOS " ++ decimal s)) in
         let behind_n : List ℕ = codes "SCENARIOS " ++ decimal s in
         line_read done (fresh i) _ line text (counts_lack i n s h k l)
-        (ap (λ (b : Bool). pick b bad (head_line (blank_report i) line)) few
+        (ap (λ (b : Bool). pick b bad (head_line (blank_report i 0 0 Optimal) line)) few
         ∙ then_ok (decimal i, behind_i) _ (field_word (decimal i) behind_i (small_lacks 32 i (omega arith) h))
         (then_ok i _ (small_read i h)
         (then_ok (decimal n, behind_n) _ (field_word (decimal n) behind_n (small_lacks 32 n (omega arith) k))

@@ -10,8 +10,10 @@ use Rattle.scen_defs.specs.declared.program.Program.{Program}
 use Rattle.scen_defs.specs.declared.report.Report.{Report}
 use Rattle.scen_defs.specs.Names.{column_names, row_names}
 use Rattle.report_defs.specs.Findings.{has_direction, has_ray}
+use Rattle.scen_defs.specs.declared.report.Finding.TheVariants.{Optimal}
+use Rattle.report_defs.specs.Blank.{blank_report}
 use Rattle.report_text.specs.Text.{finding_text, end_text, extra_text, list_text, report_text}
-use Rattle.report_reader.specs.Lines.{blank_report, fresh, from_ray, from_dual, from_direction}
+use Rattle.report_reader.specs.Lines.{fresh, from_ray, from_dual, from_direction}
 use Rattle.report_laws.specs.Printable.{IsPrintable, ArePrintable}
 use Rattle.report_laws.specs.Law.{PrintedAreRead}
 use Rattle.report_laws.proofs.LineLemmas.{Draft, end_next, States as Stated, head_read, status_read, lower_read, upper_read}
@@ -52,7 +54,7 @@ module _ (most : ℕ) (program : Program) (columns : AreNames (column_names prog
       let at_lower : List ℕ = (codes "LOWER " ++ end_text r.lower) ++ 10 ∷ at_upper in
       let at_status : List ℕ = (codes "STATUS " ++ finding_text r.finding) ++ 10 ∷ at_lower in
       -- the report with the parts before that
-      let to_status : Report = record (blank_report r.number) { nodes = r.nodes; scenarios = r.scenarios } in
+      let to_status : Report = record (blank_report r.number 0 0 Optimal) { nodes = r.nodes; scenarios = r.scenarios } in
       let to_lower : Report = record to_status { finding = r.finding } in
       let to_upper : Report = record to_lower { lower = r.lower } in
       let to_extra : Report = record to_upper { upper = r.upper } in

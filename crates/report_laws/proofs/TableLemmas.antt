@@ -6,6 +6,7 @@ use Rattle.std.specs.List.{flat_map}
 use Rattle.std.specs.Fmt.{decimal}
 use Rattle.std.proofs.lemmas.Bool.{ne_eqb}
 use Rattle.std.proofs.lemmas.List.{append-nil}
+use Rattle.report_defs.specs.Blank.{blank_report}
 use Rattle.rationals.specs.Rational.{zero_ℚ}
 use Rattle.rationals.specs.Choices.{pick}
 use Rattle.frac128.specs.Text.{text_of}
@@ -13,14 +14,14 @@ use Rattle.scen_defs.specs.Lists.{Each}
 use Rattle.scen_defs.specs.Valid.{AreNames}
 use Rattle.scen_defs.specs.Values.{At, Rises}
 use Rattle.scen_defs.specs.declared.program.Program.{Program}
-use Rattle.scen_defs.specs.declared.report.Finding.TheVariants.{Infeasible, Unbounded}
+use Rattle.scen_defs.specs.declared.report.Finding.TheVariants.{Optimal, Infeasible, Unbounded}
 use Rattle.scen_defs.specs.declared.report.Report.{Report}
 use Rattle.scen_defs.specs.Names.{column_names, row_names}
 use Rattle.report_text.specs.Text.{value_text, list_text}
 use Rattle.report_reader.specs.Answers.{on_ok}
 use Rattle.report_reader.specs.Pieces.{after}
 use Rattle.report_reader.specs.Numbers.{count}
-use Rattle.report_reader.specs.Lines.{blank_report, from_ray, from_dual, from_direction, from_policy, line_at, value_line}
+use Rattle.report_reader.specs.Lines.{from_ray, from_dual, from_direction, from_policy, line_at, value_line}
 use Rattle.report_reader.specs.Reports.{tables_of, is_head}
 use Rattle.report_laws.specs.Printable.{IsOneOf, AreOver}
 use Rattle.report_laws.proofs.WordLemmas.{lacks, lacks-append, then_ok, after_word, count_lacks}
@@ -49,7 +50,7 @@ module _ (most : ℕ) (program : Program) where
     pub goes_on : (r : Report) → is_head (behind r) ≡ false
 
   pub policy_list : IsList (codes "POLICY ") (column_names program.columns.items) (λ list r. record r { policy = list })
-      (from_policy (record (blank_report 0) { upper = Some zero_ℚ })) from_direction
+      (from_policy (record (blank_report 0 0 0 Optimal) { upper = Some zero_ℚ })) from_direction
   policy_list = record {
     value = λ left. _;
     first_is = λ r line. refl;
@@ -60,7 +61,7 @@ module _ (most : ℕ) (program : Program) where
   }
 
   pub direction_list : IsList (codes "DIRECTION ") (column_names program.columns.items) (λ list r. record r { direction = list })
-      (from_direction (record (blank_report 0) { finding = Unbounded })) from_dual
+      (from_direction (record (blank_report 0 0 0 Optimal) { finding = Unbounded })) from_dual
   direction_list = record {
     value = λ left. _;
     first_is = λ r line. refl;
@@ -71,7 +72,7 @@ module _ (most : ℕ) (program : Program) where
   }
 
   pub dual_list : IsList (codes "DUAL ") (row_names program.rows.items) (λ list r. record r { dual = list })
-      (from_dual (record (blank_report 0) { lower = Some zero_ℚ })) from_ray
+      (from_dual (record (blank_report 0 0 0 Optimal) { lower = Some zero_ℚ })) from_ray
   dual_list = record {
     value = λ left. _;
     first_is = λ r line. refl;
@@ -82,7 +83,7 @@ module _ (most : ℕ) (program : Program) where
   }
 
   pub ray_list : IsList (codes "RAY ") (row_names program.rows.items) (λ list r. record r { ray = list })
-      (from_ray (record (blank_report 0) { finding = Infeasible })) (λ r. end_next)
+      (from_ray (record (blank_report 0 0 0 Optimal) { finding = Infeasible })) (λ r. end_next)
   ray_list = record {
     value = λ left. _;
     first_is = λ r line. refl;

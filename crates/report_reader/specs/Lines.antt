@@ -9,6 +9,7 @@ use Rattle.scen_defs.specs.Values.{At}
 use Rattle.scen_defs.specs.declared.report.Finding.{Finding}
 use Rattle.scen_defs.specs.declared.report.Finding.TheVariants.{Optimal, Infeasible, Unbounded, OpenSolves, OpenPivots, OpenPassed}
 use Rattle.scen_defs.specs.declared.report.Report.{Report}
+use Rattle.report_defs.specs.Blank.{blank_report}
 use Rattle.report_defs.specs.Findings.{has_direction, has_ray, has_extra}
 use Rattle.refusals.specs.declared.cause.Cause.{Cause}
 use Rattle.report_reader.specs.declared.draft.ListKind.{ListKind}
@@ -24,24 +25,9 @@ use Rattle.report_reader.specs.Findings.{finding_of}
 
 -- ---- what comes next
 
-abbrev pub blank_report : ℕ → Report
-blank_report number = record {
-  number = number;
-  nodes = 0;
-  scenarios = 0;
-  finding = Optimal;
-  lower = None;
-  upper = None;
-  extra = None;
-  policy = None;
-  direction = None;
-  dual = None;
-  ray = None;
-}
-
 -- nothing is read of the report with this number
 abbrev pub fresh : ℕ → Draft
-fresh number = record { report = blank_report number; list = []; next = next.Head }
+fresh number = record { report = blank_report number 0 0 Optimal; list = []; next = next.Head }
 
 -- the next line, where that of this list or of one behind it comes: each list stands there where the table has it
 abbrev pub from_ray : Report → Next

@@ -1,10 +1,11 @@
 use Rattle.std.proofs.Common.{◌≡◌, sym, ap, ap₂, subst, ◌∙◌}
+use Rattle.report_defs.specs.Blank.{blank_report}
 use Rattle.scen_defs.specs.declared.report.Finding.{Finding}
 use Rattle.proved_report.specs.declared.open.Open.{Open}
 use Rattle.proved_report.specs.declared.tested.Tested.{Tested}
 use Rattle.proved_report.specs.Open.{finding_of}
 use Rattle.proved_report.specs.Tested.{or_before, policy_test, direction_test}
-use Rattle.proved_report.specs.Reports.{IsFilled, blank_report, falling_report}
+use Rattle.proved_report.specs.Reports.{IsFilled, falling_report}
 use Rattle.proved_report.proofs.ReportLemmas.{endless_filled}
 use Rattle.proved_report.proofs.ClaimLemmas.{endless_claimed}
 use Rattle.proved_report.proofs.reports.endless.Goals as goal

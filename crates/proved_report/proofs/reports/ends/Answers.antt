@@ -1,11 +1,12 @@
 use Rattle.std.proofs.Common.{◌≡◌, sym, ap, ap₂, subst, ◌∙◌}
+use Rattle.report_defs.specs.Blank.{blank_report}
 use Rattle.scen_defs.specs.declared.report.Finding.{Finding}
 use Rattle.scen_defs.specs.declared.report.Place.TheVariants.{Dual}
 use Rattle.proved_report.specs.declared.open.Open.{Open}
 use Rattle.proved_report.specs.declared.tested.Tested.{Tested}
 use Rattle.proved_report.specs.Open.{finding_of}
 use Rattle.proved_report.specs.Tested.{or_before, some_policy_test, some_dual_test}
-use Rattle.proved_report.specs.Reports.{IsFilled, blank_report, ends_report}
+use Rattle.proved_report.specs.Reports.{IsFilled, ends_report}
 use Rattle.proved_report.proofs.ReportLemmas.{ends_filled}
 use Rattle.proved_report.proofs.ClaimLemmas.{ends_claimed}
 use Rattle.proved_report.proofs.reports.ends.Goals as goal

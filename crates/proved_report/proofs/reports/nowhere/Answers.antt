@@ -1,11 +1,12 @@
 use Rattle.std.proofs.Common.{◌≡◌, sym, ap, subst, ◌∙◌}
+use Rattle.report_defs.specs.Blank.{blank_report}
 use Rattle.scen_defs.specs.declared.report.Finding.{Finding}
 use Rattle.scen_defs.specs.declared.report.Place.TheVariants.{Dual}
 use Rattle.proved_report.specs.declared.open.Open.{Open}
 use Rattle.proved_report.specs.declared.tested.Tested.{Tested}
 use Rattle.proved_report.specs.Open.{finding_of}
 use Rattle.proved_report.specs.Tested.{or_before, ray_test}
-use Rattle.proved_report.specs.Reports.{IsFilled, blank_report, ray_report}
+use Rattle.proved_report.specs.Reports.{IsFilled, ray_report}
 use Rattle.proved_report.proofs.ReportLemmas.{nowhere_filled}
 use Rattle.proved_report.proofs.ClaimLemmas.{nowhere_claimed}
 use Rattle.proved_report.proofs.reports.nowhere.Goals as goal
