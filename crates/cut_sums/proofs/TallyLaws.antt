@@ -6,12 +6,11 @@ use Rattle.rationals.specs.Rational.{ℚ, zero_ℚ, one_ℚ, neg_ℚ, ◌+ℚ◌
 use Rattle.rationals.specs.Ring.Eqs.{done, by_eq}
 use Rattle.rationals.specs.Sparse.{Entry, Ascending, coefficient, value_if}
 use Rattle.rationals.specs.Forms.{EndsBelow}
-use Rattle.rationals.specs.Passes.{Operation, answer, too_wide, add_product_walk, less_product_walk, then_walk}
+use Rattle.rationals.specs.Passes.{Operation, answer, too_wide, add_product_walk, less_product_walk, then_walk, IsNarrow}
 use Rattle.rationals.proofs.WalkLaws.{step_value}
 use Rattle.frac128.proofs.FormLemmas.{value_here, value_past, value_none, rises_from, drop_read}
 use Rattle.scen_defs.specs.Lists.{Each}
 use Rattle.scen_model.specs.Walks.{less_from}
-use Rattle.scen_model.specs.Gathered.{Fits}
 use Rattle.rationals.proofs.OrderMeaning.{mul_walk_zero}
 use Rattle.rationals.specs.Choices.{pick}
 use Rattle.scen_model.proofs.Reduces.{nothing, product_fits}
@@ -32,14 +31,14 @@ answered : {X P : Type 0} (b : Bool) (p : P) (x y : X) → answer b p x ≡ Ok y
 answered true p x y e = absurd (cc)
 answered false p x y e = (refl, cc)
 
-gives : (r q : ℚ) → r ≡ q → Fits q → (p : Operation) → answer (too_wide r) p r ≡ Ok q
+gives : (r q : ℚ) → r ≡ q → IsNarrow q → (p : Operation) → answer (too_wide r) p r ≡ Ok q
 gives r q e f p = ap (λ z. answer (too_wide z) p z) e ∙ ap (λ b. answer b p q) f
 
 -- a sum that fits is what the step comes to
-pub stepped : (s w u q : ℚ) → q ≡ s +ℚ w *ℚ u → Fits q → add_product_walk s w u ≡ Ok q
+pub stepped : (s w u q : ℚ) → q ≡ s +ℚ w *ℚ u → IsNarrow q → add_product_walk s w u ≡ Ok q
 stepped s w u q e f = gives (s +ℚ w *ℚ u) q (sym e) f _
 
-pub adds_nothing : (s w u : ℚ) → Fits s → w *ℚ u ≡ zero_ℚ → add_product_walk s w u ≡ Ok s
+pub adds_nothing : (s w u : ℚ) → IsNarrow s → w *ℚ u ≡ zero_ℚ → add_product_walk s w u ≡ Ok s
 adds_nothing s w u f e = stepped s w u s (sym (ap (λ q. s +ℚ q) e ∙ add_zero_ℚ s)) f
 
 pub one_times : (a b : ℚ) → a ≡ one_ℚ → b ≡ a *ℚ b
@@ -119,25 +118,25 @@ module _ (tally new : List Entry) (i : ℕ) (x y t : Entry) (w v : ℚ) (a : Asc
   pub sum_rises : Ascending 0 new
   sum_rises = let A : List Entry → Type 0 = λ l. Ascending 0 l in subst A (sym is) (still_rises 0 i tally y (drop (i + 1) tally) v a left)
 
-  pub sum_moves : v ≡ y.value +ℚ w *ℚ t.value → Fits v → MovesColumns (weighted_from w t) tally new
+  pub sum_moves : v ≡ y.value +ℚ w *ℚ t.value → IsNarrow v → MovesColumns (weighted_from w t) tally new
   sum_moves e f j g = go (eqb t.column j) refl
     where
       there : coefficient new j ≡ pick (eqb t.column j) v (coefficient tally j)
       there = ap (λ l. coefficient l j) is ∙ written 0 i tally y (drop (i + 1) tally) v j a left ∙ ap (λ c. pick (eqb c j) v (coefficient tally j)) here
 
-      go : (b : Bool) → eqb t.column j ≡ b → (pick b (add_product_walk (coefficient tally j) w t.value) (Ok (coefficient tally j)) ≡ Ok (coefficient new j)) × Fits (coefficient new j)
+      go : (b : Bool) → eqb t.column j ≡ b → (pick b (add_product_walk (coefficient tally j) w t.value) (Ok (coefficient tally j)) ≡ Ok (coefficient new j)) × IsNarrow (coefficient new j)
       go true p =
           let now : coefficient new j ≡ v = there ∙ ap (λ b. pick b v (coefficient tally j)) p in
           let old : y.value ≡ coefficient tally j = read_from 0 i tally y (drop (i + 1) tally) j a left (here ∙ eqb-true t.column j p) in
-          (stepped (coefficient tally j) w t.value (coefficient new j) (now ∙ e ∙ ap (λ q. q +ℚ w *ℚ t.value) old) (subst Fits (sym now) f), subst Fits (sym now) f)
+          (stepped (coefficient tally j) w t.value (coefficient new j) (now ∙ e ∙ ap (λ q. q +ℚ w *ℚ t.value) old) (subst IsNarrow (sym now) f), subst IsNarrow (sym now) f)
       go false p =
           let now : coefficient new j ≡ coefficient tally j = there ∙ ap (λ b. pick b v (coefficient tally j)) p in
-          (ap (λ q. Ok q) (sym now), subst Fits (sym now) g)
+          (ap (λ q. Ok q) (sym now), subst IsNarrow (sym now) g)
 
 -- ---- passes
 -- what is left to do from the numbers now is what there was to do from those at the start
 abbrev pub Remains : {A : Type 0} → (ℕ → ℚ → A → Result ℚ Operation) → List Entry → A → List Entry → A → Type 0
-Remains walk now rest start all = (j : ℕ) → Fits (coefficient start j) → (walk j (coefficient now j) rest ≡ walk j (coefficient start j) all) × Fits (coefficient now j)
+Remains walk now rest start all = (j : ℕ) → IsNarrow (coefficient start j) → (walk j (coefficient now j) rest ≡ walk j (coefficient start j) all) × IsNarrow (coefficient now j)
 
 pub remains_start : {A : Type 0} (walk : ℕ → ℚ → A → Result ℚ Operation) (start : List Entry) (all : A) → Remains walk start all start all
 remains_start walk start all j f = (refl, f)
@@ -171,7 +170,7 @@ only : (w : Result ℚ Operation) (t : ℚ) (f : ℚ → Result ℚ Operation) �
 only (Ok u) t f h e = sym (h u) ∙ e
 only (Err p) t f h e = absurd (cc)
 
-weighted_sum : (c j : ℕ) (w s t : ℚ) (es : List Entry) → Ascending c es → Fits s → all_weighted_from w j s es ≡ Ok t → add_product_walk s w (coefficient es j) ≡ Ok t
+weighted_sum : (c j : ℕ) (w s t : ℚ) (es : List Entry) → Ascending c es → IsNarrow s → all_weighted_from w j s es ≡ Ok t → add_product_walk s w (coefficient es j) ≡ Ok t
 weighted_sum c j w s t [] a f e = adds_nothing s w zero_ℚ f (mul_zero_ℚ w) ∙ e
 weighted_sum c j w s t (d ∷ es) a f e = go (eqb d.column j) refl (weighted_sum (suc d.column) j w s t es a.1 f) e
   where
@@ -205,18 +204,18 @@ zeros_are (e ∷ es) j h = ap₂ (λ v q. value_if (eqb e.column j) v +ℚ q) h.
     both true = refl
     both false = refl
 
-zero_fits : Fits zero_ℚ
+zero_fits : IsNarrow zero_ℚ
 zero_fits = product_fits zero_ℚ zero_ℚ zero_ℚ (mul_walk_zero zero_ℚ)
 
-pub costs_added : (es old new : List Entry) (j : ℕ) → AreZeros old → MovesColumns (λ j s. add_product_walk s one_ℚ (coefficient es j)) old new → (coefficient new j ≡ coefficient es j) × Fits (coefficient new j)
+pub costs_added : (es old new : List Entry) (j : ℕ) → AreZeros old → MovesColumns (λ j s. add_product_walk s one_ℚ (coefficient es j)) old new → (coefficient new j ≡ coefficient es j) × IsNarrow (coefficient new j)
 costs_added es old new j z moves =
     let none : coefficient old j ≡ zero_ℚ = zeros_are old j z.zeros in
-    let m = moves j (subst Fits (sym none) zero_fits) in
+    let m = moves j (subst IsNarrow (sym none) zero_fits) in
     let v : coefficient new j ≡ coefficient old j +ℚ one_ℚ *ℚ coefficient es j = step_value Add (coefficient old j) one_ℚ (coefficient es j) (coefficient new j) m.0 in
     (v ∙ ap (λ q. q +ℚ one_ℚ *ℚ coefficient es j) none ∙ by_ring (coefficient es j ∷ []) (search terms depth 40) tt, m.1)
 
-pub no_costs : (old : List Entry) (j : ℕ) → AreZeros old → (coefficient old j ≡ zero_ℚ) × Fits (coefficient old j)
-no_costs old j z = let none : coefficient old j ≡ zero_ℚ = zeros_are old j z.zeros in (none, subst Fits (sym none) zero_fits)
+pub no_costs : (old : List Entry) (j : ℕ) → AreZeros old → (coefficient old j ≡ zero_ℚ) × IsNarrow (coefficient old j)
+no_costs old j z = let none : coefficient old j ≡ zero_ℚ = zeros_are old j z.zeros in (none, subst IsNarrow (sym none) zero_fits)
 
 pub bound_costs : (d : Datum) (k : CutKind) (one : ℚ) (es old new : List Entry) → k ≡ Bound → one ≡ one_ℚ → es ≡ d.cost → AreZeros old → MovesColumns (λ j q. add_product_walk q one (coefficient es j)) old new → AreCosts d k new
 bound_costs d k one es old new kind unit same z moves j =

@@ -7,9 +7,8 @@ use Rattle.std.specs.Prelude.{unsigned_abs}
 use Rattle.rationals.specs.Integers.{fromZ, reif}
 use Rattle.rationals.specs.Ring.Eqs.{done, by_eq}
 use Rattle.rationals.specs.Rational.{ℚ, ◌÷◌, ◌+ℚ◌, ◌*ℚ◌, frac_is, frac_same, frac-add, zero_ℚ, zero_mul_ℚ, mul_zero_ℚ}
-use Rattle.rationals.specs.Passes.{wide, unless, fitted, add_product_walk}
+use Rattle.rationals.specs.Passes.{wide, unless, fitted, add_product_walk, IsNarrow}
 use Rattle.rationals.proofs.IntLemmas.{abs-times}
-use Rattle.scen_model.specs.Gathered.{Fits}
 use Rattle.cut_sums.specs.Unreduced.{IsUnreduced}
 use Rattle.cut_sums.proofs.TallyLaws.{stepped, adds_nothing}
 
@@ -44,7 +43,7 @@ least_num n d h = scaled (unsigned_abs (n ÷ d).num) (unsigned_abs n) d (n ÷ d)
 not_wide : (m n : ℕ) → m ≤ n → n < 2 ^ 127 → wide m ≡ false
 not_wide m n h k = lt-leb (2 ^ 127) m (omega (arith, h, k))
 
-pub lowest_fits : (n : ℤ) (d : ℕ) → IsUnreduced n d → Fits (n ÷ d)
+pub lowest_fits : (n : ℤ) (d : ℕ) → IsUnreduced n d → IsNarrow (n ÷ d)
 lowest_fits n d u =
     ap₂ (λ (a b : Bool). a || b) (not_wide (unsigned_abs (n ÷ d).num) (unsigned_abs n) (least_num n d u.above_zero) u.num_fits)
     (not_wide (n ÷ d).den d (least_den n d u.above_zero) u.den_fits)
@@ -56,11 +55,11 @@ over_is n p z sum left right d e u v common also hd he hu zs s l r c a same =
     ap₂ (λ (x : ℤ) (y : ℕ). x ÷ y) num c ∙ over_common n p d e u v hd he hu (sym c ∙ same ∙ a)
 
 -- a step that comes to a number that fits
-pub step_is : (s w u q : ℚ) → q ≡ s +ℚ w *ℚ u → Fits q → Ok q ≡ add_product_walk s w u
+pub step_is : (s w u q : ℚ) → q ≡ s +ℚ w *ℚ u → IsNarrow q → Ok q ≡ add_product_walk s w u
 step_is s w u q e f = sym (stepped s w u q e f)
 
 -- where a factor is 0, nothing is added
-pub unadded : (s a b : ℚ) → Fits s → (a ≡ zero_ℚ) ⊎ (b ≡ zero_ℚ) → Ok s ≡ add_product_walk s a b
+pub unadded : (s a b : ℚ) → IsNarrow s → (a ≡ zero_ℚ) ⊎ (b ≡ zero_ℚ) → Ok s ≡ add_product_walk s a b
 unadded s a b fits (inl zero) = sym (adds_nothing s a b fits (ap (λ q. q *ℚ b) zero ∙ zero_mul_ℚ b))
 unadded s a b fits (inr zero) = sym (adds_nothing s a b fits (ap (λ q. a *ℚ q) zero ∙ mul_zero_ℚ a))
 

@@ -3,11 +3,10 @@ use Rattle.std.specs.Prelude.{◌≡◌, ℕ, eqb, List, [], ◌∷◌, Result, 
 use Rattle.rationals.specs.Rational.{ℚ, zero_ℚ}
 use Rattle.rationals.specs.Sparse.{Entry, coefficient, Ascending}
 use Rattle.rationals.specs.Forms.{put}
-use Rattle.rationals.specs.Passes.{Operation, add_product_walk, then_walk}
+use Rattle.rationals.specs.Passes.{Operation, add_product_walk, then_walk, IsNarrow}
 use Rattle.rationals.specs.Choices.{pick}
 use Rattle.scen_defs.specs.Lists.{Each}
 use Rattle.scen_defs.specs.declared.program.NodeRow.{NodeRow}
-use Rattle.scen_model.specs.Gathered.{Fits}
 use Rattle.cut_defs.specs.declared.datum.ColumnBounds.{ColumnBounds}
 use Rattle.cut_defs.specs.declared.kinds.CutKind.{CutKind}
 use Rattle.cut_defs.specs.Data.{Datum, is_own}
@@ -17,8 +16,8 @@ use Rattle.cut_sums.specs.Walks.{column_walk}
 
 -- in each column the walk comes from the number that stood there to the one that stands there
 abbrev pub MovesColumns : (ℕ → ℚ → Result ℚ Operation) → List Entry → List Entry → Type 0
-MovesColumns walk old new = (j : ℕ) → Fits (coefficient old j)
-    → (walk j (coefficient old j) ≡ Ok (coefficient new j)) × Fits (coefficient new j)
+MovesColumns walk old new = (j : ℕ) → IsNarrow (coefficient old j)
+    → (walk j (coefficient old j) ≡ Ok (coefficient new j)) × IsNarrow (coefficient new j)
 
 -- s and a weight times an entry, where the entry stands in column j
 abbrev pub weighted_from : ℚ → Entry → ℕ → ℚ → Result ℚ Operation
@@ -36,7 +35,7 @@ pub record AreZeros (tally : List Entry) : Type 0 where
 
 -- in each column stands its cost
 abbrev pub AreCosts : Datum → CutKind → List Entry → Type 0
-AreCosts d kind tally = (j : ℕ) → (coefficient tally j ≡ cost_of d kind j) × Fits (coefficient tally j)
+AreCosts d kind tally = (j : ℕ) → (coefficient tally j ≡ cost_of d kind j) × IsNarrow (coefficient tally j)
 
 -- columns that rise, and in each column the number to which its walk comes from its cost
 pub record AreSums (d : Datum) (s : Source) (uses : StoredUses) (tally : List Entry) : Type 0 where

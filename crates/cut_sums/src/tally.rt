@@ -3,9 +3,8 @@ ghost use Rattle.std.specs.Prelude.{◌≡◌, ◌≤◌, Ok, IfOk, IfSome, IsTr
 ghost use Rattle.rationals.specs.Rational.{◌+ℚ◌, ◌*ℚ◌};
 ghost use Rattle.rationals.specs.Sparse.{Ascending, coefficient};
 ghost use Rattle.rationals.specs.Forms.{EndsBelow};
-ghost use Rattle.rationals.specs.Passes.{add_product_walk};
+ghost use Rattle.rationals.specs.Passes.{add_product_walk, IsNarrow};
 ghost use Rattle.rationals.specs.Choices.{pick};
-ghost use Rattle.scen_model.specs.Gathered.{Fits};
 ghost use Rattle.cut_sums.specs.Tallies.{AreZeros, MovesColumns, all_weighted_from, weighted_from};
 
 use crate::unfinished::Unfinished;
@@ -92,7 +91,7 @@ fn unit_product(a: Frac, b: Frac) -> Option<Frac>
 /// A number and a weight times a value.
 fn plus(number: Frac, weight: Frac, value: Frac) -> Result<Frac, Passed>
     ensures sum { IfOk result (λ sum. sum ≡ number +ℚ weight *ℚ value) }
-    ensures fits { IfOk result (λ sum. Fits sum) }
+    ensures fits { IfOk result (λ sum. IsNarrow sum) }
 {
     match unit_product(weight, value) {
         None => number.add_product(weight, value),

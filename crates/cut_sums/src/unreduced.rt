@@ -1,8 +1,7 @@
 // Sums over a denominator that isn't the least.
 ghost use Rattle.std.specs.Prelude.{◌≡◌, ◌*◌, ◌*ℤ◌, ◌+ℤ◌, ◌<◌, ◌^◌, pos, unsigned_abs, IfSome};
 ghost use Rattle.rationals.specs.Rational.{◌÷◌, ◌+ℚ◌, ◌*ℚ◌, zero_ℚ};
-ghost use Rattle.rationals.specs.Passes.{add_product_walk};
-ghost use Rattle.scen_model.specs.Gathered.{Fits};
+ghost use Rattle.rationals.specs.Passes.{add_product_walk, IsNarrow};
 
 use frac128::{Frac, Passed};
 use std::marker::Model;
@@ -107,7 +106,7 @@ impl Unreduced {
 
     /// Tells that the parts of the lowest terms are at most `i128::MAX` in size.
     fn keeps_size(&self)
-        ensures { Fits self.now }
+        ensures { IsNarrow self.now }
     {
         let _num = self.num;
     }

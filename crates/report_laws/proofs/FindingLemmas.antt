@@ -3,7 +3,7 @@ use Rattle.std.proofs.Common.{◌≡◌, ◌∙◌, ◌^◌, ◌<◌, ◌++◌, 
 use Rattle.std.proofs.Common.{arith}
 use Rattle.std.specs.Prelude.{codes}
 use Rattle.std.specs.Fmt.{decimal}
-use Rattle.rationals.specs.Passes.{Operation}
+use Rattle.rationals.specs.Passes.{Operation, IsNarrow}
 use Rattle.rationals.specs.declared.Op.{Op}
 use Rattle.rationals.specs.declared.Op.TheVariants.{Add, Sub, Mul, Div}
 use Rattle.frac128.specs.Text.{text_of}
@@ -13,7 +13,7 @@ use Rattle.scen_defs.specs.declared.report.Finding.{Finding}
 use Rattle.scen_defs.specs.declared.report.Finding.TheVariants.{Optimal, Infeasible, Unbounded, OpenSolves, OpenPivots, OpenPassed}
 use Rattle.report_text.specs.Text.{op_text, place_text, operation_text, finding_text}
 use Rattle.report_reader.specs.Findings.{op_of, operation, passed_at, commit, finding_of}
-use Rattle.report_laws.specs.Printable.{IsNarrow, IsInRun, PassesThere, IsSized}
+use Rattle.report_laws.specs.Printable.{IsInRun, PassesThere, IsSized}
 use Rattle.report_laws.proofs.WordLemmas.{lacks, lacks-append, then_ok, field_word, count_lacks, text_lacks}
 use Rattle.report_laws.proofs.NumberLemmas.{fraction_read, count_read}
 

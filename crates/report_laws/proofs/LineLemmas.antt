@@ -8,6 +8,7 @@ use Rattle.std.proofs.lemmas.Bool.{eq-eqb}
 use Rattle.std.proofs.lemmas.Bool.Decides.{nat_tests}
 use Rattle.rationals.specs.Rational.{ℚ}
 use Rattle.rationals.specs.Choices.{pick}
+use Rattle.rationals.specs.Passes.{IsNarrow}
 use Rattle.frac128.specs.Text.{text_of}
 use Rattle.scen_defs.specs.declared.program.Program.{Program}
 use Rattle.scen_defs.specs.declared.report.Finding.{Finding}
@@ -24,7 +25,7 @@ use Rattle.report_reader.specs.Pieces.{Lines, lines_of}
 use Rattle.report_reader.specs.Lines.{fresh, from_ray, from_dual, from_direction, from_policy, from_extra, head_line}
 use Rattle.report_reader.specs.Lines.{status_line, lower_line, upper_line, extra_word, extra_line, line_at, step}
 use Rattle.report_reader.specs.Reports.{tables_of, is_head, done_behind, draft_behind, reads}
-use Rattle.report_laws.specs.Printable.{IsNarrow, IsSized}
+use Rattle.report_laws.specs.Printable.{IsSized}
 use Rattle.report_laws.proofs.WordLemmas.{lacks, lacks-append, then_ok, after_word, field_word, first_line, small_lacks, text_lacks}
 use Rattle.report_laws.proofs.NumberLemmas.{fraction_read, end_read, small_read}
 use Rattle.report_laws.proofs.FindingLemmas.{finding_read, finding_lacks}

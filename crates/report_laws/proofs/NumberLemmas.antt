@@ -6,6 +6,7 @@ use Rattle.std.specs.Fmt.{decimal}
 use Rattle.std.proofs.lemmas.Bool.Decides.{nat_tests}
 use Rattle.rationals.specs.Rational.{ℚ}
 use Rattle.rationals.specs.Choices.{pick}
+use Rattle.rationals.specs.Passes.{IsNarrow}
 use Rattle.frac128.specs.Numbers.{read_number}
 use Rattle.frac128.specs.Text.{text_of}
 use Rattle.frac128.proofs.ReadBack.{read_back}
@@ -15,7 +16,6 @@ use Rattle.report_text.specs.Text.{end_text}
 use Rattle.report_reader.specs.Answers.{bad}
 use Rattle.report_reader.specs.Numbers.{printed, fraction, end_value, end_of, counted, count_by, count, small}
 use Rattle.report_reader.proofs.TextLemmas.{same}
-use Rattle.report_laws.specs.Printable.{IsNarrow}
 use Rattle.report_laws.proofs.WordLemmas.{then_ok, narrow_parts}
 
 -- ---- fractions

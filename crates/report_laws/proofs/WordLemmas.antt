@@ -7,12 +7,11 @@ use Rattle.std.proofs.lemmas.Bool.{and_parts, and_from, or_parts, leb-false, ne_
 use Rattle.std.proofs.lemmas.Bool.Decides.{nat_tests}
 use Rattle.std.proofs.lemmas.Fmt.{decimal_by_steps_wide}
 use Rattle.rationals.specs.Rational.{ℚ}
-use Rattle.rationals.specs.Passes.{wide}
+use Rattle.rationals.specs.Passes.{wide, IsNarrow}
 use Rattle.frac128.specs.Text.{text_of, text_by}
 use Rattle.refusals.specs.declared.cause.Cause.{Cause}
 use Rattle.report_reader.specs.Answers.{on_ok}
 use Rattle.report_reader.specs.Pieces.{after, cut, cut_field, field, lines_of}
-use Rattle.report_laws.specs.Printable.{IsNarrow}
 
 -- the byte stands nowhere in a text
 abbrev pub lacks : ℕ → List ℕ → Bool

@@ -1,7 +1,7 @@
 -- Reports whose parts have the sizes of their types: whole numbers of 32 and 64 bits, fractions of 128 bits.
 use Rattle.std.specs.Prelude.{◌≡◌, ℕ, ◌<◌, ◌+◌, ◌^◌, false, List, [], ◌∷◌, length, IfSome, ⊤}
 use Rattle.rationals.specs.Rational.{ℚ}
-use Rattle.rationals.specs.Passes.{Operation, too_wide}
+use Rattle.rationals.specs.Passes.{Operation, IsNarrow}
 use Rattle.scen_defs.specs.Lists.{Each}
 use Rattle.scen_defs.specs.Values.{At, AreValues}
 use Rattle.scen_defs.specs.declared.program.Program.{Program}
@@ -12,10 +12,6 @@ use Rattle.scen_defs.specs.declared.report.Finding.TheVariants.{Optimal, Infeasi
 use Rattle.scen_defs.specs.declared.report.Report.{Report}
 use Rattle.scen_defs.specs.Names.{column_names, row_names}
 use Rattle.report_reader.specs.Stated.{HasParts}
-
--- a fraction of 128 bits
-abbrev pub IsNarrow : ℚ → Type 0
-IsNarrow v = too_wide v ≡ false
 
 -- ---- findings
 

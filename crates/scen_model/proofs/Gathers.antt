@@ -1,15 +1,15 @@
 -- Passes over the numbers of many places.
 use Rattle.std.proofs.Common.{◌≡◌, ℕ, ◌<◌, Bool, true, false, ◌||◌, eqb, List, [], ◌∷◌, Result, Ok, length, get_or, refl, sym, ap, subst, ◌∙◌, eqb-true}
 use Rattle.rationals.specs.Rational.{ℚ}
-use Rattle.rationals.specs.Passes.{Operation, add_walk, then_walk}
+use Rattle.rationals.specs.Passes.{Operation, add_walk, then_walk, IsNarrow}
 use Rattle.rationals.specs.Choices.{pick}
 use Rattle.scen_defs.specs.Lists.{is_in}
-use Rattle.scen_model.specs.Gathered.{Fits, Moves}
+use Rattle.scen_model.specs.Gathered.{Moves}
 
 -- what is left to do from the numbers now is what there was to do from those at the start
 abbrev pub Same : {A P : Type 0} → (ℕ → Bool) → (ℕ → ℚ → List A → Result ℚ P) → List ℚ → List A → List ℚ → List A → Type 0
 Same test walk now rest start all =
-    (n : ℕ) (d : ℚ) → n < length start → test n ≡ true → Fits (get_or start n d) → (walk n (get_or now n d) rest ≡ walk n (get_or start n d) all) × Fits (get_or now n d)
+    (n : ℕ) (d : ℚ) → n < length start → test n ≡ true → IsNarrow (get_or start n d) → (walk n (get_or now n d) rest ≡ walk n (get_or start n d) all) × IsNarrow (get_or now n d)
 
 -- nothing is done
 pub same_start : {A P : Type 0} (test : ℕ → Bool) (walk : ℕ → ℚ → List A → Result ℚ P) (start : List ℚ) (all : List A) → Same test walk start all start all

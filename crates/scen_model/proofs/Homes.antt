@@ -7,7 +7,7 @@ use Rattle.std.proofs.lemmas.Bool.{eq-eqb, ne_eqb, eqb-false, and_parts, leb-fal
 use Rattle.std.proofs.lemmas.Bool.Decides.{eqb_tells}
 use Rattle.rationals.specs.Rational.{ℚ, zero_ℚ, ◌*ℚ◌, mul_zero_ℚ}
 use Rattle.rationals.specs.Sparse.{Entry, coefficient, Ascending}
-use Rattle.rationals.specs.Passes.{Operation, mul_walk, less_product_walk, then_walk}
+use Rattle.rationals.specs.Passes.{Operation, mul_walk, less_product_walk, then_walk, IsNarrow}
 use Rattle.rationals.specs.Choices.{pick}
 use Rattle.scen_defs.specs.declared.program.Column.{Column}
 use Rattle.scen_defs.specs.declared.program.NodeRow.{NodeRow}
@@ -17,14 +17,14 @@ use Rattle.scen_defs.specs.Lists.{passes_at}
 use Rattle.scen_defs.specs.Program.{View, Node, Program, content, nodes_content, is_live, view_of, column_at}
 use Rattle.scen_defs.specs.Flat.{up, home, is_above}
 use Rattle.scen_model.specs.Walks.{total_walk, less_from, less_step, less_all, reduced_walk}
-use Rattle.scen_model.specs.Gathered.{Fits, lists_in, is_of, IsSeated, AreSeated, AreApart, seat_number, column_number, if_home, entry_from, entries_from, AreTotals, LessAt, LessIn, AllMove, IsOnPath, AreStages, IsPriced, AllPriced, AreAll}
+use Rattle.scen_model.specs.Gathered.{lists_in, is_of, IsSeated, AreSeated, AreApart, seat_number, column_number, if_home, entry_from, entries_from, AreTotals, LessAt, LessIn, AllMove, IsOnPath, AreStages, IsPriced, AllPriced, AreAll}
 use Rattle.scen_model.proofs.Reduces.{nothing, entries_sum}
 
 -- ---- what is left to do from the numbers now is what there was to do from those at the start
 abbrev pub AllSame : {A P : Type 0} → View → List Column → List ℕ → (ℕ → ℕ → ℚ → List A → Result ℚ P) → List (List ℚ) → List A → List (List ℚ) → List A → Type 0
 AllSame v columns seats walk now rest start all =
-    (k j : ℕ) → is_of columns (v.stage k) j ≡ true → Fits (column_number start seats k j)
-    → (walk k j (column_number now seats k j) rest ≡ walk k j (column_number start seats k j) all) × Fits (column_number now seats k j)
+    (k j : ℕ) → is_of columns (v.stage k) j ≡ true → IsNarrow (column_number start seats k j)
+    → (walk k j (column_number now seats k j) rest ≡ walk k j (column_number start seats k j) all) × IsNarrow (column_number now seats k j)
 
 module _ (v : View) (columns : List Column) (seats : List ℕ) where
   pub all_start : {A P : Type 0} (walk : ℕ → ℕ → ℚ → List A → Result ℚ P) (start : List (List ℚ)) (all : List A) → AllSame v columns seats walk start all start all
@@ -187,7 +187,7 @@ entry_moves p seats n stage at seat e y old new apart of_stage path sits =
 -- the list of one node is changed at one place
 abbrev Step : ℕ → ℕ → ℚ → ℚ → Bool → List ℚ → List ℚ → Type 0
 Step seat i value y b from to =
-    (pick (b && eqb seat i) (less_product_walk (get_or from i zero_ℚ) value y) (Ok (get_or from i zero_ℚ)) ≡ Ok (get_or to i zero_ℚ)) × Fits (get_or to i zero_ℚ)
+    (pick (b && eqb seat i) (less_product_walk (get_or from i zero_ℚ) value y) (Ok (get_or from i zero_ℚ)) ≡ Ok (get_or to i zero_ℚ)) × IsNarrow (get_or to i zero_ℚ)
 
 pub in_list : (old : List (Vec ℚ Global)) (place seat : ℕ) (was list : Vec ℚ Global) (value y : ℚ) (own after : List ℚ) → place < length old → own ≡ (get_or old place was).items → list.items ≡ after → LessAt seat value y own after
     → LessIn place seat value y (lists_in old) (lists_in (set old place list))
@@ -212,7 +212,7 @@ in_list old place seat was list value y own after within read written given k i 
         let to : list.items ≡ get_or (lists_in (set old place list)) k [] = sym (get_or-set_same (lists_in old) place list.items [] long) ∙ ap (λ m. get_or (set (lists_in old) place list.items) m []) h.1 ∙ sym new_list in
         subst (λ b. Step seat i value y b (get_or (lists_in old) k []) (get_or (lists_in (set old place list)) k [])) (sym h.0)
         (subst (λ (t : List ℚ). Step seat i value y true (get_or (lists_in old) k []) t) to
-        (subst (λ (l : List ℚ). Step seat i value y true l list.items) from (less i (subst (λ (l : List ℚ). Fits (get_or l i zero_ℚ)) (sym from) f))))
+        (subst (λ (l : List ℚ). Step seat i value y true l list.items) from (less i (subst (λ (l : List ℚ). IsNarrow (get_or l i zero_ℚ)) (sym from) f))))
     go (inr h) =
         let to : get_or (lists_in old) k [] ≡ get_or (lists_in (set old place list)) k [] = sym (get_or-set_other (lists_in old) place k list.items [] (λ e. h.1 (sym e))) ∙ sym new_list in
         subst (λ b. Step seat i value y b (get_or (lists_in old) k []) (get_or (lists_in (set old place list)) k [])) (sym h.0)

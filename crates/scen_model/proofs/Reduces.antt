@@ -3,20 +3,20 @@ use Rattle.std.proofs.Common.{◌≡◌, ℕ, suc, ◌<◌, ◌≤◌, Bool, tru
 use Rattle.std.proofs.lemmas.Bool.{ne_eqb}
 use Rattle.rationals.specs.Rational.{ℚ, zero_ℚ, ◌+ℚ◌, ◌-ℚ◌, ◌*ℚ◌, zero_add_ℚ, add_zero_ℚ, zero_mul_ℚ, mul_zero_ℚ, by_ring, terms}
 use Rattle.rationals.specs.Sparse.{Entry, coefficient, value_if, Ascending}
-use Rattle.rationals.specs.Passes.{Operation, answer, too_wide, less_product_walk, mul_walk, then_walk}
+use Rattle.rationals.specs.Passes.{Operation, answer, too_wide, less_product_walk, mul_walk, then_walk, IsNarrow}
 use Rattle.rationals.specs.Choices.{pick}
-use Rattle.scen_model.specs.Gathered.{Fits, entries_from}
+use Rattle.scen_model.specs.Gathered.{entries_from}
 
 -- an answer that is a value
 answered : {X P : Type 0} (b : Bool) (p : P) (x y : X) → answer b p x ≡ Ok y → (b ≡ false) × (x ≡ y)
 answered true p x y e = absurd (cc)
 answered false p x y e = (refl, cc)
 
-pub product_fits : (a b t : ℚ) → mul_walk a b ≡ Ok t → Fits t
+pub product_fits : (a b t : ℚ) → mul_walk a b ≡ Ok t → IsNarrow t
 product_fits a b t e = let p = answered (too_wide (a *ℚ b)) _ (a *ℚ b) t e in subst (λ q. too_wide q ≡ false) p.1 p.0
 
 -- a product of 0 takes nothing away
-pub nothing : (s a b : ℚ) → Fits s → a *ℚ b ≡ zero_ℚ → less_product_walk s a b ≡ Ok s
+pub nothing : (s a b : ℚ) → IsNarrow s → a *ℚ b ≡ zero_ℚ → less_product_walk s a b ≡ Ok s
 nothing s a b f e =
     let same : s -ℚ a *ℚ b ≡ s = ap (λ q. s -ℚ q) e ∙ by_ring (s ∷ []) (search terms depth 40) tt in
     go (s -ℚ a *ℚ b) same _
@@ -43,7 +43,7 @@ only : (w : Result ℚ Operation) (t : ℚ) (f : ℚ → Result ℚ Operation) �
 only (Ok u) t f h e = sym (h u) ∙ e
 only (Err p) t f h e = absurd (cc)
 
-pub entries_sum : (c j : ℕ) (y s t : ℚ) (es : List Entry) → Ascending c es → Fits s → entries_from y j s es ≡ Ok t → less_product_walk s (coefficient es j) y ≡ Ok t
+pub entries_sum : (c j : ℕ) (y s t : ℚ) (es : List Entry) → Ascending c es → IsNarrow s → entries_from y j s es ≡ Ok t → less_product_walk s (coefficient es j) y ≡ Ok t
 entries_sum c j y s t [] a f e = nothing s zero_ℚ y f (zero_mul_ℚ y) ∙ e
 entries_sum c j y s t (d ∷ es) a f e = go (eqb d.column j) refl (entries_sum (suc d.column) j y s t es a.1 f) e
   where

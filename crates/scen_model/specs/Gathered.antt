@@ -5,7 +5,7 @@ use Rattle.std.specs.declared.alloc.Global.{Global}
 use Rattle.rationals.specs.Replies.{Reply, IsReply, reply_by}
 use Rattle.rationals.specs.Replies.Reply.{Says, Silent}
 use Rattle.rationals.specs.Rational.{ℚ, zero_ℚ, at_most}
-use Rattle.rationals.specs.Passes.{Operation, too_wide, mul_walk, less_product_walk, add_product_walk, then_walk}
+use Rattle.rationals.specs.Passes.{Operation, IsNarrow, mul_walk, less_product_walk, add_product_walk, then_walk}
 use Rattle.rationals.specs.Sparse.{Entry, coefficient}
 use Rattle.rationals.specs.Choices.{pick}
 use Rattle.scen_defs.specs.declared.program.Column.{Column}
@@ -18,15 +18,11 @@ use Rattle.scen_model.specs.declared.unfinished.Ended.{Ended}
 use Rattle.scen_model.specs.declared.unfinished.Ended.TheVariants.{Decided, Walk, Memory}
 use Rattle.scen_model.specs.Walks.{cost_walk, stopping, test, total_walk, worth_step, product_from, fold_walk}
 
--- a number that fits, as every number that the code keeps
-abbrev pub Fits : ℚ → Type 0
-Fits q = too_wide q ≡ false
-
 -- at each place that passes the test, the walk comes from the old number to the new one
 abbrev pub Moves : {P : Type 0} → (ℕ → Bool) → (ℕ → ℚ → Result ℚ P) → List ℚ → List ℚ → Type 0
 Moves test walk old new =
-    (n : ℕ) (d : ℚ) → n < length old → test n ≡ true → Fits (slice_index_or old n d)
-    → (walk n (slice_index_or old n d) ≡ Ok (slice_index_or new n d)) × Fits (slice_index_or new n d)
+    (n : ℕ) (d : ℚ) → n < length old → test n ≡ true → IsNarrow (slice_index_or old n d)
+    → (walk n (slice_index_or old n d) ≡ Ok (slice_index_or new n d)) × IsNarrow (slice_index_or new n d)
 
 abbrev pub everywhere : ℕ → Bool
 everywhere n = true
@@ -88,35 +84,35 @@ column_number numbers seats k j = seat_number numbers k (slice_index_or seats j 
 -- a product is taken away from the number at a place, and all others stay
 abbrev pub LessAt : ℕ → ℚ → ℚ → List ℚ → List ℚ → Type 0
 LessAt place value y old new =
-    (i : ℕ) → Fits (slice_index_or old i zero_ℚ)
+    (i : ℕ) → IsNarrow (slice_index_or old i zero_ℚ)
     → (pick (eqb place i) (less_product_walk (slice_index_or old i zero_ℚ) value y) (Ok (slice_index_or old i zero_ℚ))
-    ≡ Ok (slice_index_or new i zero_ℚ)) × Fits (slice_index_or new i zero_ℚ)
+    ≡ Ok (slice_index_or new i zero_ℚ)) × IsNarrow (slice_index_or new i zero_ℚ)
 
 -- the same of the number at a seat of a node
 abbrev pub LessIn : ℕ → ℕ → ℚ → ℚ → List (List ℚ) → List (List ℚ) → Type 0
 LessIn node seat value y old new =
-    (k i : ℕ) → Fits (seat_number old k i)
+    (k i : ℕ) → IsNarrow (seat_number old k i)
     → (pick (eqb node k && eqb seat i) (less_product_walk (seat_number old k i) value y) (Ok (seat_number old k i))
-    ≡ Ok (seat_number new k i)) × Fits (seat_number new k i)
+    ≡ Ok (seat_number new k i)) × IsNarrow (seat_number new k i)
 
 -- for each node k and each column j of its stage, the walk comes from the old number to the new one
 abbrev pub AllMove : {P : Type 0} → View → List Column → List ℕ → (ℕ → ℕ → ℚ → Result ℚ P) → List (List ℚ) → List (List ℚ) → Type 0
 AllMove v columns seats walk old new =
-    (k j : ℕ) → is_of columns (v.stage k) j ≡ true → Fits (column_number old seats k j)
-    → (walk k j (column_number old seats k j) ≡ Ok (column_number new seats k j)) × Fits (column_number new seats k j)
+    (k j : ℕ) → is_of columns (v.stage k) j ≡ true → IsNarrow (column_number old seats k j)
+    → (walk k j (column_number old seats k j) ≡ Ok (column_number new seats k j)) × IsNarrow (column_number new seats k j)
 
 -- for each live node k and each column j of its stage, the number is the walk's
 abbrev pub AreAll : {P : Type 0} → Program → List ℕ → (ℕ → ℕ → Result ℚ P) → List (List ℚ) → Type 0
 AreAll p seats walk numbers =
     (k j : ℕ) → passes_at is_live k p.nodes ≡ true → is_of p.columns ((view_of p).stage k) j ≡ true
-    → (walk k j ≡ Ok (column_number numbers seats k j)) × Fits (column_number numbers seats k j)
+    → (walk k j ≡ Ok (column_number numbers seats k j)) × IsNarrow (column_number numbers seats k j)
 
 -- the number at each place is the total times the cost of the column at that place
 abbrev pub ArePriced : ℚ → List Entry → List ℕ → List ℚ → Type 0
 ArePriced total costs own numbers =
     (i : ℕ) → i < length numbers
     → (mul_walk total (coefficient costs (slice_index_or own i 0)) ≡ Ok (slice_index_or numbers i zero_ℚ))
-    × Fits (slice_index_or numbers i zero_ℚ)
+    × IsNarrow (slice_index_or numbers i zero_ℚ)
 
 -- the same of a list that has a number for each column of node k's stage
 pub record IsPriced (v : View) (costs : ℕ → List Entry) (totals : List ℚ) (own : List (List ℕ)) (k : ℕ) (numbers : List ℚ) : Type 0 where

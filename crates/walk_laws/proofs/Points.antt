@@ -7,13 +7,12 @@ use Rattle.rationals.specs.declared.Op.TheVariants.{Add, Sub, Mul}
 use Rattle.rationals.specs.Rational.{ℚ, one_ℚ, ◌*ℚ◌, by_ring, terms}
 use Rattle.rationals.specs.Forms.{is_zero, put, put_unless, add_scaled_walk}
 use Rattle.rationals.specs.Sparse.{Entry}
-use Rattle.rationals.specs.Passes.{Operation, answer, too_wide, passes, value_of, walk, mul_walk}
+use Rattle.rationals.specs.Passes.{Operation, answer, too_wide, passes, value_of, walk, mul_walk, IsNarrow}
 use Rattle.rationals.proofs.OrderMeaning.{walk_fits}
 use Rattle.rationals.specs.Choices.{pick}
 use Rattle.scen_defs.specs.Lists.{Each}
 use Rattle.scen_defs.proofs.SumLaws.{each-map}
 use Rattle.scen_defs.proofs.ValueLaws.{each-push}
-use Rattle.scen_model.specs.Gathered.{Fits}
 use Rattle.cut_defs.specs.declared.datum.ColumnBounds.{ColumnBounds}
 use Rattle.lp_defs.specs.Walks.{after_ok}
 use Rattle.interval_form.specs.declared.part.Part.{Part}
@@ -27,14 +26,14 @@ use Rattle.claim_laws.proofs.Passing.{EndsIn}
 use Rattle.walk_laws.proofs.Forms.{sum_ends}
 
 -- ---- what a walk gives fits
-answer_fits : (b : Bool) (p : Operation) (x v : ℚ) → b ≡ too_wide x → answer b p x ≡ Ok v → Fits v
+answer_fits : (b : Bool) (p : Operation) (x v : ℚ) → b ≡ too_wide x → answer b p x ≡ Ok v → IsNarrow v
 answer_fits true p x v q e = absurd (cc)
 answer_fits false p x v q e = let same : v ≡ x = cc in ap too_wide same ∙ sym q
 
-value_fits : (op : Op) (a b v : ℚ) → walk op a b ≡ Ok v → Fits v
+value_fits : (op : Op) (a b v : ℚ) → walk op a b ≡ Ok v → IsNarrow v
 value_fits op a b v e = answer_fits (passes op a b) (record { op = op; a = a; b = b }) (value_of op a b) v refl e
 
-number_fits : (q : Part) (z : ℕ → ℚ) (v : ℚ) → value_walk Point q z ≡ Ok v → Fits v
+number_fits : (q : Part) (z : ℕ → ℚ) (v : ℚ) → value_walk Point q z ≡ Ok v → IsNarrow v
 number_fits (Above l m) z v e = value_fits Add l (z m) v e
 number_fits (Below u m) z v e = value_fits Sub u (z m) v e
 number_fits (Free m n) z v e = value_fits Sub (z m) (z n) v e
@@ -42,7 +41,7 @@ number_fits (Free m n) z v e = value_fits Sub (z m) (z n) v e
 -- ---- a value of an own column that fits
 pub record FitsOwn (bs : List ColumnBounds) (e : Entry) : Type 0 where
   own : place_of bs e.column ≡ None → ⊥
-  fits : Fits e.value
+  fits : IsNarrow e.value
 
 -- each own column has a place
 behind_first : (t : Bool) (k j : ℕ) (bs : List ColumnBounds) → (place_from (suc k) bs j ≡ None → ⊥)
@@ -63,7 +62,7 @@ have_places k (b ∷ bs) = (
     first false q e = absurd (cc)
 
 module _ (all : List ColumnBounds) where
-  put_fits : (t : Bool) (c : ℕ) (v : ℚ) (made : List Entry) → (place_of all c ≡ None → ⊥) → Fits v → Each (FitsOwn all) made
+  put_fits : (t : Bool) (c : ℕ) (v : ℚ) (made : List Entry) → (place_of all c ≡ None → ⊥) → IsNarrow v → Each (FitsOwn all) made
       → Each (FitsOwn all) (made ++ put_unless t c v [])
   put_fits true c v made o f h = subst (Each (FitsOwn all)) (sym (append-nil made)) h
   put_fits false c v made o f h = each-push (FitsOwn all) made (record { column = c; value = v }) h (record { own = o; fits = f })
@@ -85,7 +84,7 @@ all_fit z ps bs x e = point_fits bs z ps [] 0 bs x (have_places 0 bs) tt e
 abbrev pub Never : Operation → Type 0
 Never o = ⊥
 
-one_times : (v : ℚ) → Fits v → EndsIn Never (mul_walk one_ℚ v)
+one_times : (v : ℚ) → IsNarrow v → EndsIn Never (mul_walk one_ℚ v)
 one_times v f =
     let same : one_ℚ *ℚ v ≡ v = by_ring (v ∷ []) (search terms depth 40) tt in
     subst (EndsIn Never) (sym (walk_fits Mul one_ℚ v (ap too_wide same ∙ f))) tt
