@@ -1,5 +1,5 @@
 -- A core file that memory can hold has a core.
-use Rattle.std.proofs.Common.{◌≡◌, ◌∙◌, ◌≤◌, ◌<◌, ◌^◌, ◌+◌, ap, flat_map, ℕ, suc, Bool, true, false, List, [], ◌∷◌, Option, Some, None, length, nat_eq, nat_lt, refl, sym, subst, arith, if◌then◌else◌}
+use Rattle.std.proofs.Common.{◌≡◌, ◌≤◌, ◌<◌, ◌^◌, ◌+◌, ap, flat_map, ℕ, suc, Bool, true, false, List, [], ◌∷◌, Option, Some, None, length, nat_eq, nat_lt, refl, arith, if◌then◌else◌}
 use Rattle.std.proofs.lemmas.List.{length-append}
 use Rattle.std.specs.Prelude.{Vec}
 use Rattle.std.specs.List.{AllByRecursion}
@@ -20,7 +20,7 @@ use Rattle.core_defs.specs.Means.{Means}
 use Rattle.core_defs.specs.Stated.{name_of_set, use_of, free_with, free_name, free_rows}
 use Rattle.core_defs.proofs.CoreLemmas.{core_is}
 use Rattle.core_defs.proofs.FieldLemmas.{row_fields, column_fields}
-use Rattle.core_defs.proofs.Gathered.{Data, data_on, filed_of, Sound}
+use Rattle.core_defs.proofs.Gathered.{data_on, filed_of, Sound}
 use Rattle.core_defs.proofs.MeansLemmas.{means}
 
 -- ---- a core is made of its parts

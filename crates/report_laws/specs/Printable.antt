@@ -1,6 +1,5 @@
 -- Reports whose parts have the sizes of their types: whole numbers of 32 and 64 bits, fractions of 128 bits.
-use Rattle.std.specs.Prelude.{◌≡◌, ℕ, ◌<◌, ◌+◌, ◌^◌, false, List, [], ◌∷◌, length, IfSome, ⊤}
-use Rattle.rationals.specs.Rational.{ℚ}
+use Rattle.std.specs.Prelude.{◌≡◌, ℕ, ◌<◌, ◌+◌, ◌^◌, List, [], ◌∷◌, length, IfSome, ⊤}
 use Rattle.rationals.specs.Passes.{Operation, IsNarrow}
 use Rattle.scen_defs.specs.Lists.{Each}
 use Rattle.scen_defs.specs.Values.{At, AreValues}

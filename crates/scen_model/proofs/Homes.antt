@@ -1,5 +1,5 @@
 -- Passes over the numbers of columns at nodes.
-use Rattle.std.proofs.Common.{◌≡◌, ◌≢◌, ℕ, zero, suc, ◌+◌, ◌-◌, ◌<◌, ◌≤◌, ◌⊎◌, inl, inr, Bool, true, false, ◌&&◌, eqb, leb, List, [], ◌∷◌, ◌++◌, Vec, Option, Result, Ok, Err, length, get_or, refl, sym, ap, ap₂, subst, ◌∙◌, arith, eqb-true}
+use Rattle.std.proofs.Common.{◌≡◌, ◌≢◌, ℕ, zero, suc, ◌+◌, ◌-◌, ◌<◌, ◌≤◌, ◌⊎◌, inl, inr, Bool, true, false, ◌&&◌, eqb, leb, List, [], ◌∷◌, ◌++◌, Vec, Option, Result, Ok, length, get_or, refl, sym, ap, ap₂, subst, ◌∙◌, arith, eqb-true}
 use Rattle.std.specs.declared.alloc.Global.{Global}
 use Rattle.std.proofs.Math.ListN.{set}
 use Rattle.std.proofs.lemmas.List.{map-set, get_or-set_same, get_or-set_other, get_or-map, length-map, length-append, map-append, get_or_at, get_or_append_left}
@@ -16,8 +16,8 @@ use Rattle.scen_defs.specs.declared.program.Node.{Node as NodeOf}
 use Rattle.scen_defs.specs.Lists.{passes_at}
 use Rattle.scen_defs.specs.Program.{View, Node, Program, content, nodes_content, is_live, view_of, column_at}
 use Rattle.scen_defs.specs.Flat.{up, home, is_above}
-use Rattle.scen_model.specs.Walks.{total_walk, less_from, less_step, less_all, reduced_walk}
-use Rattle.scen_model.specs.Gathered.{lists_in, is_of, IsSeated, AreSeated, AreApart, seat_number, column_number, if_home, entry_from, entries_from, AreTotals, LessAt, LessIn, AllMove, IsOnPath, AreStages, IsPriced, AllPriced, AreAll}
+use Rattle.scen_model.specs.Walks.{less_from, less_step, less_all, reduced_walk}
+use Rattle.scen_model.specs.Gathered.{lists_in, is_of, IsSeated, AreSeated, AreApart, column_number, if_home, entry_from, entries_from, AreTotals, LessAt, LessIn, AllMove, IsOnPath, AreStages, IsPriced, AllPriced, AreAll}
 use Rattle.scen_model.proofs.Reduces.{nothing, entries_sum}
 
 -- ---- what is left to do from the numbers now is what there was to do from those at the start

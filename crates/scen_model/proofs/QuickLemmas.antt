@@ -4,7 +4,6 @@ use Rattle.rationals.specs.Rational.{ℚ, zero_ℚ}
 use Rattle.rationals.specs.Sparse.{Entry}
 use Rattle.rationals.specs.Passes.{add_product_walk, then_walk}
 use Rattle.scen_defs.specs.declared.program.Column.{Column}
-use Rattle.scen_defs.specs.declared.program.Node.{Node as NodeOf}
 use Rattle.scen_defs.specs.declared.program.Program.{Program as ProgramOf}
 use Rattle.scen_defs.specs.Lists.{places, passes_at}
 use Rattle.scen_defs.specs.Program.{View, Node, content, nodes_content, is_live, view_of}

@@ -1,7 +1,7 @@
 -- What is taken away entry by entry is what is taken away row by row.
 use Rattle.std.proofs.Common.{◌≡◌, ℕ, suc, ◌<◌, ◌≤◌, Bool, true, false, eqb, List, [], ◌∷◌, Result, Ok, Err, refl, sym, ap, ap₂, subst, ◌∙◌, arith, eqb-true}
 use Rattle.std.proofs.lemmas.Bool.{ne_eqb}
-use Rattle.rationals.specs.Rational.{ℚ, zero_ℚ, ◌+ℚ◌, ◌-ℚ◌, ◌*ℚ◌, zero_add_ℚ, add_zero_ℚ, zero_mul_ℚ, mul_zero_ℚ, by_ring, terms}
+use Rattle.rationals.specs.Rational.{ℚ, zero_ℚ, ◌+ℚ◌, ◌-ℚ◌, ◌*ℚ◌, zero_add_ℚ, add_zero_ℚ, zero_mul_ℚ, by_ring, terms}
 use Rattle.rationals.specs.Sparse.{Entry, coefficient, value_if, Ascending}
 use Rattle.rationals.specs.Passes.{Operation, answer, too_wide, less_product_walk, mul_walk, then_walk, IsNarrow}
 use Rattle.rationals.specs.Choices.{pick}

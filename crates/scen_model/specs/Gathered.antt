@@ -1,5 +1,5 @@
 -- The sums of many places at once, and when they are those of the walks by place.
-use Rattle.std.specs.Prelude.{◌≡◌, ℕ, ◌<◌, ◌-◌, Bool, true, false, not, ◌&&◌, eqb, List, [], ◌∷◌, map, length, Vec, Result, Ok, Err}
+use Rattle.std.specs.Prelude.{◌≡◌, ℕ, ◌<◌, ◌-◌, Bool, true, not, ◌&&◌, eqb, List, [], ◌∷◌, map, length, Vec, Result, Ok, Err}
 use Rattle.std.specs.Prelude.{⊤, slice_index_or}
 use Rattle.std.specs.declared.alloc.Global.{Global}
 use Rattle.rationals.specs.Replies.{Reply, IsReply, reply_by}

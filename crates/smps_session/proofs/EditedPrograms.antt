@@ -1,6 +1,6 @@
 -- An edit that is allowed leaves a program on a tree, of no more nodes than have numbers.
 use Rattle.std.proofs.Common.{◌≡◌, ◌≤◌, ◌+◌, ◌++◌, ◌∙◌, ℕ, zero, suc, List, [], ◌∷◌, map, Option, Some, None, Result, Ok, Err, length}
-use Rattle.std.proofs.Common.{length-append, refl, ap, ap₂, arith}
+use Rattle.std.proofs.Common.{length-append, refl, ap, arith}
 use Rattle.rationals.specs.Passes.{Operation, then_walk}
 use Rattle.scen_defs.specs.Program.{Node, Program}
 use Rattle.scen_defs.specs.Valid.{FitsScenario, IsProgram}
