@@ -1,7 +1,7 @@
 -- What a command of an edit list means for a program, and why it is refused.
-use Rattle.std.specs.Prelude.{⊤, ℕ, nat_eq, Bool, ◌||◌, List, [], ◌∷◌, codes, Option, Some, None, Result, Ok, Err}
+use Rattle.std.specs.Prelude.{⊤, ℕ, Bool, ◌||◌, List, [], ◌∷◌, codes, Option, Some, None, Result, Ok, Err}
 use Rattle.std.specs.Prelude.{if◌then◌else◌}
-use Rattle.smps_words.specs.Names.{same_name, place_of}
+use Rattle.smps_words.specs.Names.{same_name, place_of, if_later}
 use Rattle.smps_words.specs.declared.entry.Entry.{Entry}
 use Rattle.smps_words.specs.declared.entry.Entry.TheVariants.{Cost, Matrix, Rhs}
 use Rattle.refusals.specs.declared.cause.Cause.{Cause}
@@ -45,11 +45,6 @@ unfoldable pub known_entry : Program → List ℕ → List ℕ → Result Entry 
 known_entry p column row = do
   entry ← needs cause.EditEntryUnknown (entry_of p column row)
   if is_late p entry then Err cause.EntryStage else Ok entry
-
--- a period behind the first
-abbrev pub if_later : Option ℕ → Option ℕ
-if_later None = None
-if_later (Some t) = if nat_eq t 0 then None else Some t
 
 -- ---- the fields of the commands, from the left
 unfoldable pub set_edit : Program → List ℕ → List ℕ → List ℕ → List ℕ → Result Edit Cause

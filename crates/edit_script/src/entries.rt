@@ -1,9 +1,9 @@
 // The entries and the periods that fields name.
 ghost use Rattle.std.specs.Prelude.{◌≡◌, ◌<◌, ◌≤◌, ◌^◌, IfSome, IfOk, length};
-ghost use Rattle.smps_words.specs.Names.{place_of};
+ghost use Rattle.smps_words.specs.Names.{place_of, if_later};
 ghost use Rattle.scen_defs.specs.Program.{content};
 ghost use Rattle.edit_defs.specs.Causes.{HasNumbers};
-ghost use Rattle.edit_script.specs.Commands.{is_rhs_name, entry_of, known_entry, if_later};
+ghost use Rattle.edit_script.specs.Commands.{is_rhs_name, entry_of, known_entry};
 ghost use Rattle.edit_script.specs.Tables.{HasTables};
 
 use crate::tables::Tables;
@@ -90,8 +90,8 @@ pub(crate) fn later_period(periods: &[Name], word: &[u8]) -> Option<u32>
     let Some(period) = period_place(periods, word) else {
         return None;
     };
-    if period == 0 {
-        return None;
+    if period > 0 {
+        return Some(period as u32);
     }
-    Some(period as u32)
+    None
 }

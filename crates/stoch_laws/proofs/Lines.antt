@@ -3,7 +3,7 @@ use Rattle.std.proofs.Common.{◌≡◌, ◌∙◌, ap, ℕ, Bool, true, false, 
 use Rattle.std.specs.Prelude.{codes, unwrap_or}
 use Rattle.std.proofs.lemmas.List.{map-append}
 use Rattle.rationals.specs.Rational.{ℚ}
-use Rattle.smps_words.specs.Names.{same_name, place_of}
+use Rattle.smps_words.specs.Names.{same_name, place_of, if_later}
 use Rattle.smps_words.specs.declared.entry.Entry.{Entry}
 use Rattle.refusals.specs.declared.cause.Cause.{Cause}
 use Rattle.refusals.specs.declared.cause.Cause.TheVariants as cause
@@ -25,7 +25,7 @@ use Rattle.stoch_defs.specs.Random.{Sets}
 use Rattle.stoch_defs.specs.Section.{Place}
 use Rattle.stoch_defs.specs.Stated.{Stated, place_of_entry, entry_from, value_behind, path_among, paths_of}
 use Rattle.stoch_defs.specs.Step as steps
-use Rattle.stoch_defs.specs.Step.{known_entry, resulting, probability_of, later_period, if_later, closed, with_single, with_named, with_case, with_single_case, with_branch, branch_head_of, case_head_of, add_single, single_case, indep_at, indep_line, block_case, block_head, block_line, case_pair, if_in_work, some_parent, is_root, at_least_one, if_many, branch_period, branch_head, branch_pair, is_head, branch_line}
+use Rattle.stoch_defs.specs.Step.{known_entry, resulting, probability_of, later_period, closed, with_single, with_named, with_case, with_single_case, with_branch, branch_head_of, case_head_of, add_single, single_case, indep_at, indep_line, block_case, block_head, block_line, case_pair, if_in_work, some_parent, is_root, at_least_one, if_many, branch_period, branch_head, branch_pair, is_head, branch_line}
 use Rattle.stoch_defs.proofs.StepParts.{known_is, number_is, probability_is}
 use Rattle.stoch_laws.proofs.Tables.{seen, mapped}
 use Rattle.stoch_laws.proofs.Cases.{Cases, owners, same_tables, old_case, new_single, new_named}

@@ -5,7 +5,7 @@ use Rattle.std.proofs.Math.Seq.{get_or-append_seam}
 use Rattle.std.proofs.lemmas.List.{length_push, get_or_append_left}
 use Rattle.std.proofs.lemmas.Bool.Decides.{nat_tests}
 use Rattle.rationals.specs.Rational.{ℚ, zero_ℚ, one_ℚ, ◌<ℚ◌, at_most, at_most_false}
-use Rattle.smps_words.specs.Names.{same_name, place_of, IsNumbered}
+use Rattle.smps_words.specs.Names.{same_name, place_of, IsNumbered, if_later}
 use Rattle.smps_words.specs.declared.entry.Entry.{Entry}
 use Rattle.smps_words.proofs.NumberedNames.{place_of_right, numbered_snoc, none_numbered}
 use Rattle.refusals.specs.declared.cause.Cause.{Cause}
@@ -28,7 +28,7 @@ use Rattle.stoch_defs.specs.Random.{Sets}
 use Rattle.stoch_defs.specs.Section.{is_end}
 use Rattle.stoch_defs.specs.Stated.{Stated, Node, nothing_stated, place_of_entry, path_among, paths_of, value_behind, no_case}
 use Rattle.stoch_defs.specs.Step as steps
-use Rattle.stoch_defs.specs.Step.{known_entry, resulting, probability_of, if_probability, later_period, if_later, at_least_one, if_many, closed, put_away, node_of, with_single, with_named, with_case, with_single_case, with_branch, branch_head_of, case_head_of, add_single, single_case, indep_at, indep_line, block_case, block_head, block_line, case_sets, case_pair, if_in_work, some_parent, is_root, branch_period, branch_head, branch_sets, branch_pair, is_head, branch_line, data_line, header_line, enter}
+use Rattle.stoch_defs.specs.Step.{known_entry, resulting, probability_of, if_probability, later_period, at_least_one, if_many, closed, put_away, node_of, with_single, with_named, with_case, with_single_case, with_branch, branch_head_of, case_head_of, add_single, single_case, indep_at, indep_line, block_case, block_head, block_line, case_sets, case_pair, if_in_work, some_parent, is_root, branch_period, branch_head, branch_sets, branch_pair, is_head, branch_line, data_line, header_line, enter}
 use Rattle.stoch_defs.proofs.StepParts.{known_is, header_parts}
 use Rattle.stoch_laws.proofs.Work.{closed_place, closed_idle, Adds, case_adds, branch_adds}
 use Rattle.scen_defs.specs.Lists.{Each}
