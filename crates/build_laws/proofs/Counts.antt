@@ -4,7 +4,7 @@ use Rattle.std.proofs.lemmas.List.{length-map}
 use Rattle.core_defs.specs.declared.program.Core.{Core}
 use Rattle.time_defs.specs.Means.{Stages}
 use Rattle.build_defs.specs.Nodes.{Stand, entries_at, rows_at}
-use Rattle.build_defs.specs.Built.{most_entries, count_entries, count_rows, count_costs}
+use Rattle.build_defs.specs.Built.{most_node_parts, count_entries, count_rows, count_costs}
 use Rattle.tree_build.specs.Values.{row_values}
 use Rattle.tree_build.specs.Limits.{entry_count, entries_in, rows_in, costs_in, are_over}
 use Rattle.build_laws.proofs.Tables.{sum_map, sum_same}
@@ -26,7 +26,7 @@ costs_are : (core : Core) (p : Stages) (firsts : List Stand) → sum_by costs_in
 costs_are core p firsts = sum_map costs_in (meant_values core p) firsts
 
 pub over_is : (core : Core) (p : Stages) (firsts : List Stand) → are_over (map (meant_values core p) firsts)
-    ≡ (nat_lt most_entries (count_entries core p firsts) || (nat_lt most_entries (count_rows p firsts) || nat_lt most_entries (count_costs core p firsts)))
+    ≡ (nat_lt most_node_parts (count_entries core p firsts) || (nat_lt most_node_parts (count_rows p firsts) || nat_lt most_node_parts (count_costs core p firsts)))
 over_is core p firsts =
-    ap₂ (λ (a b : Bool). a || b) (ap (nat_lt most_entries) (entries_are core p firsts))
-    (ap₂ (λ (a b : Bool). a || b) (ap (nat_lt most_entries) (rows_are core p firsts)) (ap (nat_lt most_entries) (costs_are core p firsts)))
+    ap₂ (λ (a b : Bool). a || b) (ap (nat_lt most_node_parts) (entries_are core p firsts))
+    (ap₂ (λ (a b : Bool). a || b) (ap (nat_lt most_node_parts) (rows_are core p firsts)) (ap (nat_lt most_node_parts) (costs_are core p firsts)))

@@ -16,7 +16,7 @@ use Rattle.refusals.specs.Results.{◌>>=◌, needs, unless_refused}
 use Rattle.core_defs.specs.declared.parts.ColumnPart.{ColumnPart}
 use Rattle.core_defs.specs.declared.section.Section.TheVariants as sections
 use Rattle.core_defs.specs.Bounds.{Bound, first_bound_set, bounds_by, first_bounds}
-use Rattle.core_defs.specs.Fault.{◌orelse◌, is_row, split_fault, pair_fault, pairs_fault, count_entries, limit_fault, column_fault}
+use Rattle.core_defs.specs.Fault.{◌orelse◌, is_row, split_fault, pair_fault, pairs_fault, count_pairs, limit_fault, column_fault}
 use Rattle.core_defs.specs.Filed.{Filed, last_of, part_of, closed_at, closed}
 use Rattle.core_defs.specs.Lines.{last_section}
 use Rattle.core_defs.specs.Number.{number_or_cause, cause_of}
@@ -42,7 +42,7 @@ filed_by d names last pairs = record {
   parts = map (part_in pairs (free_in d) (rows_in d)) (front names);
   costs = last_values pairs (free_in d) last;
   terms = last_values pairs (rows_in d) last;
-  entries = count_entries (rows_in d) pairs;
+  entries = count_pairs (rows_in d) pairs;
   rhs_set = d.rhs_set;
   rhs = map (value_on d.rhs_pairs []) (rows_in d);
   free_rhs = map (value_on d.rhs_pairs []) (free_in d);
@@ -154,10 +154,10 @@ cost_filed d names column row word pairs place value known distinct last at miss
     let more : List Pair = pairs ++ pair_of column row word ∷ [] in
     let costs = with_at 0 place (free_in d) place row (value_on pairs column) (value_on more column) value known.free_differ (place_at (free_in d) row place at) (omega arith) (pair_changes pairs column row word) none (first_value pairs column row word value none read) in
     let terms = terms_missing 0 (rows_in d) row (value_on pairs column) (value_on more column) (place_missing 0 (rows_in d) row missing) (pair_changes pairs column row word) in
-    let entries : count_entries (rows_in d) more ≡ count_entries (rows_in d) pairs = count_snoc (rows_in d) pairs (pair_of column row word) ∙ ap (λ found. count_entries (rows_in d) pairs + (if is_some found && not (is_zero (number_in word)) then 1 else 0)) missing ∙ omega arith in
+    let entries : count_pairs (rows_in d) more ≡ count_pairs (rows_in d) pairs = count_snoc (rows_in d) pairs (pair_of column row word) ∙ ap (λ found. count_pairs (rows_in d) pairs + (if is_some found && not (is_zero (number_in word)) then 1 else 0)) missing ∙ omega arith in
     ap (λ known. record (filed_by d names (Some column) pairs) { costs = known }) costs
     ∙ ap (λ (known : List Entry). record (filed_by d names (Some column) pairs) { costs = values_of more (free_in d) column; terms = known }) (sym terms)
-    ∙ ap (λ (known : List ColumnPart). record (filed_by d names (Some column) more) { parts = known; entries = count_entries (rows_in d) pairs }) (sym (parts_kept d names column row word pairs distinct last))
+    ∙ ap (λ (known : List ColumnPart). record (filed_by d names (Some column) more) { parts = known; entries = count_pairs (rows_in d) pairs }) (sym (parts_kept d names column row word pairs distinct last))
     ∙ ap (λ (known : ℕ). record (filed_by d names (Some column) more) { entries = known }) (sym entries)
 
 counted : (zero_ : Bool) → ◌≡◌ {A = ℕ} (if zero_ then 0 else 1) (if not zero_ then 1 else 0)
@@ -166,18 +166,18 @@ counted false = refl
 
 -- a value in a constraint
 entry_filed : (d : Data) (names : List (List ℕ)) (column row word : List ℕ) (pairs : List Pair) (place : ℕ) (value : ℚ) → AreRows (free_in d) (rows_in d) → Distinct names → last_of names ≡ Some column → place_of (rows_in d) row ≡ Some place → read_number word ≡ Ok value → value_on pairs column row ≡ None →
-    record (filed_by d names (Some column) pairs) { terms = with_term place value (values_of pairs (rows_in d) column); entries = count_entries (rows_in d) pairs + count_of value } ≡ filed_by d names (Some column) (pairs ++ pair_of column row word ∷ [])
+    record (filed_by d names (Some column) pairs) { terms = with_term place value (values_of pairs (rows_in d) column); entries = count_pairs (rows_in d) pairs + count_of value } ≡ filed_by d names (Some column) (pairs ++ pair_of column row word ∷ [])
 entry_filed d names column row word pairs place value known distinct last at read none =
     let more : List Pair = pairs ++ pair_of column row word ∷ [] in
     let there : At (rows_in d) place row = place_at (rows_in d) row place at in
     let terms = with_at 0 place (rows_in d) place row (value_on pairs column) (value_on more column) value known.rows_differ there (omega arith) (pair_changes pairs column row word) none (first_value pairs column row word value none read) in
     let costs = terms_missing 0 (free_in d) row (value_on pairs column) (value_on more column) (known.apart row place there) (pair_changes pairs column row word) in
-    let entries : count_entries (rows_in d) more ≡ count_entries (rows_in d) pairs + count_of value =
-    count_snoc (rows_in d) pairs (pair_of column row word) ∙ ap (λ found. count_entries (rows_in d) pairs + (if is_some found && not (is_zero (number_in word)) then 1 else 0)) at
-    ∙ ap (λ read. count_entries (rows_in d) pairs + (if not (is_zero (number_or_zero read)) then 1 else 0)) read ∙ ap (λ (one : ℕ). count_entries (rows_in d) pairs + one) (sym (counted (is_zero value))) in
-    ap (λ (known : List Entry). record (filed_by d names (Some column) pairs) { terms = known; entries = count_entries (rows_in d) pairs + count_of value }) terms
-    ∙ ap (λ (known : List Entry). record (filed_by d names (Some column) pairs) { costs = known; terms = values_of more (rows_in d) column; entries = count_entries (rows_in d) pairs + count_of value }) (sym costs)
-    ∙ ap (λ (known : List ColumnPart). record (filed_by d names (Some column) more) { parts = known; entries = count_entries (rows_in d) pairs + count_of value }) (sym (parts_kept d names column row word pairs distinct last))
+    let entries : count_pairs (rows_in d) more ≡ count_pairs (rows_in d) pairs + count_of value =
+    count_snoc (rows_in d) pairs (pair_of column row word) ∙ ap (λ found. count_pairs (rows_in d) pairs + (if is_some found && not (is_zero (number_in word)) then 1 else 0)) at
+    ∙ ap (λ read. count_pairs (rows_in d) pairs + (if not (is_zero (number_or_zero read)) then 1 else 0)) read ∙ ap (λ (one : ℕ). count_pairs (rows_in d) pairs + one) (sym (counted (is_zero value))) in
+    ap (λ (known : List Entry). record (filed_by d names (Some column) pairs) { terms = known; entries = count_pairs (rows_in d) pairs + count_of value }) terms
+    ∙ ap (λ (known : List Entry). record (filed_by d names (Some column) pairs) { costs = known; terms = values_of more (rows_in d) column; entries = count_pairs (rows_in d) pairs + count_of value }) (sym costs)
+    ∙ ap (λ (known : List ColumnPart). record (filed_by d names (Some column) more) { parts = known; entries = count_pairs (rows_in d) pairs + count_of value }) (sym (parts_kept d names column row word pairs distinct last))
     ∙ ap (λ (known : ℕ). record (filed_by d names (Some column) more) { entries = known }) (sym entries)
 
 by_twice : (value known : Option ℚ) (taken : Bool) (f g : Filed) → value ≡ known → is_some known ≡ taken → (known ≡ None → f ≡ g) → (if is_some value then Err cause.EntryTwice else Ok f) ≡ unless_refused (if is_some known then Some cause.EntryTwice else None) g
@@ -205,7 +205,7 @@ value_step before names column row word pairs known distinct last =
 
 -- too many columns or entries
 abbrev limit_on : Data → Bool
-limit_on d = nat_lt most_columns (length (names_in d)) || nat_lt most_entries (count_entries (rows_in d) d.pairs)
+limit_on d = nat_lt most_columns (length (names_in d)) || nat_lt most_entries (count_pairs (rows_in d) d.pairs)
 
 abbrev limit_of : Data → Option Cause
 limit_of d = if limit_on d then Some cause.CoreLimit else None

@@ -6,7 +6,7 @@ use Rattle.core_defs.specs.declared.parts.ColumnPart.{ColumnPart}
 use Rattle.core_defs.specs.declared.section.Section.{Section}
 use Rattle.core_defs.specs.declared.section.Section.TheVariants as sections
 use Rattle.core_defs.specs.Bounds.{Bound, bounds_on, first_bound_set, bounds_by}
-use Rattle.core_defs.specs.Fault.{count_entries}
+use Rattle.core_defs.specs.Fault.{count_pairs}
 use Rattle.core_defs.specs.Filed.{Filed, last_of, part_of}
 use Rattle.core_defs.specs.Lines.{last_section, has_section, data_of}
 use Rattle.core_defs.specs.Section.{rank}
@@ -75,7 +75,7 @@ filed_of d = record {
   parts = map (part_in d.pairs (free_in d) (rows_in d)) (front (names_in d));
   costs = last_values d.pairs (free_in d) (last_of (names_in d));
   terms = last_values d.pairs (rows_in d) (last_of (names_in d));
-  entries = count_entries (rows_in d) d.pairs;
+  entries = count_pairs (rows_in d) d.pairs;
   rhs_set = d.rhs_set;
   rhs = map (value_on d.rhs_pairs []) (rows_in d);
   free_rhs = map (value_on d.rhs_pairs []) (free_in d);

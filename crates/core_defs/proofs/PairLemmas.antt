@@ -5,7 +5,7 @@ use Rattle.frac128.specs.Numbers.{read_number}
 use Rattle.smps_words.specs.Names.{same_name}
 use Rattle.smps_words.proofs.NumberedNames.{same_name_refl}
 use Rattle.refusals.specs.declared.cause.Cause.{Cause}
-use Rattle.core_defs.specs.Fault.{◌orelse◌, counts, count_entries}
+use Rattle.core_defs.specs.Fault.{◌orelse◌, counts, count_pairs}
 use Rattle.core_defs.specs.Stated.{Pair, number_in, number_or_zero, value_on}
 use Rattle.core_defs.proofs.NameLemmas.{Changes}
 
@@ -56,10 +56,10 @@ first_value pairs column row word value none read =
     ∙ ap (λ known. if known then Some (number_in word) else None) (same_name_refl row)
     ∙ ap (λ known. Some (number_or_zero known)) read
 
-pub count_snoc : (rows : List (List ℕ)) (pairs : List Pair) (pair : Pair) → count_entries rows (pairs ++ pair ∷ []) ≡ count_entries rows pairs + (if counts rows pair then 1 else 0)
+pub count_snoc : (rows : List (List ℕ)) (pairs : List Pair) (pair : Pair) → count_pairs rows (pairs ++ pair ∷ []) ≡ count_pairs rows pairs + (if counts rows pair then 1 else 0)
 count_snoc rows [] pair = omega arith
 count_snoc rows (first ∷ pairs) pair =
-    ap (λ (rest : ℕ). (if counts rows first then 1 else 0) + rest) (count_snoc rows pairs pair) ∙ sym (add_assoc (if counts rows first then 1 else 0) (count_entries rows pairs) (if counts rows pair then 1 else 0))
+    ap (λ (rest : ℕ). (if counts rows first then 1 else 0) + rest) (count_snoc rows pairs pair) ∙ sym (add_assoc (if counts rows first then 1 else 0) (count_pairs rows pairs) (if counts rows pair then 1 else 0))
 
 pub no_more : (fault : Option Cause) → (fault orelse None) ≡ fault
 no_more None = refl

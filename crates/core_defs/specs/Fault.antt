@@ -76,14 +76,15 @@ pairs_fault before pairs (pair ∷ more) = pair_fault before pairs pair orelse p
 abbrev pub counts : List (List ℕ) → Pair → Bool
 counts rows pair = is_there rows pair.row && not (is_zero (number_in pair.word))
 
-abbrev pub count_entries : List (List ℕ) → List Pair → ℕ
-count_entries rows [] = 0
-count_entries rows (pair ∷ pairs) = (if counts rows pair then 1 else 0) + count_entries rows pairs
+-- how many of the pairs give a constraint a value that isn't 0
+abbrev pub count_pairs : List (List ℕ) → List Pair → ℕ
+count_pairs rows [] = 0
+count_pairs rows (pair ∷ pairs) = (if counts rows pair then 1 else 0) + count_pairs rows pairs
 
 -- more columns or entries than there may be
 abbrev pub limit_fault : List TextLine → Option Cause
 limit_fault lines = if nat_lt most_columns (length (columns lines))
-    || nat_lt most_entries (count_entries (constraints lines) (entry_pairs lines)) then Some cause.CoreLimit else None
+    || nat_lt most_entries (count_pairs (constraints lines) (entry_pairs lines)) then Some cause.CoreLimit else None
 
 abbrev pub column_fault : List TextLine → TextLine → List (List ℕ) → Option Cause
 column_fault before line (column ∷ row ∷ word ∷ []) =

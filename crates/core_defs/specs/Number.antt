@@ -27,9 +27,11 @@ cause_of (Err fault) = Some (number_cause fault)
 abbrev pub number_fault : List ℕ → Option Cause
 number_fault word = cause_of (read_number word)
 
-abbrev pub is_below_zero : ℤ → Bool
-is_below_zero (pos _) = false
-is_below_zero (negsuc _) = true
+-- an integer is below 0
+abbrev pub is_negative_ℤ : ℤ → Bool
+is_negative_ℤ (pos _) = false
+is_negative_ℤ (negsuc _) = true
 
+-- a number is below 0
 abbrev pub is_negative : ℚ → Bool
-is_negative value = is_below_zero value.num
+is_negative value = is_negative_ℤ value.num

@@ -14,7 +14,7 @@ use Rattle.interval_form.specs.Spans.{span_limits, span_sums, bound_limits}
 use Rattle.interval_form.specs.Trial.{spans_at}
 use Rattle.interval_form.specs.Plain.{Plain, IsPlain, parts_of, IsWritten}
 use Rattle.interval_form.specs.PlainShows.{IsPlainBest, IsPlainFarkas, IsPlainEndless}
-use Rattle.interval_form.specs.Values.{value_at, move_at}
+use Rattle.interval_form.specs.Values.{place_value, place_move}
 
 -- the walks give the rows of three kinds
 pub record RowLaws : Type 0 where
@@ -26,10 +26,10 @@ pub record RowLaws : Type 0 where
 pub record PlainLaws : Type 0 where
   -- an optimum makes a point, and multipliers that are worth what it costs
   pub best : (p : Plain) (limits : Limits) (x : ℕ → ℚ) (y : List ℚ) → IsPlain p → IsWritten p limits
-      → lp_shows.IsOptimal (standard_of limits) x y → IsPlainBest p (value_at (parts_of p) x) (span_sums p.spans (signed limits y))
+      → lp_shows.IsOptimal (standard_of limits) x y → IsPlainBest p (place_value (parts_of p) x) (span_sums p.spans (signed limits y))
   -- an infeasible end makes multipliers that are worth more than 0 where all costs are 0
   pub farkas : (p : Plain) (limits : Limits) (y : List ℚ) → IsPlain p → IsWritten p limits
       → lp_shows.IsInfeasible (standard_of limits) y → IsPlainFarkas p (span_sums p.spans (signed limits y))
   -- an unbounded end makes a point and a direction in which the cost falls
   pub endless : (p : Plain) (limits : Limits) (x d : ℕ → ℚ) → IsPlain p → IsWritten p limits
-      → lp_shows.IsUnbounded (standard_of limits) x d → IsPlainEndless p (value_at (parts_of p) x) (move_at (parts_of p) d)
+      → lp_shows.IsUnbounded (standard_of limits) x d → IsPlainEndless p (place_value (parts_of p) x) (place_move (parts_of p) d)

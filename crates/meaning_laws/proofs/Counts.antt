@@ -6,7 +6,7 @@ use Rattle.rationals.specs.Rational.{ℚ, zero_ℚ}
 use Rattle.rationals.specs.Forms.{is_zero}
 use Rattle.rationals.proofs.Lowest.{num_zero}
 use Rattle.smps_words.specs.Names.{same_name, place_of}
-use Rattle.core_defs.specs.Fault.{is_there, count_entries}
+use Rattle.core_defs.specs.Fault.{is_there, count_pairs}
 use Rattle.core_defs.specs.Stated.{Pair, number_in, value_on}
 use Rattle.core_defs.proofs.NameLemmas.{Missing, Distinct, name_is, same_either_way, not_there}
 
@@ -86,7 +86,7 @@ none_in_rows : (columns rows : List (List ℕ)) → in_rows [] columns rows ≡ 
 none_in_rows columns [] = refl
 none_in_rows columns (r ∷ rs) = omega (arith, none_in_row columns r, none_in_rows columns rs)
 
-pub at_most_pairs : (columns rows : List (List ℕ)) → Distinct columns → Distinct rows → (pairs : List Pair) → in_rows pairs columns rows ≤ count_entries rows pairs
+pub at_most_pairs : (columns rows : List (List ℕ)) → Distinct columns → Distinct rows → (pairs : List Pair) → in_rows pairs columns rows ≤ count_pairs rows pairs
 at_most_pairs columns rows columns_differ rows_differ [] = omega (arith, none_in_rows columns rows)
 at_most_pairs columns rows columns_differ rows_differ (p ∷ ps) =
     omega (

@@ -21,12 +21,12 @@ use Rattle.core_defs.specs.declared.program.Core.{Core}
 use Rattle.core_defs.specs.declared.section.Section.{Section}
 use Rattle.core_defs.specs.declared.section.Section.TheVariants as sections
 use Rattle.core_defs.specs.Core.{row_names, column_names}
-use Rattle.core_defs.specs.Fault.{limit_fault, column_fault, data_fault, section_fault, fault, core_file, IsCoreFile, count_entries as count_pairs}
+use Rattle.core_defs.specs.Fault.{limit_fault, column_fault, data_fault, section_fault, fault, core_file, IsCoreFile, count_pairs}
 use Rattle.core_defs.specs.Lines.{first_word, last_section}
 use Rattle.core_defs.specs.Means.{Means, IsStatedColumn}
 use Rattle.core_defs.specs.Section.{section_of, rank, is_end}
 use Rattle.core_defs.specs.Stated.{Pair, entry_pairs, entry_in, constraints}
-use Rattle.core_defs.specs.Step.{most_rows, most_columns, most_entries as most_stated}
+use Rattle.core_defs.specs.Step.{most_rows, most_columns, most_entries}
 use Rattle.core_defs.proofs.NameLemmas.{Distinct, all_distinct}
 use Rattle.core_defs.proofs.Gathered.{Data, data_on, rows_in, names_in, Sound}
 use Rattle.core_defs.proofs.LineLemmas.{data_text, header_text, row_data, rhs_data, range_data, bound_data, header_data}
@@ -39,13 +39,13 @@ use Rattle.scen_defs.specs.Lists.{places}
 use Rattle.time_defs.specs.Means.{Stages}
 use Rattle.build_defs.specs.Nodes.{Stand, nodes_of, form_at, value_in, entries_at}
 use Rattle.build_defs.specs.Scenarios.{scenarios_of}
-use Rattle.build_defs.specs.Built.{exceeds, most_entries, count_entries, count_rows, count_costs}
+use Rattle.build_defs.specs.Built.{exceeds, most_node_parts, count_entries, count_rows, count_costs}
 use Rattle.meaning_laws.proofs.Counts.{one, in_row, in_rows, at_most_pairs}
 
 -- ---- lines without fault state few entries
 
 abbrev IsFew : Data → Type 0
-IsFew d = count_pairs (rows_in d) d.pairs ≤ most_stated
+IsFew d = count_pairs (rows_in d) d.pairs ≤ most_entries
 
 unless : (b : Bool) (cause : Cause) (rest : Option Cause) → (if b then Some cause else rest) ≡ None → rest ≡ None
 unless true cause rest e = absurd (cc)
@@ -61,7 +61,7 @@ few_by_test most n e = grind (arith, nat_tests)
 
 few_by_limit : (lines : List TextLine) → limit_fault lines ≡ None → IsFew (data_on lines)
 few_by_limit lines e =
-    let more : nat_lt most_stated (count_pairs (constraints lines) (entry_pairs lines)) ≡ false = within _ _ e in
+    let more : nat_lt most_entries (count_pairs (constraints lines) (entry_pairs lines)) ≡ false = within _ _ e in
     few_by_test _ _ more
 
 column_few : (before : List TextLine) (line : TextLine) (fields : List (List ℕ)) → column_fault before line fields ≡ None → IsFew (data_on (before ++ line ∷ []))
@@ -76,7 +76,7 @@ column_few before line (column ∷ row ∷ word ∷ second ∷ other ∷ []) e =
     few_by_limit (before ++ line ∷ []) (orelse_none _ _ (orelse_none _ _ e).1).1
 column_few before line (_ ∷ _ ∷ _ ∷ _ ∷ _ ∷ _ ∷ _) e = absurd (cc)
 
-none_few : (rows : List (List ℕ)) (pairs : List Pair) → pairs ≡ [] → count_pairs rows pairs ≤ most_stated
+none_few : (rows : List (List ℕ)) (pairs : List Pair) → pairs ≡ [] → count_pairs rows pairs ≤ most_entries
 none_few rows pairs e = let none : count_pairs rows pairs ≡ 0 = ap (count_pairs rows) e in omega (arith, none)
 
 data_few : (before : List TextLine) (number : ℕ) (fields : List (List ℕ)) (section : Section) → Sound (data_on before) → last_section before ≡ section
@@ -190,12 +190,12 @@ module _ (lines : List TextLine) (core : Core) (means : Means lines core) where
         let same : length (column_names core.columns.items) ≡ length (names_in (data_on lines)) = ap length means.columns in
         omega (arith, few, same, length-map core.columns.items (λ (column : ColumnDef). column.name))
 
-    few_entries : sum_by (λ i. length (entries_at core [] i)) (places (λ at. nat_eq at 0) 0 (replicate (length core.rows.items) 0)) ≤ most_stated
+    few_entries : sum_by (λ i. length (entries_at core [] i)) (places (λ at. nat_eq at 0) 0 (replicate (length core.rows.items) 0)) ≤ most_entries
     few_entries =
         let columns_differ : Distinct (column_names core.columns.items) = subst Distinct (sym means.columns) (all_distinct [] (data_on lines).named tt) in
         let rows_differ : Distinct rows = subst Distinct (sym means.rows) known.sound.rows.rows_differ in
         let pairs = at_most_pairs (column_names core.columns.items) rows columns_differ rows_differ (entry_pairs lines) in
-        let few : count_pairs rows (entry_pairs lines) ≤ most_stated = subst (λ (names : List (List ℕ)). count_pairs names (entry_pairs lines) ≤ most_stated) (sym means.rows) known.few in
+        let few : count_pairs rows (entry_pairs lines) ≤ most_entries = subst (λ (names : List (List ℕ)). count_pairs names (entry_pairs lines) ≤ most_entries) (sym means.rows) known.few in
         let all = all_entries 0 rows (λ n. let first : 0 + n ≡ n = omega arith in ap (λ m. get_or rows m []) first) (omega arith) in
         let places_are = ap (λ n. sum_by (λ i. length (entries_at core [] i)) (places (λ at. nat_eq at 0) 0 (replicate n 0)))
         (length-map core.rows.items (λ (row : RowDef). row.name)) in
@@ -215,13 +215,13 @@ module _ (lines : List TextLine) (core : Core) (means : Means lines core) where
 
     pub exceeds_no_limit : exceeds core period (Blocks []) ≡ false
     exceeds_no_limit =
-        let entries : count_entries core period firsts ≤ most_entries = let h = few_entries in omega (arith, h) in
-        let row_count : count_rows period firsts ≤ most_entries = let e = places_count 0 (length core.rows.items) in let h = few_rows in omega (arith, e, h) in
-        let costs : count_costs core period firsts ≤ most_entries =
+        let entries : count_entries core period firsts ≤ most_node_parts = let h = few_entries in omega (arith, h) in
+        let row_count : count_rows period firsts ≤ most_node_parts = let e = places_count 0 (length core.rows.items) in let h = few_rows in omega (arith, e, h) in
+        let costs : count_costs core period firsts ≤ most_node_parts =
         let h = form_count (λ at. nat_eq at 0) (λ j. (get_or core.columns.items j no_column).cost) 0 (replicate (length core.columns.items) 0) in
         let e = length-replicate {A = ℕ} (length core.columns.items) 0 in let few = few_columns in omega (arith, h, e, few) in
-        none _ _ _ (no_more most_entries (count_entries core period firsts) entries) (no_more most_entries (count_rows period firsts) row_count)
-        (no_more most_entries (count_costs core period firsts) costs)
+        none _ _ _ (no_more most_node_parts (count_entries core period firsts) entries) (no_more most_node_parts (count_rows period firsts) row_count)
+        (no_more most_node_parts (count_costs core period firsts) costs)
 
 pub core_files_dont_exceed : (lines : List TextLine) (core : Core) → IsCoreFile lines → Means lines core
     → exceeds core (record { names = (80 ∷ 49 ∷ []) ∷ []; columns = replicate (length core.columns.items) 0; rows = replicate (length core.rows.items) 0 }) (Blocks []) ≡ false

@@ -17,7 +17,7 @@ use Rattle.scen_tree.specs.Chances.{chances_walk}
 use Rattle.build_defs.specs.Scenarios.{Scenario, scenarios_of}
 use Rattle.build_defs.specs.Nodes.{Stand, nodes_of, parent_of, last_value, value_in, form_at, costs_at, entries_at, rows_at}
 use Rattle.build_defs.specs.Built.{paths_from, position_of, node_row, row_interval, node_rows, node_at, nodes_from, columns_from, rows_from}
-use Rattle.build_defs.specs.Built.{program_of, built_from, built, most_scenarios, most_nodes, most_entries, count_entries, count_rows}
+use Rattle.build_defs.specs.Built.{program_of, built_from, built, most_scenarios, most_nodes, most_node_parts, count_entries, count_rows}
 use Rattle.build_defs.specs.Built.{count_costs, exceeds_at, exceeds}
 use Rattle.meaning_laws.proofs.Entries.{value_same}
 
@@ -92,8 +92,8 @@ module _ (c d : Core) (same : AreSame c d) where
 
     exceeds_at_same : (firsts : List Stand) → exceeds_at c p firsts ≡ exceeds_at d p firsts
     exceeds_at_same firsts = λ i. nat_lt most_nodes (length firsts)
-        || (nat_lt most_entries (entry_count_same firsts i) || (nat_lt most_entries (count_rows p firsts)
-        || nat_lt most_entries (cost_count_same firsts i)))
+        || (nat_lt most_node_parts (entry_count_same firsts i) || (nat_lt most_node_parts (count_rows p firsts)
+        || nat_lt most_node_parts (cost_count_same firsts i)))
 
     pub exceeds_same : (random : Random) → exceeds c p random ≡ exceeds d p random
     exceeds_same random = λ i. nat_lt most_scenarios (length (scenarios_of p random))

@@ -22,7 +22,7 @@ use Rattle.interval_form.specs.declared.part.Part.{Part}
 use Rattle.interval_form.specs.declared.part.Part.TheVariants.{Above, Below, Free}
 use Rattle.interval_form.specs.declared.part.Vector.TheVariants.{Point}
 use Rattle.interval_form.specs.Parts.{part_at, value_of, value_walk}
-use Rattle.interval_form.specs.Values.{value_at as place_value}
+use Rattle.interval_form.specs.Values.{place_value}
 use Rattle.interval_form.specs.Own.{by_number, columns_of, listed}
 use Rattle.interval_form.specs.Spans.{limit_count, sum_first}
 use Rattle.interval_form.specs.Rows.{terms_walk, row_sums, row_numbers}

@@ -34,13 +34,14 @@ abbrev pub are_others : List ColumnBounds → List Entry → Bool
 are_others bs [] = true
 are_others bs (e ∷ f) = elim (is_place (place_of bs e.column)) [ true ↦ false | false ↦ are_others bs f ]
 
-abbrev pub is_child : Option ℕ → ℕ → Bool
-is_child None n = false
-is_child (Some m) n = eqb m n
+-- the node is the child that stands at a place, if one does
+abbrev pub is_child_here : Option ℕ → ℕ → Bool
+is_child_here None n = false
+is_child_here (Some m) n = eqb m n
 
 -- a cut that the program takes is about the child at place k
 abbrev pub cut_fits : Bool → List Share → ℕ → Stored → Bool
-cut_fits priced ss k c = pick (is_taken priced (source_of c).kind) (is_child (child_at ss k) (source_of c).node) true
+cut_fits priced ss k c = pick (is_taken priced (source_of c).kind) (is_child_here (child_at ss k) (source_of c).node) true
 
 -- each of these cuts is
 abbrev pub cuts_fit : Bool → List Share → ℕ → List Stored → Bool

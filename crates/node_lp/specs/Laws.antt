@@ -4,7 +4,7 @@ use Rattle.rationals.specs.Rational.{ℚ}
 use Rattle.lp_defs.specs.Certificates as lp_shows
 use Rattle.slack_form.specs.declared.limits.Limits.{Limits}
 use Rattle.slack_form.specs.Standard.{standard_of, signed}
-use Rattle.interval_form.specs.Values.{value_at as place_value}
+use Rattle.interval_form.specs.Values.{place_value}
 use Rattle.interval_form.specs.Plain.{IsPlain, parts_of, IsWritten}
 use Rattle.node_lp.specs.Problem.{Problem, IsProblem}
 use Rattle.node_lp.specs.Plain.{plain_of}

@@ -96,14 +96,15 @@ shared_cost [] costs = zero_ℚ
 shared_cost (s ∷ ss) [] = zero_ℚ
 shared_cost (s ∷ ss) (c ∷ cs) = s.share *ℚ c +ℚ shared_cost ss cs
 
-abbrev pub cost_of : List ℚ → ℕ → ℚ
-cost_of [] k = zero_ℚ
-cost_of (c ∷ cs) zero = c
-cost_of (c ∷ cs) (suc k) = cost_of cs k
+-- the cost at place k; past the last one, 0
+abbrev pub place_cost : List ℚ → ℕ → ℚ
+place_cost [] k = zero_ℚ
+place_cost (c ∷ cs) zero = c
+place_cost (c ∷ cs) (suc k) = place_cost cs k
 
 -- a Bound cut is at most its child's cost, a Ray cut at most 0
 abbrev pub limit_of : CutKind → List ℚ → ℕ → ℚ
-limit_of cut_kind.Bound costs k = cost_of costs k
+limit_of cut_kind.Bound costs k = place_cost costs k
 limit_of cut_kind.Ray costs k = zero_ℚ
 
 -- the point's columns meet the rows and bounds at the trial, and the cuts lie below the children's costs

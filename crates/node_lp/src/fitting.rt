@@ -7,7 +7,7 @@ ghost use Rattle.interval_form.specs.Own.{place_of};
 ghost use Rattle.interval_form.specs.Rows.{HasForm};
 ghost use Rattle.node_lp.specs.Problem.{IsProblem, child_at, problem_of, is_priced};
 ghost use Rattle.node_lp.specs.Fits.{HasCutForm, HaveCutForms, HasForms, is_place, are_others};
-ghost use Rattle.node_lp.specs.Fits.{is_child, cut_fits, cuts_fit, children_fit, parts_fit};
+ghost use Rattle.node_lp.specs.Fits.{is_child_here, cut_fits, cuts_fit, children_fit, parts_fit};
 
 use crate::program::is_taken;
 use crate::solve::is_priced;
@@ -70,7 +70,7 @@ fn are_others(bounds: &[ColumnBounds], terms: &[Term]) -> bool
 }
 
 fn is_child(shares: &[Share], place: usize, child: u32) -> bool
-    ensures { result ≡ is_child (child_at shares.now place) child }
+    ensures { result ≡ is_child_here (child_at shares.now place) child }
 {
     if place < shares.len() {
         let share = &shares[place];

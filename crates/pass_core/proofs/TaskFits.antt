@@ -7,7 +7,7 @@ use Rattle.rationals.specs.Sparse.{Entry}
 use Rattle.rationals.specs.Choices.{pick}
 use Rattle.scen_defs.specs.Lists.{Each, keep, places, passes_at}
 use Rattle.scen_defs.specs.Program.{Program, View, is_live, node_at}
-use Rattle.scen_defs.specs.Flat.{is_child as is_child_of, children}
+use Rattle.scen_defs.specs.Flat.{is_child, children}
 use Rattle.scen_defs.specs.Valid.{IsProgram, Lives}
 use Rattle.scen_defs.specs.declared.program.Column.{Column}
 use Rattle.scen_defs.specs.declared.report.Kind.{Kind}
@@ -25,7 +25,7 @@ use Rattle.cut_banks.specs.declared.banks.Banks.{Banks}
 use Rattle.node_lp.specs.declared.task.ChildCuts.{ChildCuts}
 use Rattle.node_lp.specs.declared.task.Task.{Task}
 use Rattle.node_lp.specs.Problem.{IsProblem, is_priced, is_taken, child_at, problem_of}
-use Rattle.node_lp.specs.Fits.{HasForms, are_others, is_child, cut_fits, cuts_fit, children_fit}
+use Rattle.node_lp.specs.Fits.{HasForms, are_others, is_child_here, cut_fits, cuts_fit, children_fit}
 use Rattle.node_lp.proofs.FitLemmas.{problem_is, others_by}
 use Rattle.run_data.specs.Frames.{Frame, frame_of, parent_in, children_in}
 use Rattle.run_data.specs.Laws.{IsIn}
@@ -104,7 +104,7 @@ few_children kind p n version i =
     omega (
       arith,
       length-map (children v n) (share_of v),
-      keep_few (λ m. is_child_of v n m) v.live,
+      keep_few (λ m. is_child v n m) v.live,
       ap (λ (js : List ℕ). length js) (live_in_form kind p),
       places_few is_live 0 p.nodes,
       i.small.nodes,
@@ -182,10 +182,10 @@ cuts_here : (priced : Bool) (ss : List Share) (k c : ℕ) (cuts : List Stored) �
 cuts_here priced ss k c [] e h = refl
 cuts_here priced ss k c (d ∷ cuts) e h = go (cut_fits priced ss k d) (fits (is_taken priced (source_of d).kind)) (cuts_here priced ss k c cuts e h.1)
   where
-    about : is_child (child_at ss k) (source_of d).node ≡ true
-    about = ap (λ (o : Option ℕ). is_child o (source_of d).node) e ∙ eq-eqb c (source_of d).node (sym h.0)
+    about : is_child_here (child_at ss k) (source_of d).node ≡ true
+    about = ap (λ (o : Option ℕ). is_child_here o (source_of d).node) e ∙ eq-eqb c (source_of d).node (sym h.0)
 
-    fits : (b : Bool) → pick b (is_child (child_at ss k) (source_of d).node) true ≡ true
+    fits : (b : Bool) → pick b (is_child_here (child_at ss k) (source_of d).node) true ≡ true
     fits true = about
     fits false = refl
 

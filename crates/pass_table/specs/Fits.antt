@@ -112,6 +112,6 @@ pub record HasRead (m : Machine) (f : Flight) (numbers : List ℕ) (readings : L
       → slice_index numbers (reading_at readings i).child ≡ m.number (reading_at readings i).child
 
 -- what a Begin answers and leaves: the node that is begun next, or that none may be begun
-abbrev pub Begins : Machine → ℕ → Option ℕ → Table → Type 0
-Begins m worker None t = ((n : ℕ) → MayBegin m n → ⊥) × Fits t m
-Begins m worker (Some n) t = IsNext m n × Fits t (begun m worker n)
+abbrev pub AnswersBegin : Machine → ℕ → Option ℕ → Table → Type 0
+AnswersBegin m worker None t = ((n : ℕ) → MayBegin m n → ⊥) × Fits t m
+AnswersBegin m worker (Some n) t = IsNext m n × Fits t (begun m worker n)

@@ -75,7 +75,7 @@ impl Table {
     ghost use Rattle.std.specs.Prelude.{true};
     ghost use Rattle.pass_table.specs.Machine.{Machine, Flight, IsValid, IsLive, IsClosed, IsComplete, IsFlown, dropped, committed};
     ghost use Rattle.pass_table.specs.Machine.{raised, opened};
-    ghost use Rattle.pass_table.specs.Fits.{Fits, Agrees, lists_of, Begins, IsHeld, HasRead, IsStart};
+    ghost use Rattle.pass_table.specs.Fits.{Fits, Agrees, lists_of, AnswersBegin, IsHeld, HasRead, IsStart};
 
     /// The table before any event.
     pub fn start(alloc: Global, parents: Vec<u32>, workers: u32) -> Result<Table, AllocError>
@@ -172,7 +172,7 @@ impl Table {
     pub fn begin(&mut self, worker: u32) -> Option<u32>
         requires worker { worker < length self.old.flights.items }
         requires idle { slice_index_or self.old.flights.items worker None ≡ None }
-        ensures fits { (m : Machine) → IsValid m → Fits self.old m → Begins m worker result self.new }
+        ensures fits { (m : Machine) → IsValid m → Fits self.old m → AnswersBegin m worker result self.new }
         ensures workers { length self.new.flights.items ≡ length self.old.flights.items }
     {
         let Some(node) = next_ready(

@@ -7,7 +7,7 @@ use Rattle.scen_defs.specs.Lists.{Each}
 use Rattle.smps_words.specs.Field.{IsField}
 use Rattle.smps_words.proofs.NumberedNames.{numbered_snoc, none_numbered}
 use Rattle.time_defs.specs.Periods.{ArePeriods}
-use Rattle.time_defs.specs.Means.{Stages, IsReached, entries_at}
+use Rattle.time_defs.specs.Means.{Stages, IsReached, column_entries}
 use Rattle.stoch_defs.specs.Random.{Random}
 use Rattle.tree_build.specs.Law.{IsStaged, AreCases}
 use Rattle.tree_build.proofs.Readings.{read_staged, read_periods, read_names, read_cases}
@@ -30,8 +30,8 @@ staged core None p is = record {
   rows = ap (λ (q : Stages). length q.rows) is ∙ length-replicate (length core.rows.items) 0;
   columns = ap (λ (q : Stages). length q.columns) is ∙ length-replicate (length core.columns.items) 0;
   triangle = λ j below.
-      subst (λ (stage : ℕ). IsReached p.rows stage (entries_at core.columns.items j))
-      (sym (ap (λ (q : Stages). get_or q.columns j 0) is ∙ first_stage 0 (length core.columns.items) j)) (reached p.rows (entries_at core.columns.items j));
+      subst (λ (stage : ℕ). IsReached p.rows stage (column_entries core.columns.items j))
+      (sym (ap (λ (q : Stages). get_or q.columns j 0) is ∙ first_stage 0 (length core.columns.items) j)) (reached p.rows (column_entries core.columns.items j));
 }
 staged core (Some text) p mean = read_staged core text p mean.1
 

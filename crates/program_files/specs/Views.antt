@@ -13,7 +13,7 @@ use Rattle.time_defs.specs.Means.{Stages}
 use Rattle.time_defs.specs.Laws.{IsTimeReading}
 use Rattle.time_defs.specs.Periods.{stages}
 use Rattle.stoch_defs.specs.declared.stoch.Stoch.{Stoch}
-use Rattle.stoch_defs.specs.Random.{content as content_of}
+use Rattle.stoch_defs.specs.Random.{stoch_content}
 use Rattle.stoch_defs.specs.File.{IsStochReading}
 use Rattle.scen_defs.specs.declared.program.Program.{Program}
 use Rattle.scen_defs.specs.Program.{Program as ProgramView, content}
@@ -35,7 +35,7 @@ GivesPeriods core (Some text) (Err (fail.Refused refusal)) = IsTimeReading core 
 
 -- the cases of the stoch file, or its first fault, or memory was wanting
 abbrev pub GivesRandom : Core → Stages → Option (List ℕ) → Result Stoch ReadFail → Type 0
-GivesRandom core p text (Ok stoch) = MeansRandom core p text (content_of stoch)
+GivesRandom core p text (Ok stoch) = MeansRandom core p text (stoch_content stoch)
 GivesRandom core p text (Err fail.Memory) = ⊤
 GivesRandom core p None (Err (fail.Refused refusal)) = ⊥
 GivesRandom core p (Some text) (Err (fail.Refused refusal)) = IsStochReading core p text (Err refusal)

@@ -1,7 +1,7 @@
 //! Reads the three texts of a program.
 ghost use Rattle.std.specs.Prelude.{◌≡◌, ◌≤◌, Some, IfSome, length};
 ghost use Rattle.refusals.specs.declared.cause.Cause.{Cause};
-ghost use Rattle.stoch_defs.specs.Random.{content as content_of};
+ghost use Rattle.stoch_defs.specs.Random.{stoch_content};
 ghost use Rattle.time_defs.specs.Periods.{stages};
 ghost use Rattle.input_files.specs.Fetched.{file_limit};
 ghost use Rattle.input_files.specs.Unfetched.{texts_view, given_bytes};
@@ -108,7 +108,7 @@ fn with_cases(
 ) -> Result<Program, Unread>
     requires core { MeansCore texts.now.core.items core }
     requires periods { MeansPeriods core (given_bytes texts.now.time) (stages periods.now) }
-    requires cases { MeansRandom core (stages periods.now) (given_bytes texts.now.stoch) (content_of stoch.now) }
+    requires cases { MeansRandom core (stages periods.now) (given_bytes texts.now.stoch) (stoch_content stoch.now) }
     ensures { MeansOrRefused (texts_view texts.now) result }
 {
     match build(alloc, &core, periods, stoch) {

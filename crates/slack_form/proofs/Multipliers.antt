@@ -10,7 +10,7 @@ use Rattle.smps_words.specs.declared.row_kind.RowKind.TheVariants.{Less, Greater
 use Rattle.lp_defs.specs.Certificates as lp
 use Rattle.slack_form.specs.declared.limits.Limit.{Limit}
 use Rattle.slack_form.specs.declared.limits.Limits.{Limits}
-use Rattle.slack_form.specs.Limits.{IsLimits, AllBelow, rights, column_at}
+use Rattle.slack_form.specs.Limits.{IsLimits, AllBelow, rights, column_coefficients}
 use Rattle.slack_form.specs.Standard.{next_slack, behind, turned, is_turned, equation, equations, turned_rights, standard_of, turned_back, signed}
 use Rattle.slack_form.specs.Certificates.{HasSign, HaveSigns, IsDual, IsFarkas}
 use Rattle.slack_form.proofs.Turns.{turned_zero, turned_times}
@@ -18,7 +18,7 @@ use Rattle.slack_form.proofs.Equations.{slack, next_above, behind_above, equatio
 
 -- ---- sums
 -- in a column before the slack columns the equations have the sum of the rows
-pub sum_before : (j c : ℕ) (rows : List Limit) (ds : List ℚ) → c < j → dot ds (lp.column_of (equations j rows) c) ≡ dot (turned_back rows ds) (column_at c rows)
+pub sum_before : (j c : ℕ) (rows : List Limit) (ds : List ℚ) → c < j → dot ds (lp.column_of (equations j rows) c) ≡ dot (turned_back rows ds) (column_coefficients c rows)
 sum_before j c [] [] h = refl
 sum_before j c [] (d ∷ ds) h = refl
 sum_before j c (row ∷ rows) [] h = refl
@@ -33,14 +33,14 @@ worth_is (row ∷ rows) [] = refl
 worth_is (row ∷ rows) (d ∷ ds) = ap₂ ◌+ℚ◌ (sym (turned_times (is_turned row) d row.right)) (worth_is rows ds)
 
 -- rows have no entries behind their columns
-no_entries : (m c : ℕ) (rows : List Limit) (ds : List ℚ) → AllBelow m rows → m ≤ c → dot ds (column_at c rows) ≡ zero_ℚ
+no_entries : (m c : ℕ) (rows : List Limit) (ds : List ℚ) → AllBelow m rows → m ≤ c → dot ds (column_coefficients c rows) ≡ zero_ℚ
 no_entries m c [] [] a h = refl
 no_entries m c [] (d ∷ ds) a h = refl
 no_entries m c (row ∷ rows) [] a h = refl
 no_entries m c (row ∷ rows) (d ∷ ds) a h =
     let e : coefficient row.entries c ≡ zero_ℚ = past_end m c row.entries a.0.below h in
-    let r : dot ds (column_at c rows) ≡ zero_ℚ = no_entries m c rows ds a.1 h in
-    by_eqs (d ∷ coefficient row.entries c ∷ dot ds (column_at c rows) ∷ []) (by_eq d e (by_eq one_ℚ r done)) (search terms depth 40) tt
+    let r : dot ds (column_coefficients c rows) ≡ zero_ℚ = no_entries m c rows ds a.1 h in
+    by_eqs (d ∷ coefficient row.entries c ∷ dot ds (column_coefficients c rows) ∷ []) (by_eq d e (by_eq one_ℚ r done)) (search terms depth 40) tt
 
 -- ---- signs
 -- the sum in a row's slack column is its multiplier, with the sign of the slack

@@ -7,7 +7,7 @@ use Rattle.smps_words.specs.declared.row_kind.RowKind.{RowKind}
 use Rattle.smps_words.specs.declared.row_kind.RowKind.TheVariants.{Less, Greater, Equal}
 use Rattle.slack_form.specs.declared.limits.Limit.{Limit}
 use Rattle.slack_form.specs.declared.limits.Limits.{Limits}
-use Rattle.slack_form.specs.Limits.{rights, column_at}
+use Rattle.slack_form.specs.Limits.{rights, column_coefficients}
 
 -- ---- points and rays
 
@@ -53,7 +53,7 @@ HaveSigns (row ∷ rows) (dual ∷ duals) = HasSign row.kind dual × HaveSigns r
 
 -- the sum of column j's entries, each times its row's multiplier
 abbrev pub column_sum : Limits → List ℚ → ℕ → ℚ
-column_sum limits duals j = dot duals (column_at j limits.rows.items)
+column_sum limits duals j = dot duals (column_coefficients j limits.rows.items)
 
 -- the cost of column j less that sum
 abbrev pub reduced_cost : Limits → List ℚ → ℕ → ℚ

@@ -24,6 +24,6 @@ rights [] = []
 rights (row ∷ rows) = row.right ∷ rights rows
 
 -- the entries of column j, by row
-abbrev pub column_at : ℕ → List Limit → List ℚ
-column_at j [] = []
-column_at j (row ∷ rows) = coefficient row.entries j ∷ column_at j rows
+abbrev pub column_coefficients : ℕ → List Limit → List ℚ
+column_coefficients j [] = []
+column_coefficients j (row ∷ rows) = coefficient row.entries j ∷ column_coefficients j rows

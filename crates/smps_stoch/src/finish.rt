@@ -300,12 +300,12 @@ fn branch_chances(alloc: Global, heads: &[BranchHead]) -> Result<Vec<Frac>, Allo
 
 impl Draft {
     ghost use Rattle.stoch_defs.specs.Finish.{blocks_of, branches_of, random_of};
-    ghost use Rattle.stoch_defs.specs.Random.{content};
+    ghost use Rattle.stoch_defs.specs.Random.{stoch_content};
     ghost use Rattle.smps_stoch.specs.View.{filed};
 
     /// The blocks, which take the values of the cases.
     fn take_blocks(&mut self) -> Result<Stoch, Stop>
-        ensures { Gives content result (blocks_of (filed self.old)) }
+        ensures { Gives stoch_content result (blocks_of (filed self.old)) }
     {
         let alloc = self.alloc;
         let sets = replace(&mut self.case_sets, Vec::new(alloc));
@@ -317,7 +317,7 @@ impl Draft {
 
     /// The scenarios, which take their values.
     fn take_branches(&mut self) -> Result<Stoch, Stop>
-        ensures { Gives content result (branches_of (filed self.old)) }
+        ensures { Gives stoch_content result (branches_of (filed self.old)) }
     {
         let alloc = self.alloc;
         let scenarios = replace(&mut self.paths, Paths::empty(alloc)).into_scenarios();
@@ -329,7 +329,7 @@ impl Draft {
 
     /// What the lines mean: scenarios where there are any, or else blocks. It takes their values.
     pub(crate) fn finish(&mut self) -> Result<Stoch, Stop>
-        ensures { Gives content result (random_of (filed self.old)) }
+        ensures { Gives stoch_content result (random_of (filed self.old)) }
     {
         if self.branches.is_empty() {
             return self.take_blocks();

@@ -5,18 +5,19 @@ use Rattle.std.specs.List.{list_any}
 use Rattle.smps_words.specs.Line.{fields_of}
 use Rattle.smps_words.specs.Names.{same_name}
 
-pub record Row : Type 0 where
+-- a word of a table, with its code
+pub record WordRow : Type 0 where
   pub word : List ℕ
   pub code : ℕ
 
 -- each word with the code at its place
-abbrev pub rows_of : List (List ℕ) → List ℕ → List Row
+abbrev pub rows_of : List (List ℕ) → List ℕ → List WordRow
 rows_of [] codes = []
 rows_of (word ∷ words) [] = []
 rows_of (word ∷ words) (code ∷ codes) = record { word = word; code = code } ∷ rows_of words codes
 
 -- the code of the first row with the word
-abbrev pub code_of : List Row → List ℕ → Option ℕ
+abbrev pub code_of : List WordRow → List ℕ → Option ℕ
 code_of [] word = None
 code_of (row ∷ rows) word = if same_name word row.word then Some row.code else code_of rows word
 

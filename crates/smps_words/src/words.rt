@@ -1,7 +1,7 @@
 //! Keywords with codes.
 ghost use Rattle.std.specs.Prelude.{◌≡◌, true, Some, IfSome, Contains, length};
 ghost use Rattle.smps_words.specs.Line.{fields_of};
-ghost use Rattle.smps_words.specs.Words.{Row, rows_of, code_of, is_table};
+ghost use Rattle.smps_words.specs.Words.{WordRow, rows_of, code_of, is_table};
 
 use crate::bytes::{skip_blanks, split_field};
 
@@ -30,7 +30,7 @@ impl<'a, const N: usize> Words<'a, N> {
         ensures code { result ≡ code_of (rows self.now) word.now }
 
         // A word of the table has the code of its row and no other; what is found stands in the table.
-        ensures own { (row : Row) → Contains (rows self.now) row → row.word ≡ word.now → result ≡ Some row.code }
+        ensures own { (row : WordRow) → Contains (rows self.now) row → row.word ≡ word.now → result ≡ Some row.code }
         ensures found { IfSome result (λ code. Contains (rows self.now) (record { word = word.now; code = code })) }
     {
         code_of(self.words, &self.codes, word)

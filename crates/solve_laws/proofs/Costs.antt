@@ -18,7 +18,7 @@ use Rattle.cut_defs.specs.Stored.{Stored, source_of, constant_of, form_of}
 use Rattle.node_lp.specs.declared.task.ChildCuts.{ChildCuts}
 use Rattle.node_lp.specs.declared.task.Task.{Task}
 use Rattle.node_lp.specs.Problem.{held, PlacedCut, Problem, is_priced, is_taken, taken_of, taken, problem_of, child_at, IsProblem}
-use Rattle.node_lp.specs.Records.{form_at, shared_cost, cost_of, limit_of}
+use Rattle.node_lp.specs.Records.{form_at, shared_cost, place_cost, limit_of}
 use Rattle.node_lp.specs.Answers.{PointAnswer, value_at_trial}
 use Rattle.node_lp.proofs.Columns.{each_split}
 use Rattle.solve_laws.specs.Points.{IsDatumIn}
@@ -42,7 +42,7 @@ from_on n (suc k) m (s ∷ ss) h e =
     omega arith
 
 pub cost_at_place : (n k m : ℕ) (ss : List Share) (costs : List ℚ) → SharesRise n ss → child_at ss k ≡ Some m
-    → cost_by ss costs m ≡ cost_of costs k
+    → cost_by ss costs m ≡ place_cost costs k
 cost_at_place n k m [] costs h e = absurd (let no : ◌≡◌ {A = Option ℕ} None (Some m) = e in cc)
 cost_at_place n k m (s ∷ ss) [] h e = refl
 cost_at_place n zero m (s ∷ ss) (c ∷ cs) h e =
@@ -58,7 +58,7 @@ no_costs : (ss : List Share) → shared_cost ss [] ≡ zero_ℚ
 no_costs [] = refl
 no_costs (s ∷ ss) = refl
 
-pub shared_is : (cost : ℕ → ℚ) (ss : List Share) (costs : List ℚ) → ((k m : ℕ) → child_at ss k ≡ Some m → cost m ≡ cost_of costs k)
+pub shared_is : (cost : ℕ → ℚ) (ss : List Share) (costs : List ℚ) → ((k m : ℕ) → child_at ss k ≡ Some m → cost m ≡ place_cost costs k)
     → shared_cost ss costs ≡ sum_ℚ (λ (s : Share). s.share *ℚ cost s.child) ss
 shared_is cost [] costs h = refl
 shared_is cost (s ∷ ss) [] h =
@@ -71,19 +71,19 @@ shared_is cost (s ∷ ss) (c ∷ cs) h =
 -- each child has the cost of its place, the first of place k
 abbrev AreCosts : (ℕ → ℚ) → List ℚ → ℕ → List ChildCuts → Type 0
 AreCosts cost costs k [] = Unit {0}
-AreCosts cost costs k (c ∷ cs) = (cost c.child ≡ cost_of costs k) × AreCosts cost costs (suc k) cs
+AreCosts cost costs k (c ∷ cs) = (cost c.child ≡ place_cost costs k) × AreCosts cost costs (suc k) cs
 
 are_costs : (cost : ℕ → ℚ) (costs : List ℚ) (k : ℕ) (cs : List ChildCuts) (ss : List Share)
     → map (λ (c : ChildCuts). c.child) cs ≡ map (λ (s : Share). s.child) ss
-    → ((i m : ℕ) → child_at ss i ≡ Some m → cost m ≡ cost_of costs (k + i)) → AreCosts cost costs k cs
+    → ((i m : ℕ) → child_at ss i ≡ Some m → cost m ≡ place_cost costs (k + i)) → AreCosts cost costs k cs
 are_costs cost costs k [] ss e h = tt
 are_costs cost costs k (c ∷ cs) [] e h = absurd (let no : ◌≡◌ {A = List ℕ} (c.child ∷ map (λ (c : ChildCuts). c.child) cs) [] = e in cc)
 are_costs cost costs k (c ∷ cs) (s ∷ ss) e h =
     let both : ◌≡◌ {A = List ℕ} (c.child ∷ map (λ (c : ChildCuts). c.child) cs) (s.child ∷ map (λ (s : Share). s.child) ss) = e in
     let same : c.child ≡ s.child = cc in
     let rest : map (λ (c : ChildCuts). c.child) cs ≡ map (λ (s : Share). s.child) ss = cc in (
-      ap cost same ∙ subst (λ i. cost s.child ≡ cost_of costs i) (omega arith) (h zero s.child refl),
-      are_costs cost costs (suc k) cs ss rest (λ i m f. subst (λ j. cost m ≡ cost_of costs j) (omega arith) (h (suc i) m f)),
+      ap cost same ∙ subst (λ i. cost s.child ≡ place_cost costs i) (omega arith) (h zero s.child refl),
+      are_costs cost costs (suc k) cs ss rest (λ i m f. subst (λ j. cost m ≡ place_cost costs j) (omega arith) (h (suc i) m f)),
     )
 
 ray_taken : (priced : Bool) → is_taken priced Ray ≡ true
@@ -99,7 +99,7 @@ module _ (p : Problem) (x along : List Entry) (costs : List ℚ)
       → value_at_trial cut along ≤ℚ limit_of (source_of cut).kind costs k
   below k cut h = subst (λ z. constant_of cut +ℚ z ≤ℚ limit_of (source_of cut).kind costs k) (together (form_of cut)) h
 
-  bounds_below : (k : ℕ) (cuts : List Stored) → Each Below (taken_of true k cuts) → BoundsBelow along (cost_of costs k) cuts
+  bounds_below : (k : ℕ) (cuts : List Stored) → Each Below (taken_of true k cuts) → BoundsBelow along (place_cost costs k) cuts
   bounds_below k [] h = tt
   bounds_below k (c ∷ cs) h =
       (λ e. subst (λ (kind : CutKind). value_at_trial c along ≤ℚ limit_of kind costs k) e (below k c h.0), bounds_below k cs h.1)
@@ -143,7 +143,7 @@ costs_at v n t x along value cut d fits own a adds =
     let p : Problem = problem_of t in
     let costs : List ℚ = a.point.costs in
     let cost : ℕ → ℚ = cost_by t.datum.shares costs in
-    let at : (k m : ℕ) → child_at t.datum.shares k ≡ Some m → cost m ≡ cost_of costs k
+    let at : (k m : ℕ) → child_at t.datum.shares k ≡ Some m → cost m ≡ place_cost costs k
     = λ k m e. cost_at_place 0 k m t.datum.shares costs fits.shares_rise e in
     let together : (f : List Entry) → form_at p x f ≡ product f (coefficient along)
     = λ f. sum-ext (λ (e : Entry). e.value *ℚ (coefficient x e.column +ℚ coefficient t.trial e.column))
@@ -158,7 +158,7 @@ costs_at v n t x along value cut d fits own a adds =
           ∙ sum-map (λ (s : Share). s.share *ℚ cost s.child) (share_of v) (children v n));
       bounds = λ priced. all_bounds_below p x along costs together cost 0 t.children.items
           (are_costs cost costs 0 t.children.items t.datum.shares same
-          (λ i m e. subst (λ j. cost m ≡ cost_of costs j) (omega arith) (at i m e)))
+          (λ i m e. subst (λ j. cost m ≡ place_cost costs j) (omega arith) (at i m e)))
           (subst (λ (b : Bool). Each (Below p x along costs together) (taken b 0 t.children.items)) priced a.point.meets.cuts);
       rays = all_rays_below p x along costs together (is_priced t.kind) 0 t.children.items a.point.meets.cuts;
     }

@@ -5,7 +5,7 @@ use Rattle.std.proofs.lemmas.List.Sums.{sum_by-append}
 use Rattle.core_defs.specs.declared.program.Core.{Core}
 use Rattle.time_defs.specs.Means.{Stages}
 use Rattle.stoch_defs.specs.Random.{Branch}
-use Rattle.build_defs.specs.Built.{most_entries}
+use Rattle.build_defs.specs.Built.{most_node_parts}
 use Rattle.tree_build.specs.declared.parts.Values.{Values as ValuesOf}
 use Rattle.tree_build.specs.declared.numbering.Debut.{Debut}
 use Rattle.tree_build.specs.declared.numbering.Path.{Path}
@@ -70,12 +70,12 @@ much n m h = grind (arith, nat_tests)
 pub over_whole : (counts : Counts) (all whole : List Values) (d : Values) → counts.entries ≡ sum_by entries_in all → counts.rows ≡ sum_by rows_in all → counts.costs ≡ sum_by costs_in all → IsOverWith counts d →
     ((f : Values → ℕ) → sum_by f all + f d ≤ sum_by f whole) → are_over whole ≡ true
 over_whole counts all whole d entries rows costs over more =
-    first_over (nat_lt most_entries (sum_by entries_in whole)) (nat_lt most_entries (sum_by rows_in whole)) (nat_lt most_entries (sum_by costs_in whole)) (go over)
+    first_over (nat_lt most_node_parts (sum_by entries_in whole)) (nat_lt most_node_parts (sum_by rows_in whole)) (nat_lt most_node_parts (sum_by costs_in whole)) (go over)
   where
-    go : IsOverWith counts d → (nat_lt most_entries (sum_by entries_in whole) ≡ true) ⊎ ((nat_lt most_entries (sum_by rows_in whole) ≡ true) ⊎ (nat_lt most_entries (sum_by costs_in whole) ≡ true))
-    go (inl h) = inl (much most_entries (sum_by entries_in whole) (omega (arith, h, entries, more entries_in)))
-    go (inr (inl h)) = inr (inl (much most_entries (sum_by rows_in whole) (omega (arith, h, rows, more rows_in))))
-    go (inr (inr h)) = inr (inr (much most_entries (sum_by costs_in whole) (omega (arith, h, costs, more costs_in))))
+    go : IsOverWith counts d → (nat_lt most_node_parts (sum_by entries_in whole) ≡ true) ⊎ ((nat_lt most_node_parts (sum_by rows_in whole) ≡ true) ⊎ (nat_lt most_node_parts (sum_by costs_in whole) ≡ true))
+    go (inl h) = inl (much most_node_parts (sum_by entries_in whole) (omega (arith, h, entries, more entries_in)))
+    go (inr (inl h)) = inr (inl (much most_node_parts (sum_by rows_in whole) (omega (arith, h, rows, more rows_in))))
+    go (inr (inr h)) = inr (inr (much most_node_parts (sum_by costs_in whole) (omega (arith, h, costs, more costs_in))))
 
 pub branch_more : (f : Values → ℕ) (core : Core) (p : Stages) (base : List Values) (branches : List Branch) (paths : List (List ℕ)) (all : List Values) (debut : Debut) (debuts : List Debut) →
     sum_by f all + f (branch_node core p base branches paths all debut) ≤ sum_by f (branch_nodes core p base branches paths all (debut ∷ debuts))

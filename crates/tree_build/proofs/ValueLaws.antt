@@ -11,7 +11,7 @@ use Rattle.smps_words.specs.declared.entry.Entry.{Entry}
 use Rattle.smps_words.specs.declared.entry.Entry.TheVariants.{Cost, Matrix, Rhs}
 use Rattle.core_defs.specs.declared.parts.ColumnDef.{ColumnDef}
 use Rattle.core_defs.specs.declared.program.Core.{Core}
-use Rattle.time_defs.specs.Means.{Stages, IsReached, entries_at as column_entries}
+use Rattle.time_defs.specs.Means.{Stages, IsReached, column_entries}
 use Rattle.stoch_defs.specs.Entries.{is_late, no_column}
 use Rattle.stoch_defs.specs.Random.{Sets}
 use Rattle.scen_defs.specs.Lists.{Each, passes_at}

@@ -4,7 +4,7 @@ use Rattle.rationals.specs.Rational.{zero_ℚ, one_ℚ, ◌<ℚ◌}
 use Rattle.rationals.specs.Sums.{sum_ℚ}
 use Rattle.smps_words.specs.Line.{reading_of}
 use Rattle.core_defs.specs.declared.program.Core.{Core}
-use Rattle.time_defs.specs.Means.{Stages, Means, entries_at, IsReached}
+use Rattle.time_defs.specs.Means.{Stages, Means, column_entries, IsReached}
 use Rattle.time_defs.specs.Periods.{ArePeriods}
 use Rattle.stoch_defs.specs.Entries.{is_late}
 use Rattle.stoch_defs.specs.Random.{Sets, Case, Block, Branch, Random}
@@ -21,7 +21,7 @@ use Rattle.tree_build.specs.Walks.{build_over, build_walk}
 pub record IsStaged (core : Core) (p : Stages) : Type 0 where
   pub rows : length p.rows ≡ length core.rows.items
   pub columns : length p.columns ≡ length core.columns.items
-  pub triangle : (j : ℕ) → j < length core.columns.items → IsReached p.rows (get_or p.columns j 0) (entries_at core.columns.items j)
+  pub triangle : (j : ℕ) → j < length core.columns.items → IsReached p.rows (get_or p.columns j 0) (column_entries core.columns.items j)
 
 -- no entry that is set is of a column of a later stage than its row
 abbrev pub AreTimely : Stages → Sets → Type 0

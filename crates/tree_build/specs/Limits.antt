@@ -1,6 +1,6 @@
 -- How much a program may have over all its nodes.
 use Rattle.std.specs.Prelude.{◌≡◌, ℕ, ◌<◌, ◌≤◌, ◌+◌, Bool, ◌||◌, ◌⊎◌, List, length, sum_by, nat_lt}
-use Rattle.build_defs.specs.Built.{most_entries}
+use Rattle.build_defs.specs.Built.{most_node_parts}
 use Rattle.tree_build.specs.declared.parts.RowValues.{RowValues}
 use Rattle.tree_build.specs.declared.limits.Counts.{Counts}
 use Rattle.tree_build.specs.Values.{Values}
@@ -21,22 +21,22 @@ costs_in d = length d.cost
 
 pub record IsSum (sum count : ℕ) : Type 0 where
   pub same : count ≡ sum
-  pub small : count ≤ most_entries
+  pub small : count ≤ most_node_parts
 
 pub record AreSmall (counts : Counts) : Type 0 where
-  pub entries : counts.entries ≤ most_entries
-  pub rows : counts.rows ≤ most_entries
-  pub costs : counts.costs ≤ most_entries
+  pub entries : counts.entries ≤ most_node_parts
+  pub rows : counts.rows ≤ most_node_parts
+  pub costs : counts.costs ≤ most_node_parts
 
 abbrev pub counts_with : Counts → Values → Counts
 counts_with counts d = record { entries = counts.entries + entries_in d; rows = counts.rows + rows_in d; costs = counts.costs + costs_in d }
 
 -- one of the counts is too much with those of one more node
 abbrev pub IsOverWith : Counts → Values → Type 0
-IsOverWith counts d = (most_entries < counts.entries + entries_in d)
-    ⊎ ((most_entries < counts.rows + rows_in d) ⊎ (most_entries < counts.costs + costs_in d))
+IsOverWith counts d = (most_node_parts < counts.entries + entries_in d)
+    ⊎ ((most_node_parts < counts.rows + rows_in d) ⊎ (most_node_parts < counts.costs + costs_in d))
 
 -- there are more entries, rows or costs over all nodes than there may be
 abbrev pub are_over : List Values → Bool
-are_over all = nat_lt most_entries (sum_by entries_in all) || (nat_lt most_entries (sum_by rows_in all)
-    || nat_lt most_entries (sum_by costs_in all))
+are_over all = nat_lt most_node_parts (sum_by entries_in all) || (nat_lt most_node_parts (sum_by rows_in all)
+    || nat_lt most_node_parts (sum_by costs_in all))

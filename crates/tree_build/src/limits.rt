@@ -1,6 +1,6 @@
 //! How much a program may have over all its nodes.
 ghost use Rattle.std.specs.Prelude.{◌≡◌, ◌≤◌, ◌<◌, ◌+◌, length, sum_by, MatchOption};
-ghost use Rattle.build_defs.specs.Built.{most_entries};
+ghost use Rattle.build_defs.specs.Built.{most_node_parts};
 ghost use Rattle.tree_build.specs.Values.{values_content};
 ghost use Rattle.tree_build.specs.Limits.{entry_count, IsSum, IsOverWith, counts_with, AreSmall};
 
@@ -19,8 +19,8 @@ pub struct Counts {
 
 /// A count and more, where that isn't too much.
 fn added(count: usize, more: usize) -> Option<usize>
-    requires { count ≤ most_entries }
-    ensures { MatchOption result (most_entries < count + more) (IsSum (count + more)) }
+    requires { count ≤ most_node_parts }
+    ensures { MatchOption result (most_node_parts < count + more) (IsSum (count + more)) }
 {
     if more > MOST_ENTRIES - count {
         None
@@ -31,8 +31,8 @@ fn added(count: usize, more: usize) -> Option<usize>
 
 /// A count and the entries of rows, where that isn't too much.
 fn with_entries(count: usize, rows: &[RowValues]) -> Option<usize>
-    requires { count ≤ most_entries }
-    ensures { MatchOption result (most_entries < count + sum_by entry_count rows.now) (IsSum (count + sum_by entry_count rows.now)) }
+    requires { count ≤ most_node_parts }
+    ensures { MatchOption result (most_node_parts < count + sum_by entry_count rows.now) (IsSum (count + sum_by entry_count rows.now)) }
 {
     let mut sum = count;
     for row in rows {

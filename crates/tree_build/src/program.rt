@@ -1,7 +1,7 @@
 //! The program of a core, its periods and its scenarios.
 ghost use Rattle.std.specs.Prelude.{◌≡◌, ◌<◌, ◌≤◌, ◌^◌, [], false, map, length, IfOk};
 ghost use Rattle.time_defs.specs.Periods.{ArePeriods};
-ghost use Rattle.stoch_defs.specs.Random.{block_content, branch_content, content};
+ghost use Rattle.stoch_defs.specs.Random.{block_content, branch_content, stoch_content};
 ghost use Rattle.scen_defs.specs.Lists.{Each};
 ghost use Rattle.smps_words.specs.Field.{IsField};
 ghost use Rattle.build_defs.specs.Scenarios.{stages_from};
@@ -119,9 +119,9 @@ pub fn build(
     requires staged { IsStaged core.now (stages periods.now) }
     requires periods { ArePeriods (stages periods.now) }
     requires names { Each IsField (stages periods.now).names }
-    requires cases { AreCases (stages periods.now) (content stoch.now) }
-    ensures { IsBuilt (build_over core.now (stages periods.now) (content stoch.now))
-        (build_walk core.now (stages periods.now) (content stoch.now)) result }
+    requires cases { AreCases (stages periods.now) (stoch_content stoch.now) }
+    ensures { IsBuilt (build_over core.now (stages periods.now) (stoch_content stoch.now))
+        (build_walk core.now (stages periods.now) (stoch_content stoch.now)) result }
 {
     match stoch {
         Stoch::Blocks(blocks) => build_blocks(alloc, core, periods, blocks),

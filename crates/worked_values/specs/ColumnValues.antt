@@ -4,7 +4,7 @@ use Rattle.std.specs.Prelude.{◌≡◌, ℕ, List, [], ◌∷◌, ◌++◌, Som
 use Rattle.rationals.specs.Rational.{ℚ}
 use Rattle.core_defs.specs.Stated.{columns, constraints, entry_in, entry_pairs}
 use Rattle.core_defs.specs.Bounds.{bounds_in}
-use Rattle.core_defs.specs.Fault.{count_entries}
+use Rattle.core_defs.specs.Fault.{count_pairs}
 use Rattle.worked_values.specs.Told.{whole_ℚ, minus_ℚ, lines_told, refused_behind}
 use Rattle.worked_values.specs.RowValues.{example_rows}
 
@@ -28,7 +28,7 @@ pub record ColumnsAreAsDocumented : Type 0 where
   pub b_need : value_stated "B" "NEED" ≡ whole_ℚ 0
   pub b_sum : value_stated "B" "SUM" ≡ whole_ℚ 25
   -- a value 0 is no entry, and one in an N row is none of a constraint
-  pub entries : count_entries (constraints (lines_told example_columns)) (entry_pairs (lines_told example_columns)) ≡ 3
+  pub entries : count_pairs (constraints (lines_told example_columns)) (entry_pairs (lines_told example_columns)) ≡ 3
   -- a column is at least 0 and has no upper bound where BOUNDS says nothing else
   pub at_least : (bounds_in (lines_told example_columns) (codes "A")).lower ≡ Some (whole_ℚ 0)
   pub no_upper : (bounds_in (lines_told example_columns) (codes "A")).upper ≡ None
