@@ -1,8 +1,9 @@
 // The sums of all columns of a cut, in one pass over its rows and used cuts.
 ghost use Rattle.std.specs.Prelude.{◌≡◌, Ok, IfOk, IfSome, OnOk, []};
+ghost use Rattle.scen_defs.specs.Lists.{NumbersRise};
 ghost use Rattle.rationals.specs.Sparse.{Ascending};
 ghost use Rattle.cut_proof.specs.View.{source_content, uses_content};
-ghost use Rattle.cut_sums.specs.Walks.{Above, uses_from, prices_walk, form_from, all_columns};
+ghost use Rattle.cut_sums.specs.Walks.{uses_from, prices_walk, form_from, all_columns};
 ghost use Rattle.cut_sums.specs.Tallies.{AreSums, AreZeros, MovesColumns, UsesAscend};
 
 use crate::cut::{Record, Used};
@@ -125,7 +126,7 @@ pub(crate) fn form_by(
     tally: &[Term],
 ) -> Result<Form, Memory>
     requires { AreSums datum.now (source_content source.now) (uses_content source.now.used.items) tally.now }
-    ensures rises { IfOk result (λ _. Above 0 (all_columns datum.now.rows (uses_content source.now.used.items))) }
+    ensures rises { IfOk result (λ _. NumbersRise 0 (all_columns datum.now.rows (uses_content source.now.used.items))) }
     ensures form { IfOk result (λ form.
         form_from datum.now (source_content source.now) (uses_content source.now.used.items) []
         (all_columns datum.now.rows (uses_content source.now.used.items)) ≡ Ok form) }

@@ -1,12 +1,13 @@
 // A cut from a record and the data of its node.
 ghost use Rattle.std.specs.Prelude.{◌≡◌, IfOk};
+ghost use Rattle.scen_defs.specs.Lists.{NumbersRise};
 ghost use Rattle.rationals.specs.Sparse.{coefficient};
 ghost use Rattle.scen_model.specs.Walks.{product_from};
 ghost use Rattle.cut_defs.specs.Stored.{constant_of, form_of, IsMadeFrom};
 ghost use Rattle.cut_proof.specs.Answers.{Makes};
 ghost use Rattle.cut_proof.specs.Conditions.{MayBeMade};
 ghost use Rattle.cut_proof.specs.View.{source_content, uses_content};
-ghost use Rattle.cut_sums.specs.Walks.{Above, all_columns, made, value_walk};
+ghost use Rattle.cut_sums.specs.Walks.{all_columns, made, value_walk};
 
 use crate::cut::{Cut, Record};
 use crate::fault::CutFault;
@@ -32,7 +33,7 @@ impl Cut {
     /// The cut by its walk.
     fn make(alloc: Global, source: Record, datum: &NodeDatum) -> Result<Cut, CutFault>
         ensures walk { Makes (made datum.now (source_content source) (uses_content source.used.items)) result }
-        ensures rises { IfOk result (λ _. Above 0 (all_columns datum.now.rows (uses_content source.used.items))) }
+        ensures rises { IfOk result (λ _. NumbersRise 0 (all_columns datum.now.rows (uses_content source.used.items))) }
     {
         let rows = datum.rows();
         let sums = all_sums(alloc, datum, &source)?;

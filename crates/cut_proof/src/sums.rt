@@ -1,10 +1,11 @@
 // The sums of a cut, operation by operation.
 ghost use Rattle.std.specs.Prelude.{◌≡◌, MatchResult, IfOk, IfSome, Ok, []};
+ghost use Rattle.scen_defs.specs.Lists.{NumbersRise};
 ghost use Rattle.frac128.specs.Faults.{FaultOf, IfNotMemory};
 ghost use Rattle.rationals.specs.Passes.{then_walk};
 ghost use Rattle.cut_proof.specs.View.{uses_content, source_content};
 ghost use Rattle.cut_sums.specs.Tallies.{AreSums};
-ghost use Rattle.cut_sums.specs.Walks.{Above, all_columns, earlier_walk, uses_from, column_walk, prices_walk, form_from};
+ghost use Rattle.cut_sums.specs.Walks.{all_columns, earlier_walk, uses_from, column_walk, prices_walk, form_from};
 ghost use Rattle.cut_sums.specs.Walks.{rows_worth, columns_worth, uses_worth, no_worth};
 
 use crate::columns::all_columns;
@@ -97,7 +98,7 @@ fn form_over(
     source: &Record,
     columns: &[u64],
 ) -> Result<Form, FormFault>
-    requires { Above 0 columns.now }
+    requires { NumbersRise 0 columns.now }
     ensures { IfNotMemory result (form_from datum.now (source_content source.now) (uses_content source.now.used.items) [] columns.now) }
 {
     let mut form = Form::empty(alloc);
@@ -110,7 +111,7 @@ fn form_over(
 
 /// The same over all columns.
 fn form_each(alloc: Global, datum: &NodeDatum, source: &Record) -> Result<Form, FormFault>
-    ensures rises { IfOk result (λ _. Above 0 (all_columns datum.now.rows (uses_content source.now.used.items))) }
+    ensures rises { IfOk result (λ _. NumbersRise 0 (all_columns datum.now.rows (uses_content source.now.used.items))) }
     ensures form { IfNotMemory result
         (form_from datum.now (source_content source.now) (uses_content source.now.used.items) []
         (all_columns datum.now.rows (uses_content source.now.used.items))) }
@@ -128,7 +129,7 @@ pub(crate) fn form(
 ) -> Result<Form, FormFault>
     requires { IfSome sums.now (λ tally.
         AreSums datum.now (source_content source.now) (uses_content source.now.used.items) tally.items) }
-    ensures rises { IfOk result (λ _. Above 0 (all_columns datum.now.rows (uses_content source.now.used.items))) }
+    ensures rises { IfOk result (λ _. NumbersRise 0 (all_columns datum.now.rows (uses_content source.now.used.items))) }
     ensures form { IfNotMemory result
         (form_from datum.now (source_content source.now) (uses_content source.now.used.items) []
         (all_columns datum.now.rows (uses_content source.now.used.items))) }

@@ -11,7 +11,7 @@ use Rattle.rationals.specs.Forms.{put, put_unless, is_zero}
 use Rattle.rationals.proofs.Lowest.{zero_from_num}
 use Rattle.rationals.specs.Choices.{pick}
 use Rattle.scen_defs.specs.declared.program.NodeRow.{NodeRow}
-use Rattle.scen_defs.specs.Lists.{Each, Once, Absent, is_in}
+use Rattle.scen_defs.specs.Lists.{Each, Once, Absent, is_in, NumbersRise}
 use Rattle.scen_defs.proofs.SumLaws.{sum-pick, sum-none}
 use Rattle.scen_model.proofs.WalkEnds.{ended}
 use Rattle.cut_defs.specs.declared.datum.ColumnBounds.{ColumnBounds}
@@ -19,7 +19,7 @@ use Rattle.cut_defs.specs.Data.{Datum, is_own}
 use Rattle.cut_defs.specs.Stored.{Source, StoredUses, form_sum, slope_of, form_of, IsEarlier}
 use Rattle.cut_defs.specs.Stored.StoredUses.{No_stored, Use_stored}
 use Rattle.cut_defs.proofs.Merges.{neither}
-use Rattle.cut_sums.specs.Walks.{column_walk, Above, union_at, union, columns_in, rows_columns, uses_columns, all_columns, earlier_walk, form_from}
+use Rattle.cut_sums.specs.Walks.{column_walk, union_at, union, columns_in, rows_columns, uses_columns, all_columns, earlier_walk, form_from}
 use Rattle.cut_sums.proofs.SumEnds.{column_ends}
 
 -- ---- a column that is written
@@ -60,11 +60,11 @@ form_ends d s uses before (c ∷ cs) f j e =
     by_eqs (coefficient f j ∷ coefficient (before ++ put c one.result []) j ∷ coefficient before j ∷ coefficient (put c one.result []) j ∷ value_if (eqb c j) (early d s uses c) ∷ sum_ℚ (λ c. value_if (eqb c j) (early d s uses c)) cs ∷ []) (by_eq one_ℚ i (by_eq one_ℚ a (by_eq one_ℚ p done))) (search terms depth 40) tt
 
 -- ---- a number in lists that rise stands there once
-absent_below : (n j : ℕ) (xs : List ℕ) → Above n xs → j < n → Absent j xs
+absent_below : (n j : ℕ) (xs : List ℕ) → NumbersRise n xs → j < n → Absent j xs
 absent_below n j [] a h = tt
 absent_below n j (x ∷ xs) a h = let k : n ≤ x = a.0 in ((λ e. absurd (omega arith)), absent_below (suc x) j xs a.1 (omega arith))
 
-once : (n j : ℕ) (xs : List ℕ) → Above n xs → is_in j xs ≡ true → Once j xs
+once : (n j : ℕ) (xs : List ℕ) → NumbersRise n xs → is_in j xs ≡ true → Once j xs
 once n j [] a e = absurd (cc)
 once n j (x ∷ xs) a e = go (eqb x j) refl e (once (suc x) j xs a.1)
   where
@@ -146,7 +146,7 @@ not_own [] j h = refl
 not_own (b ∷ bs) j h = ap₂ ◌||◌ (ne_eqb b.column j h.0) (not_own bs j h.1)
 
 -- ---- the form is the slope at each column that isn't the node's own
-pub form_is : (d : Datum) (s : Source) (uses : StoredUses) (f : List Entry) → Above 0 (all_columns d.rows uses) → form_from d s uses [] (all_columns d.rows uses) ≡ Ok f → (j : ℕ) → IsEarlier d.bounds j → coefficient f j ≡ slope_of d s uses j
+pub form_is : (d : Datum) (s : Source) (uses : StoredUses) (f : List Entry) → NumbersRise 0 (all_columns d.rows uses) → form_from d s uses [] (all_columns d.rows uses) ≡ Ok f → (j : ℕ) → IsEarlier d.bounds j → coefficient f j ≡ slope_of d s uses j
 unfolding early
 form_is d s uses f a e j h = form_ends d s uses [] (all_columns d.rows uses) f j e ∙ zero_add_ℚ _ ∙ go (is_in j (all_columns d.rows uses)) refl
   where

@@ -11,14 +11,14 @@ use Rattle.std.specs.Cmp.{signed_Decides}
 use Rattle.std.proofs.Common.{pos}
 use Rattle.frac128.proofs.FormLemmas.{value_here, value_past, value_none, put_zero}
 use Rattle.scen_defs.specs.declared.program.NodeRow.{NodeRow}
-use Rattle.scen_defs.specs.Lists.{Each, is_in}
+use Rattle.scen_defs.specs.Lists.{Each, is_in, NumbersRise}
 use Rattle.cut_defs.specs.declared.kinds.CutKind.{CutKind}
 use Rattle.cut_defs.specs.declared.kinds.CutKind.TheVariants.{Bound, Ray}
 use Rattle.cut_defs.specs.declared.datum.ColumnBounds.{ColumnBounds}
 use Rattle.cut_defs.specs.Data.{Datum, IsDatum, is_own}
 use Rattle.cut_defs.specs.Stored.{Source, StoredUses, cost_of, form_of}
 use Rattle.cut_defs.specs.Stored.StoredUses.{No_stored, Use_stored}
-use Rattle.cut_sums.specs.Walks.{Above, union, columns_in, rows_columns, uses_columns, all_columns, earlier_walk, column_walk, form_from}
+use Rattle.cut_sums.specs.Walks.{union, columns_in, rows_columns, uses_columns, all_columns, earlier_walk, column_walk, form_from}
 use Rattle.cut_sums.specs.Tallies.{AreSums, RowsAscend, UsesAscend, outside}
 use Rattle.cut_sums.proofs.TallyLaws.{absent}
 use Rattle.cut_sums.proofs.Rising.{union_of_form}
@@ -162,21 +162,21 @@ walk_puts d s uses v before (j ∷ js) h =
     ∙ walk_puts d s uses v (before ++ put j (v j) []) js h
     ∙ ap (λ l. Ok l) (append_assoc before (put j (v j) []) (puts v js) ∙ ap (λ l. before ++ l) (put_front j (v j) (puts v js)))
 
-puts_same : (n : ℕ) (v w : ℕ → ℚ) (js : List ℕ) → Above n js → ((j : ℕ) → n ≤ j → v j ≡ w j) → puts v js ≡ puts w js
+puts_same : (n : ℕ) (v w : ℕ → ℚ) (js : List ℕ) → NumbersRise n js → ((j : ℕ) → n ≤ j → v j ≡ w j) → puts v js ≡ puts w js
 unfolding puts
 puts_same n v w [] a h = refl
 puts_same n v w (j ∷ js) a h =
     let k : n ≤ j = a.0 in
     ap₂ (λ q l. put j q l) (h j k) (puts_same (suc j) v w js a.1 (λ i l. h i (omega (arith, l, k))))
 
-not_below : (n c : ℕ) (js : List ℕ) → Above n js → c < n → is_in c js ≡ false
+not_below : (n c : ℕ) (js : List ℕ) → NumbersRise n js → c < n → is_in c js ≡ false
 not_below n c [] a h = refl
 not_below n c (j ∷ js) a h =
     let k : n ≤ j = a.0 in
     ap₂ (λ x y. x || y) (ne_eqb j c (λ q. absurd (omega (arith, q, h, k)))) (not_below (suc j) c js a.1 (omega (arith, h, k)))
 
 -- a form none of whose values stands beside the columns is that of its numbers there
-puts_are : (n m : ℕ) (js : List ℕ) (f : List Entry) → Above n js → Ascending m f → AllNonzero f → ((c : ℕ) → is_in c js ≡ false → coefficient f c ≡ zero_ℚ) → puts (coefficient f) js ≡ f
+puts_are : (n m : ℕ) (js : List ℕ) (f : List Entry) → NumbersRise n js → Ascending m f → AllNonzero f → ((c : ℕ) → is_in c js ≡ false → coefficient f c ≡ zero_ℚ) → puts (coefficient f) js ≡ f
 unfolding puts
 puts_are n m [] [] a r z h = refl
 puts_are n m [] (e ∷ f) a r z h = absurd (z.0 (value_here e f e.column m r refl ∙ h e.column refl))
@@ -217,15 +217,15 @@ puts_are n m (j ∷ js) (e ∷ f) a r z h = go (eqb e.column j) refl (ltb e.colu
         put_none j (coefficient (e ∷ f) j) (puts (coefficient (e ∷ f)) js) (value_none e f j m r l) ∙ again (before l)
 
 -- ---- the columns rise
-rows_rise : (before : List ℕ) (rs : List NodeRow) → Above 0 before → RowsAscend rs → Above 0 (rows_columns before rs)
+rows_rise : (before : List ℕ) (rs : List NodeRow) → NumbersRise 0 before → RowsAscend rs → NumbersRise 0 (rows_columns before rs)
 rows_rise before [] a h = a
 rows_rise before (r ∷ rs) a h = rows_rise (union before (columns_in r.entries)) rs (union_of_form before r.entries a h.0) h.1
 
-uses_rise : (before : List ℕ) (uses : StoredUses) → Above 0 before → UsesAscend uses → Above 0 (uses_columns before uses)
+uses_rise : (before : List ℕ) (uses : StoredUses) → NumbersRise 0 before → UsesAscend uses → NumbersRise 0 (uses_columns before uses)
 uses_rise before No_stored a h = a
 uses_rise before (Use_stored w cut uses) a h = uses_rise (union before (columns_in (form_of cut))) uses (union_of_form before (form_of cut) a h.0) h.1
 
-pub columns_rise : (rs : List NodeRow) (uses : StoredUses) → RowsAscend rs → UsesAscend uses → Above 0 (all_columns rs uses)
+pub columns_rise : (rs : List NodeRow) (uses : StoredUses) → RowsAscend rs → UsesAscend uses → NumbersRise 0 (all_columns rs uses)
 columns_rise rs uses h g = uses_rise (rows_columns [] rs) uses (rows_rise [] rs tt h) g
 
 -- ---- costs stand in own columns
@@ -239,7 +239,7 @@ no_cost_of d Bound j i o = no_cost d.bounds d.cost j i.own o
 no_cost_of d Ray j i o = refl
 
 -- ---- the form that is read off
-pub form_read : (d : Datum) (s : Source) (uses : StoredUses) (tally : List Entry) → IsDatum d → AreSums d s uses tally → Above 0 (all_columns d.rows uses) → form_from d s uses [] (all_columns d.rows uses) ≡ Ok (outside d.bounds tally)
+pub form_read : (d : Datum) (s : Source) (uses : StoredUses) (tally : List Entry) → IsDatum d → AreSums d s uses tally → NumbersRise 0 (all_columns d.rows uses) → form_from d s uses [] (all_columns d.rows uses) ≡ Ok (outside d.bounds tally)
 form_read d s uses tally i sums a =
     walk_puts d s uses (coefficient (outside d.bounds tally)) [] (all_columns d.rows uses) walk
     ∙ ap (λ l. Ok l) (puts_are 0 0 (all_columns d.rows uses) (outside d.bounds tally) a (outside_rises d.bounds 0 tally sums.rises) (outside_nonzero d.bounds tally) nothing)
@@ -260,5 +260,5 @@ form_read d s uses tally i sums a =
             column_ends d s uses c (cost_of d s.kind c) (coefficient tally c) (sums.ends c)
             ∙ ap₂ (λ x y. x +ℚ y) (no_cost_of d s.kind c i o) (no_slope d s uses c n) ∙ add_zero_ℚ zero_ℚ
 
-pub form_read_as : (d : Datum) (s : Source) (uses : StoredUses) (tally form : List Entry) → IsDatum d → AreSums d s uses tally → Above 0 (all_columns d.rows uses) → form ≡ outside d.bounds tally → form_from d s uses [] (all_columns d.rows uses) ≡ Ok form
+pub form_read_as : (d : Datum) (s : Source) (uses : StoredUses) (tally form : List Entry) → IsDatum d → AreSums d s uses tally → NumbersRise 0 (all_columns d.rows uses) → form ≡ outside d.bounds tally → form_from d s uses [] (all_columns d.rows uses) ≡ Ok form
 form_read_as d s uses tally form i sums a e = form_read d s uses tally i sums a ∙ ap (λ l. Ok l) (sym e)

@@ -1,6 +1,6 @@
 -- The sums of a cut, step by step in their order: each product is added to, or taken from, what is there as one step. A walk
 -- ends at the first that passes.
-use Rattle.std.specs.Prelude.{ℕ, suc, ◌≤◌, Bool, true, false, ltb, List, [], ◌∷◌, ◌++◌, Option, Some, None, Result, Ok}
+use Rattle.std.specs.Prelude.{ℕ, Bool, true, false, ltb, List, [], ◌∷◌, ◌++◌, Option, Some, None, Result, Ok}
 use Rattle.rationals.specs.Rational.{ℚ, zero_ℚ}
 use Rattle.rationals.specs.Sparse.{Entry, coefficient}
 use Rattle.rationals.specs.Forms.{put}
@@ -36,11 +36,6 @@ abbrev pub prices_walk : Datum → Source → StoredUses → Result (List Priced
 prices_walk d s uses = priced_from d s uses [] d.bounds
 
 -- ---- the form: the columns that stand in a row or in a used form and are none of the node's own, each from 0
--- numbers rise
-abbrev pub Above : ℕ → List ℕ → Type 0
-Above n [] = Unit {0}
-Above n (x ∷ xs) = (n ≤ x) × Above (suc x) xs
-
 -- two lists that rise, each number once
 abbrev pub union_at : ℕ → (List ℕ → List ℕ) → List ℕ → List ℕ
 union_at a rest [] = a ∷ rest []

@@ -2,8 +2,9 @@
 use Rattle.std.specs.Prelude.{⊤, ℕ, Bool, ◌||◌, List, [], ◌∷◌, codes, Option, Some, None, Result, Ok, Err}
 use Rattle.std.specs.Prelude.{if◌then◌else◌}
 use Rattle.smps_words.specs.Names.{same_name, place_of, if_later}
+use Rattle.smps_words.specs.Entries.{matrix_at, rhs_at}
 use Rattle.smps_words.specs.declared.entry.Entry.{Entry}
-use Rattle.smps_words.specs.declared.entry.Entry.TheVariants.{Cost, Matrix, Rhs}
+use Rattle.smps_words.specs.declared.entry.Entry.TheVariants.{Cost}
 use Rattle.refusals.specs.declared.cause.Cause.{Cause}
 use Rattle.refusals.specs.declared.cause.Cause.TheVariants as cause
 use Rattle.refusals.specs.Results.{◌>>=◌, needs}
@@ -22,20 +23,12 @@ use Rattle.edit_script.specs.declared.command.Command.TheVariants.{Change, Work,
 use Rattle.edit_script.specs.Numbers.{count_of, inner_number}
 
 -- ---- entries: a column and the objective, a column and a row, or the set of right-hand sides and a row
-abbrev pub matrix_entry : ℕ → Option ℕ → Option Entry
-matrix_entry j None = None
-matrix_entry j (Some i) = Some (Matrix i j)
-
-abbrev pub right_entry : Option ℕ → Option Entry
-right_entry None = None
-right_entry (Some i) = Some (Rhs i)
-
 abbrev pub is_rhs_name : Program → List ℕ → Bool
 is_rhs_name p name = same_name name p.rhs || same_name name (codes "RHS")
 
 abbrev pub entry_by : Program → List ℕ → List ℕ → Option ℕ → Option Entry
-entry_by p column row (Some j) = if same_name row p.objective then Some (Cost j) else matrix_entry j (place_of (row_names p.rows) row)
-entry_by p column row None = if is_rhs_name p column then right_entry (place_of (row_names p.rows) row) else None
+entry_by p column row (Some j) = if same_name row p.objective then Some (Cost j) else matrix_at j (place_of (row_names p.rows) row)
+entry_by p column row None = if is_rhs_name p column then rhs_at (place_of (row_names p.rows) row) else None
 
 abbrev pub entry_of : Program → List ℕ → List ℕ → Option Entry
 entry_of p column row = entry_by p column row (place_of (column_names p.columns) column)

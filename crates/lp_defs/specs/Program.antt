@@ -20,6 +20,7 @@ abbrev pub AllFormsBelow : ℕ → List (List Entry) → Type 0
 AllFormsBelow n [] = Unit {0}
 AllFormsBelow n (f ∷ rows) = IsFormBelow n f × AllFormsBelow n rows
 
+-- no number of the list is below 0
 abbrev pub NoneNegative : List ℚ → Type 0
 NoneNegative [] = Unit {0}
 NoneNegative (b ∷ right) = (zero_ℚ ≤ℚ b) × NoneNegative right

@@ -6,10 +6,11 @@ use Rattle.rationals.specs.Sparse.{coefficient}
 use Rattle.smps_words.specs.Names.{same_name, place_of}
 use Rattle.smps_words.specs.declared.entry.Entry.{Entry}
 use Rattle.smps_words.specs.declared.entry.Entry.TheVariants.{Cost, Matrix, Rhs}
+use Rattle.smps_words.specs.Entries.{matrix_at, rhs_at}
 use Rattle.core_defs.specs.declared.program.Core.{Core}
 use Rattle.core_defs.specs.Core.{row_names, column_names}
 use Rattle.core_defs.specs.Laws.{AreSame}
-use Rattle.stoch_defs.specs.Entries.{matrix_at, rhs_at, entry_at, entry_of, no_column, no_row, core_value}
+use Rattle.stoch_defs.specs.Entries.{entry_at, entry_of, no_column, no_row, core_value}
 use Rattle.stoch_defs.specs.Random.{Sets}
 use Rattle.stoch_defs.specs.Stated.{value_set, value_behind}
 

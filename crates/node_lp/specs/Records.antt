@@ -13,6 +13,7 @@ use Rattle.cut_defs.specs.declared.datum.Share.{Share}
 use Rattle.cut_defs.specs.declared.kinds.CutKind.{CutKind}
 use Rattle.cut_defs.specs.declared.kinds.CutKind.TheVariants as cut_kind
 use Rattle.cut_defs.specs.Cuts.{is_bound}
+use Rattle.lp_defs.specs.Program.{NoneNegative}
 use Rattle.node_lp.specs.Problem.{PlacedCut, Problem}
 use Rattle.node_lp.specs.Places.{OfColumns}
 
@@ -35,10 +36,6 @@ abbrev pub weight_on : List ℚ → List PlacedCut → ℕ → ℚ
 weight_on ws [] m = zero_ℚ
 weight_on [] (c ∷ cs) m = zero_ℚ
 weight_on (w ∷ ws) (c ∷ cs) m = value_if (is_bound c.cut.kind && eqb c.cut.node m) w +ℚ weight_on ws cs m
-
-abbrev pub NoneBelow : List ℚ → Type 0
-NoneBelow [] = Unit {0}
-NoneBelow (w ∷ ws) = (zero_ℚ ≤ℚ w) × NoneBelow ws
 
 -- no Bound cut has a weight
 abbrev pub RaysAlone : List ℚ → List PlacedCut → Type 0
@@ -78,7 +75,7 @@ HasWeights p cut_kind.Ray ws = RaysAlone ws p.cuts
 pub record IsRecord (p : Problem) (kind : CutKind) (y : List Entry) (ws : List ℚ) : Type 0 where
   -- one weight for each cut, none below 0
   pub one_each : length ws ≡ length p.cuts
-  pub none_below : NoneBelow ws
+  pub none_below : NoneNegative ws
   -- every used end is finite
   pub rows : Each (λ (r : NodeRow). IsGoodAt r.low r.high (coefficient y r.row)) p.rows
   pub bounds : Each (λ (b : ColumnBounds). IsGoodAt b.lower b.upper (reduced p kind y ws b.column)) p.bounds

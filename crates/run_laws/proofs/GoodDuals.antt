@@ -10,7 +10,7 @@ use Rattle.rationals.specs.Sparse.{Entry, Ascending, coefficient, value_if}
 use Rattle.rationals.specs.Forms.{EndsBelow, is_zero, put, put_unless}
 use Rattle.rationals.specs.Passes.{Operation, div_walk, then_walk}
 use Rattle.rationals.proofs.WalkLaws.{walk_value}
-use Rattle.scen_defs.specs.Lists.{Each}
+use Rattle.scen_defs.specs.Lists.{Each, NumbersRise}
 use Rattle.scen_defs.specs.Ends.{IsGoodAt, worth}
 use Rattle.scen_defs.specs.Program.{Program, View, IsTree, IsLive, total, view_of, is_live}
 use Rattle.scen_defs.specs.Flat.{IsGood, share, children}
@@ -36,7 +36,7 @@ use Rattle.cut_defs.specs.Stored.StoredUses.{No_stored, Use_stored}
 use Rattle.cut_defs.proofs.CutLaws.{each-child}
 use Rattle.cut_defs.proofs.Grounds.{ground_cuts_are_made}
 use Rattle.cut_defs.proofs.Present.{bare, bares, each_mapped}
-use Rattle.cut_sums.specs.Walks.{Above, all_columns, earlier_walk, priced_from, form_from, constant_walk, cut_if, made}
+use Rattle.cut_sums.specs.Walks.{all_columns, earlier_walk, priced_from, form_from, constant_walk, cut_if, made}
 use Rattle.cut_sums.proofs.FormEnds.{coefficient_append, coefficient_put, form_is}
 use Rattle.cut_sums.proofs.OuterLaws.{columns_rise}
 use Rattle.cut_proof.specs.Conditions.{MayBeMade}
@@ -116,7 +116,7 @@ below_more : (n m : ℕ) (f : List Entry) → n ≤ m → EndsBelow n f → Ends
 below_more n m [] l b = tt
 below_more n m (e ∷ f) l b = (omega (arith, l, b.0), below_more n m f l b.1)
 
-written_rises : (d : Datum) (s : Source) (uses : StoredUses) (n : ℕ) (done f : List Entry) (js : List ℕ) → Above n js → Ascending 0 done
+written_rises : (d : Datum) (s : Source) (uses : StoredUses) (n : ℕ) (done f : List Entry) (js : List ℕ) → NumbersRise n js → Ascending 0 done
     → EndsBelow n done → form_from d s uses done js ≡ Ok f → Ascending 0 f
 written_rises d s uses n done f [] a r b e = let q : done ≡ f = cc in subst (λ (g : List Entry). Ascending 0 g) q r
 written_rises d s uses n done f (j ∷ js) a r b e =
@@ -136,7 +136,7 @@ form_made : (b : Bool) (x cut : Stored) → ◌≡◌ {A = Result (Option Stored
 form_made true x cut e = let q : cut ≡ x = cc in ap form_of q
 form_made false x cut e = absurd (cc)
 
-made_rises : (d : Datum) (s : Source) (uses : StoredUses) (cut : Stored) → Above 0 (all_columns d.rows uses) → made d s uses ≡ Ok (Some cut)
+made_rises : (d : Datum) (s : Source) (uses : StoredUses) (cut : Stored) → NumbersRise 0 (all_columns d.rows uses) → made d s uses ≡ Ok (Some cut)
     → Ascending 0 (form_of cut)
 made_rises d s uses cut a e =
     let one = ended (priced_from d s uses [] d.bounds) (λ priced. then_walk (form_from d s uses [] (all_columns d.rows uses)) (λ form. then_walk (constant_walk d s uses priced) (λ w. Ok (cut_if w.is_good (Stored_of s uses w.sum form))))) (Some cut) e in
@@ -279,7 +279,7 @@ module _ (kind : Kind) (p : Program) (tree : Tree) (i : IsProgram p) (t : tree_w
         (λ m h cut e. let same : h.cut ≡ cut = (let q : Some h.cut ≡ Some cut = sym h.at_place ∙ e in cc) in
         subst (λ (x : Stored). Ascending 0 (form_of x)) same h.here.rises) (children (view_in kind p) n) children_here))
 
-    columns_above : Above 0 (all_columns d.rows uses)
+    columns_above : NumbersRise 0 (all_columns d.rows uses)
     columns_above = columns_rise d.rows uses (parts n lives).forms (all_ascend No_stored d.shares of_children tt forms_rise)
 
     -- the record with the quotients is a ground cut

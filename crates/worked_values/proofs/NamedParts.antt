@@ -7,6 +7,7 @@ use Rattle.smps_words.specs.Line.{TextLine}
 use Rattle.smps_words.specs.Names.{same_name, place_of}
 use Rattle.smps_words.specs.declared.entry.Entry.{Entry}
 use Rattle.smps_words.specs.declared.entry.Entry.TheVariants.{Cost, Matrix, Rhs}
+use Rattle.smps_words.specs.Entries.{matrix_at, rhs_at}
 use Rattle.core_defs.specs.declared.parts.ColumnDef.{ColumnDef}
 use Rattle.core_defs.specs.declared.parts.RowDef.{RowDef}
 use Rattle.core_defs.specs.declared.program.Core.{Core}
@@ -14,7 +15,7 @@ use Rattle.core_defs.specs.Core.{row_names, column_names}
 use Rattle.core_defs.specs.Means.{IsStatedColumn, IsStatedRow, Means, TextMeans}
 use Rattle.core_defs.specs.Stated.{entry_in, rhs_in}
 use Rattle.time_defs.specs.Stated.{start_row, row_or_objective}
-use Rattle.stoch_defs.specs.Entries.{entry_at, entry_of, matrix_at, rhs_at, no_column, no_row, core_value}
+use Rattle.stoch_defs.specs.Entries.{entry_at, entry_of, no_column, no_row, core_value}
 use Rattle.worked_values.specs.TimeValues.{mix}
 use Rattle.worked_values.specs.StochValues.{column_rhs}
 

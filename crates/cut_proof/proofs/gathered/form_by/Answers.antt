@@ -1,9 +1,10 @@
 use Rattle.std.proofs.Common.{List, subst, ap, ◌∙◌}
 use Rattle.scen_defs.specs.declared.program.NodeRow.{NodeRow}
+use Rattle.scen_defs.specs.Lists.{NumbersRise}
 use Rattle.cut_defs.specs.declared.datum.ColumnBounds.{ColumnBounds}
 use Rattle.cut_proof.specs.declared.cut.Used.{Used}
 use Rattle.cut_proof.specs.View.{source_content, uses_content}
-use Rattle.cut_sums.specs.Walks.{Above, all_columns}
+use Rattle.cut_sums.specs.Walks.{all_columns}
 use Rattle.cut_sums.specs.Tallies.{RowsAscend, UsesAscend, outside}
 use Rattle.cut_sums.proofs.OuterLaws.{outside_form, columns_rise, form_read_as}
 use Rattle.cut_proof.proofs.gathered.form_by.Goals as goal
@@ -19,7 +20,7 @@ returns-clause-rises c =
 
 pub returns-clause-form : goal.returns-clause-form
 returns-clause-form c =
-    let rises : Above 0 (all_columns c.args.datum.now.rows (uses_content c.args.source.now.used.items)) =
+    let rises : NumbersRise 0 (all_columns c.args.datum.now.rows (uses_content c.args.source.now.used.items)) =
     columns_rise c.args.datum.now.rows (uses_content c.args.source.now.used.items)
     (subst (λ (rs : List NodeRow). RowsAscend rs) c.rows.ensures c.keep_row_orders.ensures)
     (subst (λ (us : List Used). UsesAscend (uses_content us)) c.deref.ensures.value c.keep_use_orders.ensures) in
