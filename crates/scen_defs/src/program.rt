@@ -86,3 +86,48 @@ pub struct Program {
       scenarios = scenarios_content scenarios.items;
     }) } by { is_program_prop _ },
 }
+
+impl Program {
+    ghost use Rattle.std.specs.Prelude.{◌≡◌};
+    ghost use Rattle.scen_defs.specs.Program.{content};
+
+    /// The program of these parts, which keep together what every program keeps. Every program is made here.
+    pub fn of_parts(
+        objective: Name,
+        rhs: Name,
+        periods: Vec<Name>,
+        columns: Vec<Column>,
+        rows: Vec<Row>,
+        nodes: Vec<Option<Node>>,
+        scenarios: Vec<Scenario>,
+    ) -> Program
+        requires { IsProgram (record {
+          objective = objective;
+          rhs = rhs;
+          periods = periods.items;
+          columns = columns.items;
+          rows = rows.items;
+          nodes = nodes_content nodes.items;
+          scenarios = scenarios_content scenarios.items;
+        }) }
+        ensures { content result ≡ record {
+          objective = objective;
+          rhs = rhs;
+          periods = periods.items;
+          columns = columns.items;
+          rows = rows.items;
+          nodes = nodes_content nodes.items;
+          scenarios = scenarios_content scenarios.items;
+        } }
+    {
+        Program {
+            objective,
+            rhs,
+            periods,
+            columns,
+            rows,
+            nodes,
+            scenarios,
+        }
+    }
+}

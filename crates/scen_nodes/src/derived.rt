@@ -183,13 +183,5 @@ pub fn derive(alloc: Global, program: &Program, kind: Kind) -> Result<Program, M
     let rows = rows(alloc, &program.rows)?;
     let nodes = nodes(alloc, kind, &program.nodes)?;
     let scenarios = scenarios(alloc, &program.scenarios)?;
-    Ok(Program {
-        objective,
-        rhs,
-        periods,
-        columns,
-        rows,
-        nodes,
-        scenarios,
-    })
+    Ok(Program::of_parts(objective, rhs, periods, columns, rows, nodes, scenarios))
 }

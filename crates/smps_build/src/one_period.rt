@@ -140,13 +140,5 @@ pub fn single(alloc: Global, core: &Core) -> Result<Program, BuildFault>
     let rhs = copied(alloc, &core.rhs_set)?;
     let columns = columns_of(alloc, &core.columns)?;
     let rows = rows_of(alloc, &core.rows)?;
-    Ok(Program {
-        objective,
-        rhs,
-        periods,
-        columns,
-        rows,
-        nodes,
-        scenarios,
-    })
+    Ok(Program::of_parts(objective, rhs, periods, columns, rows, nodes, scenarios))
 }

@@ -208,13 +208,13 @@ pub(crate) fn finish(
 {
     try_chances(alloc, positions, &scenarios)?;
     let nodes = nodes(alloc, &core.rows, debuts, positions, values)?;
-    Ok(Program {
-        objective: copied(alloc, &core.objective)?,
-        rhs: copied(alloc, &core.rhs_set)?,
-        periods: names_of(alloc, &periods.names)?,
-        columns: columns_of(alloc, core, periods)?,
-        rows: rows_of(alloc, core, periods)?,
+    Ok(Program::of_parts(
+        copied(alloc, &core.objective)?,
+        copied(alloc, &core.rhs_set)?,
+        names_of(alloc, &periods.names)?,
+        columns_of(alloc, core, periods)?,
+        rows_of(alloc, core, periods)?,
         nodes,
         scenarios,
-    })
+    ))
 }
