@@ -42,27 +42,32 @@ is_same a b e = by_order (compare a b) refl
     by_order Greater h = absurd (not_le_of_lt_ℚ (greater_means a b h) (le_of_same_ℚ e))
 
 -- an operation that passes is told
-is_told : (place : Place) (o : Operation) (solves : ℕ) → IsWide o
+pub is_told : (place : Place) (o : Operation) (solves : ℕ) → IsWide o
     → pick (passes o.op o.a o.b) (OpenPassed place o) (OpenSolves solves) ≡ OpenPassed place o
 is_told place o solves h = ap (λ (b : Bool). pick b (OpenPassed place o) (OpenSolves solves)) h
+
+-- a list that shows its number doesn't end in an operation
+apart : (number : ℚ) (values : List At) (o : Operation) → by_cost values (Ok number) ≡ by_cost [] (Err o) → ⊥
+apart number values o e = cc
 
 -- ---- the finding by what two tests come to: an operation of the first is told at one place, one of the second at another
 abbrev IsToldOf : {T : Type 0} → (Operation → T) → T → T → Place → Place → Finding → Type 0
 IsToldOf passes first second here there finding = (o : Operation) × (((first ≡ passes o) × (finding ≡ OpenPassed here o))
-    ⊎ ((second ≡ passes o) × (finding ≡ OpenPassed there o)))
+    ⊎ ((second ≡ passes o) × (finding ≡ OpenPassed there o) × ((p : Operation) → first ≡ passes p → ⊥)))
 
 by_two : {T : Type 0} (first second shows others : T) (passes : Operation → T) (found : T → T → Finding) (asked : Finding)
     → (here there : Place) → ComesTo first shows passes → ComesTo second others passes → found shows others ≡ asked
+    → ((o : Operation) → shows ≡ passes o → ⊥)
     → ((o : Operation) → IsWide o → found shows (passes o) ≡ OpenPassed there o)
     → ((o : Operation) → IsWide o → found (passes o) others ≡ OpenPassed here o)
     → ((o p : Operation) → IsWide o → found (passes o) (passes p) ≡ OpenPassed here o)
     → (found first second ≡ asked) ⊎ IsToldOf passes first second here there (found first second)
-by_two first second shows others passes found asked here there (inl e) (inl k) is late early both = inl (ap₂ found e k ∙ is)
-by_two first second shows others passes found asked here there (inl e) (inr q) is late early both =
-    inr (q.0, inr (q.1, ap₂ found e q.1 ∙ late q.0 q.2))
-by_two first second shows others passes found asked here there (inr p) (inl k) is late early both =
+by_two first second shows others passes found asked here there (inl e) (inl k) is differs late early both = inl (ap₂ found e k ∙ is)
+by_two first second shows others passes found asked here there (inl e) (inr q) is differs late early both =
+    inr (q.0, inr (q.1, ap₂ found e q.1 ∙ late q.0 q.2, λ p h. differs p (sym e ∙ h)))
+by_two first second shows others passes found asked here there (inr p) (inl k) is differs late early both =
     inr (p.0, inl (p.1, ap₂ found p.1 k ∙ early p.0 p.2))
-by_two first second shows others passes found asked here there (inr p) (inr q) is late early both =
+by_two first second shows others passes found asked here there (inr p) (inr q) is differs late early both =
     inr (p.0, inl (p.1, ap₂ found p.1 q.1 ∙ both p.0 q.0 p.2))
 
 by_one : {T : Type 0} (tested shows : T) (passes : Operation → T) (found : T → Finding) (asked : Finding) (there : Place)
@@ -88,7 +93,7 @@ module _ (program : Program) (number nodes scenarios : ℕ) (place : Place) (why
       → IsShownBy (Ends (Some policy) (Some dual)) made
   ends_told policy dual (inl e) = inl e
   ends_told policy dual (inr (o, inl a)) = inr (record { told = place; operation = o; finding = a.1; passes = inl (refl, a.0) })
-  ends_told policy dual (inr (o, inr b)) = inr (record { told = Dual; operation = o; finding = b.1; passes = inr (refl, b.0) })
+  ends_told policy dual (inr (o, inr b)) = inr (record { told = Dual; operation = o; finding = b.1; passes = inr (refl, b.0, b.2) })
 
   by_ends : (policy dual : List At) → OptimumHolds program policy dual
       → IsShownBy (Ends (Some policy) (Some dual)) (report_of (Ends (Some policy) (Some dual)))
@@ -100,7 +105,7 @@ module _ (program : Program) (number nodes scenarios : ℕ) (place : Place) (why
       (λ t u. (ends_report
       (blank_report number nodes scenarios (finding_of (or_before t place (or_before u Dual why)) solves)) t u).finding)
       Optimal place Dual (policy_comes program tree policy h.policy_fits h.feasible) (dual_comes program tree dual h.dual_fits h.good)
-      (ap (λ (b : Bool). pick b Optimal (finding_of why solves)) equal)
+      (ap (λ (b : Bool). pick b Optimal (finding_of why solves)) equal) (apart (cost v (at policy)) policy)
       (λ o k. is_told Dual o solves k) (λ o k. is_told place o solves k) (λ o p k. is_told place o solves k))
 
   ray_told : (ray : List At) → let made : Report = report_of (Nowhere ray) in
@@ -121,7 +126,7 @@ module _ (program : Program) (number nodes scenarios : ℕ) (place : Place) (why
       → IsShownBy (Endless policy direction) made
   fall_told policy direction (inl e) = inl e
   fall_told policy direction (inr (o, inl a)) = inr (record { told = place; operation = o; finding = a.1; passes = (refl, inl a.0) })
-  fall_told policy direction (inr (o, inr b)) = inr (record { told = place; operation = o; finding = b.1; passes = (refl, inr b.0) })
+  fall_told policy direction (inr (o, inr b)) = inr (record { told = place; operation = o; finding = b.1; passes = (refl, inr (b.0, b.2)) })
 
   by_fall : (policy direction : List At) → CostFalls program policy direction
       → IsShownBy (Endless policy direction) (report_of (Endless policy direction))
@@ -130,17 +135,17 @@ module _ (program : Program) (number nodes scenarios : ℕ) (place : Place) (why
       (λ t u. (falling_report
       (blank_report number nodes scenarios (finding_of (or_before t place (or_before u place why)) solves)) t u).finding)
       Unbounded place place (policy_comes program tree policy h.policy_fits h.feasible)
-      (direction_comes program tree direction h.direction_fits h.falls) refl
+      (direction_comes program tree direction h.direction_fits h.falls) refl (apart (cost v (at policy)) policy)
       (λ o k. is_told place o solves k) (λ o k. is_told place o solves k) (λ o p k. is_told place o solves k))
 
-  by_claim : (claim : Claim) → ClaimHolds program claim → IsShownBy claim (report_of claim)
-  by_claim (Ends (Some policy) (Some dual)) h = by_ends policy dual h
-  by_claim (Ends (Some policy) None) h = absurd h
-  by_claim (Ends None dual) h = absurd h
-  by_claim (Nowhere ray) h = by_ray ray h
-  by_claim (Endless policy direction) h = by_fall policy direction h
+  pub claim_shown : (claim : Claim) → ClaimHolds program claim → IsShownBy claim (report_of claim)
+  claim_shown (Ends (Some policy) (Some dual)) h = by_ends policy dual h
+  claim_shown (Ends (Some policy) None) h = absurd h
+  claim_shown (Ends None dual) h = absurd h
+  claim_shown (Nowhere ray) h = by_ray ray h
+  claim_shown (Endless policy direction) h = by_fall policy direction h
 
 pub claims_show : ClaimsShow
 claims_show program number place why solves claim report tree claimed h =
     subst (λ (r : Report). (r.finding ≡ finding_for claim) ⊎ TellsTest program place claim r) (sym claimed.is)
-    (by_claim program number report.nodes report.scenarios place why solves tree claim h)
+    (claim_shown program number report.nodes report.scenarios place why solves tree claim h)

@@ -3,3 +3,5 @@ pub mod Passing
 pub mod Tests
 pub mod Claims
 pub mod Unsettled
+pub mod Printed
+pub mod Telling

@@ -1,12 +1,12 @@
--- Why a report is left open by the number of solves, or for an operation, whatever is claimed.
-use Rattle.std.proofs.Common.{◌≡◌, ◌⊎◌, inl, inr, ℕ, Bool, true, false, List, Option, Some, None, Result, Ok, Err, refl, sym, ap, ap₂, subst, ◌∙◌}
+-- Why a report of a claim finds what it finds.
+use Rattle.std.proofs.Common.{◌≡◌, ◌⊎◌, inl, inr, ℕ, Bool, true, false, List, Option, Some, None, Result, Ok, Err, refl, sym, ap, subst, ◌∙◌}
 use Rattle.rationals.specs.Rational.{ℚ, zero_ℚ, at_most}
 use Rattle.rationals.specs.Order.{same}
 use Rattle.rationals.specs.Passes.{Operation, passes}
 use Rattle.rationals.specs.Choices.{pick}
 use Rattle.scen_defs.specs.declared.program.Program.{Program}
 use Rattle.scen_defs.specs.declared.report.Finding.{Finding}
-use Rattle.scen_defs.specs.declared.report.Finding.TheVariants.{Optimal, Infeasible, Unbounded, OpenSolves, OpenPivots, OpenPassed}
+use Rattle.scen_defs.specs.declared.report.Finding.TheVariants.{Optimal, Infeasible, Unbounded, OpenSolves, OpenPassed}
 use Rattle.scen_defs.specs.declared.report.Place.{Place}
 use Rattle.scen_defs.specs.declared.report.Place.TheVariants.{Dual}
 use Rattle.scen_defs.specs.declared.report.Report.{Report}
@@ -27,10 +27,11 @@ use Rattle.proved_report.specs.declared.tested.Tested.TheVariants.{Shows, Fails,
 use Rattle.proved_report.specs.Open.{finding_of}
 use Rattle.proved_report.specs.Tested.{where_fits, where_meets, where_above, by_cost, by_value, shown_number, or_before}
 use Rattle.proved_report.specs.Tested.{policy_test, dual_test, direction_test, ray_test, some_policy_test, some_dual_test}
-use Rattle.proved_report.specs.Reports.{ends_finding, upper_report, lower_report, ends_report, ray_report}
-use Rattle.proved_report.specs.Reports.{direction_report, falling_report, claimed_report}
+use Rattle.proved_report.specs.Reports.{blank_report, ends_finding, upper_report, lower_report, ends_report, ray_report}
+use Rattle.proved_report.specs.Reports.{falling_report, claimed_report}
 use Rattle.claim_laws.specs.Held.{PassesInClaim}
-use Rattle.claim_laws.specs.Laws.{IsForSolves, SolvesAreReasons, PassesAreMet}
+use Rattle.claim_laws.specs.Tells.{IsForSolves, IsFindingOf}
+use Rattle.claim_laws.proofs.Claims.{is_told}
 use Rattle.claim_laws.proofs.Passing.{EndsIn, IsWide, StopsWide, cost_ends, dual_ends, meets_ends, direction_ends}
 
 -- ---- an operation that ends a test passes
@@ -66,93 +67,63 @@ value_wide values (Ok value) h = tt
 value_wide values (Err Decided) h = tt
 value_wide values (Err (PassedStop o)) h = h
 
--- ---- findings
--- a reason that comes behind a test
-behind : (t : Tested) (place : Place) (why : Open) → EndsWide t → IsForSolves (or_before t place why) → IsForSolves why
-behind (Shows number values) place why h k = k
-behind Fails place why h k = k
-behind (Passes o) place why h k = absurd (let no : true ≡ false = sym h ∙ k in cc)
-
--- an operation that is told is the test's, or it comes behind it
-of_test : (t : Tested) (place : Place) (why : Open) (told : Place) (o : Operation) → or_before t place why ≡ Passed told o
-    → ((told ≡ place) × (t ≡ Passes o)) ⊎ (why ≡ Passed told o)
-of_test (Shows number values) place why told o e = inr e
-of_test Fails place why told o e = inr e
-of_test (Passes p) place why told o e = let q : place ≡ told = cc in let r : p ≡ o = cc in inl (sym q, ap (λ (x : Operation). Passes x) r)
-
-open_for : (why : Open) (solves n : ℕ) → finding_of why solves ≡ OpenSolves n → IsForSolves why
-open_for (Solves m) solves n e = tt
-open_for (Pivots k) solves n e = absurd (cc)
-open_for (Passed place o) solves n e = go (passes o.op o.a o.b) e
+-- ---- the findings of reports
+-- ends are OPTIMAL where they are equal
+ends_from : (lower upper : Option ℚ) (finding : Finding)
+    → (ends_finding lower upper finding ≡ Optimal) ⊎ (ends_finding lower upper finding ≡ finding)
+ends_from None upper finding = inr refl
+ends_from (Some lower) None finding = inr refl
+ends_from (Some lower) (Some upper) finding = go (same lower upper)
   where
-    go : (b : Bool) → pick b (OpenPassed place o) (OpenSolves solves) ≡ OpenSolves n → b ≡ false
-    go true e = absurd (cc)
-    go false e = refl
+    go : (b : Bool) → (pick b Optimal finding ≡ Optimal) ⊎ (pick b Optimal finding ≡ finding)
+    go true = inl refl
+    go false = inr refl
 
-told_for : (why : Open) (solves : ℕ) (told : Place) (o : Operation) → finding_of why solves ≡ OpenPassed told o → why ≡ Passed told o
-told_for (Solves m) solves told o e = absurd (cc)
-told_for (Pivots k) solves told o e = absurd (cc)
-told_for (Passed place p) solves told o e = go (passes p.op p.a p.b) e
-  where
-    go : (b : Bool) → pick b (OpenPassed place p) (OpenSolves solves) ≡ OpenPassed told o → Passed place p ≡ Passed told o
-    go true e = let q : place ≡ told = cc in let r : p ≡ o = cc in ap₂ (λ (x : Place) (y : Operation). Passed x y) q r
-    go false e = absurd (cc)
+no_upper : (lower : Option ℚ) (finding : Finding) → ends_finding lower None finding ≡ finding
+no_upper None finding = refl
+no_upper (Some lower) finding = refl
 
--- a report is left open
-abbrev IsLeftOpen : Finding → Type 0
-IsLeftOpen Optimal = ⊥
-IsLeftOpen Infeasible = ⊥
-IsLeftOpen Unbounded = ⊥
-IsLeftOpen (OpenSolves n) = Unit {0}
-IsLeftOpen (OpenPivots k) = Unit {0}
-IsLeftOpen (OpenPassed place o) = Unit {0}
+upper_finding : (report : Report) (t : Tested) → (upper_report report t).finding ≡ report.finding
+upper_finding report (Shows cost policy) = refl
+upper_finding report Fails = refl
+upper_finding report (Passes o) = refl
 
-module _ (left : Finding) (is_open : IsLeftOpen left) where
-  not_settled : (finding : Finding) → (IsLeftOpen finding → ⊥) → finding ≡ left → ⊥
-  not_settled finding settled e = settled (subst IsLeftOpen (sym e) is_open)
+lower_finding : (report : Report) (t : Tested) → (lower_report report t).finding ≡ report.finding
+lower_finding report (Shows value dual) = refl
+lower_finding report Fails = refl
+lower_finding report (Passes o) = refl
 
-  still_open : (a b : Option ℚ) (finding : Finding) → ends_finding a b finding ≡ left → finding ≡ left
-  still_open None b finding e = e
-  still_open (Some lower) None finding e = e
-  still_open (Some lower) (Some upper) finding e = go (same lower upper) e
-    where
-      go : (b : Bool) → pick b Optimal finding ≡ left → finding ≡ left
-      go true e = absurd (not_settled Optimal (λ h. h) e)
-      go false e = e
+ends_is : (blank : Report) (upper lower : Tested)
+    → (ends_report blank upper lower).finding ≡ ends_finding (shown_number lower) (shown_number upper) blank.finding
+ends_is blank upper lower =
+    let told : Finding = ends_finding (shown_number lower) (shown_number upper) blank.finding in
+    lower_finding (upper_report (record blank { finding = told }) upper) lower ∙ upper_finding (record blank { finding = told }) upper
 
-  upper_finding : (report : Report) (t : Tested) → (upper_report report t).finding ≡ report.finding
-  upper_finding report (Shows cost policy) = refl
-  upper_finding report Fails = refl
-  upper_finding report (Passes o) = refl
+ray_from : (blank : Report) (t : Tested) → ((ray_report blank t).finding ≡ Infeasible) ⊎ ((ray_report blank t).finding ≡ blank.finding)
+ray_from blank (Shows number ray) = inl refl
+ray_from blank Fails = inr refl
+ray_from blank (Passes o) = inr refl
 
-  lower_finding : (report : Report) (t : Tested) → (lower_report report t).finding ≡ report.finding
-  lower_finding report (Shows value dual) = refl
-  lower_finding report Fails = refl
-  lower_finding report (Passes o) = refl
+falling_from : (blank : Report) (upper slope : Tested)
+    → ((falling_report blank upper slope).finding ≡ Unbounded) ⊎ ((falling_report blank upper slope).finding ≡ blank.finding)
+falling_from blank (Shows cost policy) (Shows number direction) = inl refl
+falling_from blank (Shows cost policy) Fails = inr refl
+falling_from blank (Shows cost policy) (Passes o) = inr refl
+falling_from blank Fails slope = inr refl
+falling_from blank (Passes o) slope = inr refl
 
-  -- of ends, of a ray, and of a policy with a direction
-  ends_open : (blank : Report) (upper lower : Tested) → (ends_report blank upper lower).finding ≡ left → blank.finding ≡ left
-  ends_open blank upper lower e =
-      let told : Finding = ends_finding (shown_number lower) (shown_number upper) blank.finding in
-      still_open (shown_number lower) (shown_number upper) blank.finding
-      (sym (lower_finding (upper_report (record blank { finding = told }) upper) lower ∙ upper_finding (record blank { finding = told }) upper) ∙ e)
+falling_open : (blank : Report) (upper : Tested) (o : Operation) → (falling_report blank upper (Passes o)).finding ≡ blank.finding
+falling_open blank (Shows cost policy) o = refl
+falling_open blank Fails o = refl
+falling_open blank (Passes p) o = refl
 
-  ray_open : (blank : Report) (t : Tested) → (ray_report blank t).finding ≡ left → blank.finding ≡ left
-  ray_open blank (Shows number ray) e = absurd (not_settled Infeasible (λ h. h) e)
-  ray_open blank Fails e = e
-  ray_open blank (Passes o) e = e
+-- a reason behind a test that ends in no operation
+not_before : (t : Tested) (place : Place) (why : Open) → ((o : Operation) → t ≡ Passes o → ⊥) → or_before t place why ≡ why
+not_before (Shows number values) place why none = refl
+not_before Fails place why none = refl
+not_before (Passes o) place why none = absurd (none o refl)
 
-  direction_open : (report : Report) (t : Tested) → (direction_report report t).finding ≡ left → report.finding ≡ left
-  direction_open report (Shows slope direction) e = absurd (not_settled Unbounded (λ h. h) e)
-  direction_open report Fails e = e
-  direction_open report (Passes o) e = e
-
-  falling_open : (blank : Report) (upper slope : Tested) → (falling_report blank upper slope).finding ≡ left → blank.finding ≡ left
-  falling_open blank (Shows cost policy) slope e = direction_open (record blank { upper = Some cost; policy = Some policy }) slope e
-  falling_open blank Fails slope e = e
-  falling_open blank (Passes o) slope e = e
-
--- ---- claims
+-- ---- the operation that ends a test of a program passes
 module _ (program : Program) where
   abbrev v : View
   v = seen program
@@ -183,55 +154,131 @@ module _ (program : Program) where
   some_dual_wide None = tt
   some_dual_wide (Some dual) = dual_wide dual
 
-  by_claim : (number nodes scenarios : ℕ) (place : Place) (why : Open) (solves : ℕ) (claim : Claim) (n : ℕ)
-      → (claimed_report program number nodes scenarios place why solves claim).finding ≡ OpenSolves n → IsForSolves why
-  by_claim number nodes scenarios place why solves (Ends policy dual) n e =
+-- ---- what is found, and why
+module _ (program : Program) (place : Place) (why : Open) (solves : ℕ) (claim : Claim) where
+  abbrev IsFound : Finding → Type 0
+  IsFound finding = IsFindingOf program place why solves claim finding
+
+  by_reason : (left : Open) → why ≡ left → IsFound (finding_of left solves)
+  by_reason (Solves n) e = subst (λ (w : Open). IsForSolves w solves n) (sym e) refl
+  by_reason (Pivots k) e = e
+  by_reason (Passed told o) e = go (passes o.op o.a o.b) refl
+    where
+      go : (b : Bool) → passes o.op o.a o.b ≡ b → IsFound (pick b (OpenPassed told o) (OpenSolves solves))
+      go true p = inl e
+      go false p = subst (λ (w : Open). IsForSolves w solves solves) (sym e) (p, refl)
+
+  -- an operation of a test is told, and else what comes behind it
+  by_test : (t : Tested) (told : Place) (left : Open) → EndsWide t → ((o : Operation) → t ≡ Passes o → PassesInClaim program place claim told o)
+      → (((o : Operation) → t ≡ Passes o → ⊥) → IsFound (finding_of left solves)) → IsFound (finding_of (or_before t told left) solves)
+  by_test (Shows number values) told left wide met behind = behind (λ o e. cc)
+  by_test Fails told left wide met behind = behind (λ o e. cc)
+  by_test (Passes o) told left wide met behind = subst IsFound (sym (is_told told o solves wide)) (inr (met o refl))
+
+module _ (program : Program) (number nodes scenarios : ℕ) (place : Place) (why : Open) (solves : ℕ) where
+  abbrev blank : Open → Report
+  blank left = blank_report number nodes scenarios (finding_of left solves)
+
+  abbrev report_of : Claim → Report
+  report_of claim = claimed_report program number nodes scenarios place why solves claim
+
+  pub finding_so : (claim : Claim) → IsFindingOf program place why solves claim (report_of claim).finding
+  finding_so (Ends policy dual) =
+      let claim : Claim = Ends policy dual in
       let upper : Tested = some_policy_test program policy in
       let lower : Tested = some_dual_test program dual in
-      behind lower Dual why (some_dual_wide dual) (behind upper place (or_before lower Dual why) (some_policy_wide policy)
-      (open_for (or_before upper place (or_before lower Dual why)) solves n (ends_open (OpenSolves n) tt _ upper lower e)))
-  by_claim number nodes scenarios place why solves (Nowhere ray) n e =
+      let left : Open = or_before upper place (or_before lower Dual why) in
+      let open_so : IsFindingOf program place why solves claim (finding_of left solves) =
+      by_test program place why solves claim upper place (or_before lower Dual why) (some_policy_wide program policy) (λ o e. inl (refl, e))
+      (λ none. by_test program place why solves claim lower Dual why (some_dual_wide program dual) (λ o e. inr (refl, e, none))
+      (λ _. by_reason program place why solves claim why refl)) in
+      subst (IsFindingOf program place why solves claim) (sym (ends_is (blank left) upper lower))
+      (elim (ends_from (shown_number lower) (shown_number upper) (finding_of left solves)) [
+        | inl e ↦ subst (IsFindingOf program place why solves claim) (sym e) refl
+        | inr e ↦ subst (IsFindingOf program place why solves claim) (sym e) open_so
+      ])
+  finding_so (Nowhere ray) =
+      let claim : Claim = Nowhere ray in
       let shown : Tested = ray_test program ray in
-      behind shown Dual why (ray_wide ray) (open_for (or_before shown Dual why) solves n (ray_open (OpenSolves n) tt _ shown e))
-  by_claim number nodes scenarios place why solves (Endless policy direction) n e =
+      let left : Open = or_before shown Dual why in
+      let open_so : IsFindingOf program place why solves claim (finding_of left solves) =
+      by_test program place why solves claim shown Dual why (ray_wide program ray) (λ o e. (refl, e))
+      (λ _. by_reason program place why solves claim why refl) in
+      elim (ray_from (blank left) shown) [
+        | inl e ↦ subst (IsFindingOf program place why solves claim) (sym e) refl
+        | inr e ↦ subst (IsFindingOf program place why solves claim) (sym e) open_so
+      ]
+  finding_so (Endless policy direction) =
+      let claim : Claim = Endless policy direction in
       let upper : Tested = policy_test program policy in
       let slope : Tested = direction_test program direction in
-      behind slope place why (direction_wide direction) (behind upper place (or_before slope place why) (policy_wide policy)
-      (open_for (or_before upper place (or_before slope place why)) solves n (falling_open (OpenSolves n) tt _ upper slope e)))
-
-  -- an operation that is told is the reason, or one of a test of the claim
-  of_claim : (number nodes scenarios : ℕ) (place : Place) (why : Open) (solves : ℕ) (claim : Claim) (told : Place) (o : Operation)
-      → (claimed_report program number nodes scenarios place why solves claim).finding ≡ OpenPassed told o
-      → (why ≡ Passed told o) ⊎ PassesInClaim program place claim told o
-  of_claim number nodes scenarios place why solves (Ends policy dual) told o e =
-      let upper : Tested = some_policy_test program policy in
-      let lower : Tested = some_dual_test program dual in
-      elim (of_test upper place (or_before lower Dual why) told o
-      (told_for (or_before upper place (or_before lower Dual why)) solves told o (ends_open (OpenPassed told o) tt _ upper lower e))) [
-        | inl t ↦ inr (inl t)
-        | inr q ↦ elim (of_test lower Dual why told o q) [ inl t ↦ inr (inr t) | inr r ↦ inl r ]
-      ]
-  of_claim number nodes scenarios place why solves (Nowhere ray) told o e =
-      let shown : Tested = ray_test program ray in
-      elim (of_test shown Dual why told o (told_for (or_before shown Dual why) solves told o (ray_open (OpenPassed told o) tt _ shown e))) [
-        | inl t ↦ inr t
-        | inr q ↦ inl q
-      ]
-  of_claim number nodes scenarios place why solves (Endless policy direction) told o e =
-      let upper : Tested = policy_test program policy in
-      let slope : Tested = direction_test program direction in
-      elim (of_test upper place (or_before slope place why) told o
-      (told_for (or_before upper place (or_before slope place why)) solves told o (falling_open (OpenPassed told o) tt _ upper slope e))) [
-        | inl t ↦ inr (t.0, inl t.1)
-        | inr q ↦ elim (of_test slope place why told o q) [ inl t ↦ inr (t.0, inr t.1) | inr r ↦ inl r ]
+      let left : Open = or_before upper place (or_before slope place why) in
+      let open_so : IsFindingOf program place why solves claim (finding_of left solves) =
+      by_test program place why solves claim upper place (or_before slope place why) (policy_wide program policy) (λ o e. (refl, inl e))
+      (λ none. by_test program place why solves claim slope place why (direction_wide program direction) (λ o e. (refl, inr (e, none)))
+      (λ _. by_reason program place why solves claim why refl)) in
+      elim (falling_from (blank left) upper slope) [
+        | inl e ↦ subst (IsFindingOf program place why solves claim) (sym e) refl
+        | inr e ↦ subst (IsFindingOf program place why solves claim) (sym e) open_so
       ]
 
-pub solves_are_reasons : SolvesAreReasons
-solves_are_reasons program number place why solves claim report n claimed e =
-    by_claim program number report.nodes report.scenarios place why solves claim n
-    (sym (ap (λ (r : Report). r.finding) claimed.is) ∙ e)
+  -- ---- an operation of a test is told
+  at_place : (here told : Place) (o : Operation) (finding : Finding) → told ≡ here → finding ≡ OpenPassed here o → finding ≡ OpenPassed told o
+  at_place here told o finding e is = is ∙ ap (λ (p : Place). OpenPassed p o) (sym e)
 
-pub passes_are_met : PassesAreMet
-passes_are_met program number place why solves claim report told o claimed e =
-    of_claim program number report.nodes report.scenarios place why solves claim told o
-    (sym (ap (λ (r : Report). r.finding) claimed.is) ∙ e)
+  -- the first of two tests, and the second one where the first ends in none
+  ends_first : (upper lower : Tested) (o : Operation) → EndsWide upper → upper ≡ Passes o
+      → (ends_report (blank (or_before upper place (or_before lower Dual why))) upper lower).finding ≡ OpenPassed place o
+  ends_first upper lower o wide e =
+      let rest : Open = or_before lower Dual why in
+      let left : Open = or_before upper place rest in
+      ends_is (blank left) upper lower
+      ∙ ap (λ (t : Tested). ends_finding (shown_number lower) (shown_number t) (finding_of left solves)) e
+      ∙ no_upper (shown_number lower) (finding_of left solves)
+      ∙ ap (λ (t : Tested). finding_of (or_before t place rest) solves) e
+      ∙ is_told place o solves (subst EndsWide e wide)
+
+  ends_second : (upper lower : Tested) (o : Operation) → EndsWide lower → lower ≡ Passes o → ((p : Operation) → upper ≡ Passes p → ⊥)
+      → (ends_report (blank (or_before upper place (or_before lower Dual why))) upper lower).finding ≡ OpenPassed Dual o
+  ends_second upper lower o wide e none =
+      let rest : Open = or_before lower Dual why in
+      let left : Open = or_before upper place rest in
+      ends_is (blank left) upper lower
+      ∙ ap (λ (t : Tested). ends_finding (shown_number t) (shown_number upper) (finding_of left solves)) e
+      ∙ ap (λ (w : Open). finding_of w solves) (not_before upper place rest none)
+      ∙ ap (λ (t : Tested). finding_of (or_before t Dual why) solves) e
+      ∙ is_told Dual o solves (subst EndsWide e wide)
+
+  ray_only : (shown : Tested) (o : Operation) → EndsWide shown → shown ≡ Passes o
+      → (ray_report (blank (or_before shown Dual why)) shown).finding ≡ OpenPassed Dual o
+  ray_only shown o wide e =
+      ap (λ (t : Tested). (ray_report (blank (or_before t Dual why)) t).finding) e ∙ is_told Dual o solves (subst EndsWide e wide)
+
+  falling_first : (upper slope : Tested) (o : Operation) → EndsWide upper → upper ≡ Passes o
+      → (falling_report (blank (or_before upper place (or_before slope place why))) upper slope).finding ≡ OpenPassed place o
+  falling_first upper slope o wide e =
+      ap (λ (t : Tested). (falling_report (blank (or_before t place (or_before slope place why))) t slope).finding) e
+      ∙ is_told place o solves (subst EndsWide e wide)
+
+  falling_second : (upper slope : Tested) (o : Operation) → EndsWide slope → slope ≡ Passes o → ((p : Operation) → upper ≡ Passes p → ⊥)
+      → (falling_report (blank (or_before upper place (or_before slope place why))) upper slope).finding ≡ OpenPassed place o
+  falling_second upper slope o wide e none =
+      let rest : Open = or_before slope place why in
+      let left : Open = or_before upper place rest in
+      ap (λ (t : Tested). (falling_report (blank left) upper t).finding) e
+      ∙ falling_open (blank left) upper o
+      ∙ ap (λ (w : Open). finding_of w solves) (not_before upper place rest none)
+      ∙ ap (λ (t : Tested). finding_of (or_before t place why) solves) e
+      ∙ is_told place o solves (subst EndsWide e wide)
+
+  pub test_told : (claim : Claim) (told : Place) (o : Operation) → PassesInClaim program place claim told o
+      → (report_of claim).finding ≡ OpenPassed told o
+  test_told (Ends policy dual) told o (inl h) = at_place place told o _ h.0
+      (ends_first (some_policy_test program policy) (some_dual_test program dual) o (some_policy_wide program policy) h.1)
+  test_told (Ends policy dual) told o (inr h) = at_place Dual told o _ h.0
+      (ends_second (some_policy_test program policy) (some_dual_test program dual) o (some_dual_wide program dual) h.1 h.2)
+  test_told (Nowhere ray) told o h = at_place Dual told o _ h.0 (ray_only (ray_test program ray) o (ray_wide program ray) h.1)
+  test_told (Endless policy direction) told o h = at_place place told o _ h.0 (elim h.1 [
+    | inl e ↦ falling_first (policy_test program policy) (direction_test program direction) o (policy_wide program policy) e
+    | inr e ↦ falling_second (policy_test program policy) (direction_test program direction) o (direction_wide program direction) e.0 e.1
+  ])

@@ -58,15 +58,17 @@ finding_for (Ends policy dual) = Optimal
 finding_for (Nowhere ray) = Infeasible
 finding_for (Endless policy direction) = Unbounded
 
--- a test of the claim ends in the operation: that of a policy or of a direction, which are tested at this place, or that of a dual or of
--- a ray, which are tested at Dual
+-- The first operation that passes in the tests of a claim: in that of its policy or of its direction, which are tested at this place, or in
+-- that of its dual or of its ray, which are tested at Dual. A policy is tested before the other list.
 abbrev pub PassesInClaim : Program → Place → Claim → Place → Operation → Type 0
 PassesInClaim program place (Ends policy dual) told o =
     ((told ≡ place) × (some_policy_test program policy ≡ by_cost [] (Err o)))
-    ⊎ ((told ≡ Dual) × (some_dual_test program dual ≡ by_cost [] (Err o)))
+    ⊎ ((told ≡ Dual) × (some_dual_test program dual ≡ by_cost [] (Err o))
+    × ((p : Operation) → some_policy_test program policy ≡ by_cost [] (Err p) → ⊥))
 PassesInClaim program place (Nowhere ray) told o = (told ≡ Dual) × (ray_test program ray ≡ by_cost [] (Err o))
 PassesInClaim program place (Endless policy direction) told o =
-    (told ≡ place) × ((policy_test program policy ≡ by_cost [] (Err o)) ⊎ (direction_test program direction ≡ by_cost [] (Err o)))
+    (told ≡ place) × ((policy_test program policy ≡ by_cost [] (Err o))
+    ⊎ ((direction_test program direction ≡ by_cost [] (Err o)) × ((p : Operation) → policy_test program policy ≡ by_cost [] (Err p) → ⊥)))
 
 -- the report is open for such an operation
 pub record TellsTest (program : Program) (place : Place) (claim : Claim) (report : Report) : Type 0 where

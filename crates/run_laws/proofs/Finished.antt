@@ -11,14 +11,11 @@ use Rattle.scen_defs.specs.declared.report.Kind.{Kind}
 use Rattle.scen_defs.specs.declared.report.Kind.TheVariants.{Feasible, Recession, Cost as CostRun}
 use Rattle.scen_defs.specs.declared.report.Place.{Place}
 use Rattle.scen_defs.specs.declared.report.Place.TheVariants.{Solve, Cut, Cost, Ground, Dual, Check}
-use Rattle.scen_defs.proofs.Valid.{programs_are_trees}
 use Rattle.proved_report.specs.declared.open.Open.{Open}
 use Rattle.proved_report.specs.declared.open.Open.TheVariants.{Solves, Pivots, Passed}
 use Rattle.proved_report.specs.Open.{IsPassing}
 use Rattle.claim_laws.specs.Held.{finding_for, TellsTest}
-use Rattle.claim_laws.specs.Laws.{IsForSolves}
-use Rattle.claim_laws.proofs.Claims.{claims_show}
-use Rattle.claim_laws.proofs.Unsettled.{solves_are_reasons}
+use Rattle.claim_laws.specs.Tells.{IsForSolves, IsFindingOf}
 use Rattle.run_ends.specs.declared.ends.Ends.{Ends}
 use Rattle.run_ends.specs.declared.settled.Settled.{Settled}
 use Rattle.run_ends.specs.declared.settled.Settled.TheVariants.{Infeasible, Unbounded, Optimal, Stopped, Spent}
@@ -72,7 +69,7 @@ no_solves : (o : Operation) → IsPassing o → passes o.op o.a o.b ≡ false �
 no_solves o h e = let no : true ≡ false = sym h.holds ∙ e in absurd (cc)
 
 module _ (never : NeverStuck) (claims : SettledClaimsHold) (walks : WalksEndPassing) where
-  module _ (program : Program) (s : State) (r : IsEndOfRun program s) where
+  module _ (program : Program) (s : State) (r : IsEndOfRun program s) (solves n : ℕ) where
     -- ---- what stops the method
     stops_passing : (place : Place) (o : Operation) → PassesInRun (content program) s.frame r.run.tree s.budget.pivots place o → IsPassing o
     stops_passing (Solve k) o h = walks.solve h.task false o h.comes
@@ -85,31 +82,34 @@ module _ (never : NeverStuck) (claims : SettledClaimsHold) (walks : WalksEndPass
     stops_passing Check o h = absurd h
 
     -- it isn't told as a number of solves
-    stop_told : (why : Open) → s.stop ≡ Some why → IsForSolves why → ⊥
-    stop_told (Solves n) e h =
-        never (content program) s n r.run r.numbers e
+    stop_told : (why : Open) → s.stop ≡ Some why → IsForSolves why solves n → ⊥
+    stop_told (Solves k) e h =
+        never (content program) s k r.run r.numbers e
     stop_told (Pivots k) e h = h
     stop_told (Passed place o) e h =
         let explained : IsExplained (content program) s.frame r.run.tree s.budget (Passed place o) =
         subst (λ (x : Option Open). IfSome x (IsExplained (content program) s.frame r.run.tree s.budget)) e r.explained.0 in
-        no_solves o (stops_passing place o explained) h
+        no_solves o (stops_passing place o explained) h.0
 
     -- nor is an operation that ends an assembly
-    assembly_told : (o : Operation) → EndsAssembly s.ends o → (closing s).why ≡ Passed Dual o → IsForSolves (closing s).why → ⊥
-    assembly_told o ends e h = no_solves o (walks.assembly ends.cut o ends.passes) (subst IsForSolves e h)
+    assembly_told : (o : Operation) → EndsAssembly s.ends o → (closing s).why ≡ Passed Dual o → IsForSolves (closing s).why solves n → ⊥
+    assembly_told o ends e h =
+        let told : IsForSolves (Passed Dual o) solves n = subst (λ (w : Open). IsForSolves w solves n) e h in
+        no_solves o (walks.assembly ends.cut o ends.passes) told.0
 
-    stopped : (why : Open) → s.stop ≡ Some why → IsForSolves (closing s).why → ⊥
+    stopped : (why : Open) → s.stop ≡ Some why → IsForSolves (closing s).why solves n → ⊥
     stopped why e h = go (closed_reason (settled_in s) s.ends (why_open s.stop s.budget.solves) (closing s) refl)
       where
         go : IsReason s.ends (why_open s.stop s.budget.solves) (closing s).why → ⊥
-        go (inl t) = stop_told why e (subst IsForSolves (t ∙ ap (λ (x : Option Open). why_open x s.budget.solves) e) h)
+        go (inl t) = stop_told why e
+            (subst (λ (w : Open). IsForSolves w solves n) (t ∙ ap (λ (x : Option Open). why_open x s.budget.solves) e) h)
         go (inr a) = assembly_told a.0 a.2 a.1 h
 
   pub finished : EndsAreFinished
-  finished program s number place solves report n r claimed told = by_stop s.stop refl
+  finished program s place solves report n r claimed told = by_stop s.stop refl
     where
-      reason : IsForSolves (closing s).why
-      reason = solves_are_reasons program number place (closing s).why solves (closing s).claim report n claimed told
+      reason : IsForSolves (closing s).why solves n
+      reason = subst (IsFindingOf program place (closing s).why solves (closing s).claim) told claimed.finding
 
       -- what a run shows has its finding
       shows : (case : Settled) (finding : Finding) → (finding ≡ findings.OpenSolves n → ⊥) → s.stop ≡ None → settled_in s ≡ Some case
@@ -122,9 +122,8 @@ module _ (never : NeverStuck) (claims : SettledClaimsHold) (walks : WalksEndPass
           by (inr t) asks = let no : findings.OpenPassed t.told t.operation ≡ findings.OpenSolves n = sym t.finding ∙ told in absurd (cc)
 
           go : ClaimsRightly program finding (closing s) ⊎ TellsAssembly s.ends (closing s) → ⊥
-          go (inl c) = by (claims_show program number place (closing s).why solves (closing s).claim report
-              (programs_are_trees (content program) r.run.program).0 claimed c.holds) c.asks
-          go (inr a) = assembly_told program s r a.operation a.ends a.told reason
+          go (inl c) = by (claimed.holds c.holds) c.asks
+          go (inr a) = assembly_told program s r solves n a.operation a.ends a.told reason
 
       by_case : (case : Option Settled) → s.stop ≡ None → settled_in s ≡ case → s.budget.solves ≤ s.counts.since_report
       by_case None none e =
@@ -141,7 +140,7 @@ module _ (never : NeverStuck) (claims : SettledClaimsHold) (walks : WalksEndPass
 
       by_stop : (o : Option Open) → s.stop ≡ o → s.budget.solves ≤ s.counts.since_report
       by_stop None e = by_case (settled_in s) e refl
-      by_stop (Some why) e = absurd (stopped program s r why e reason)
+      by_stop (Some why) e = absurd (stopped program s r solves n why e reason)
 
 pub ends_are_finished : EndsAreFinished
 ends_are_finished = finished (never_stuck solves_are_used openings_are_made) settled_claims_hold walks_end_passing

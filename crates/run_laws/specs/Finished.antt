@@ -5,7 +5,7 @@ use Rattle.scen_defs.specs.declared.program.Program.{Program}
 use Rattle.scen_defs.specs.declared.report.Finding.TheVariants.{OpenSolves}
 use Rattle.scen_defs.specs.declared.report.Place.{Place}
 use Rattle.scen_defs.specs.declared.report.Report.{Report}
-use Rattle.proved_report.specs.Reports.{IsClaimed}
+use Rattle.claim_laws.specs.Tells.{TellsClaim}
 use Rattle.pass_core.specs.declared.state.State.{State}
 use Rattle.pass_core.specs.Explained.{AreExplained}
 use Rattle.pass_core.specs.Tabled.{IsTabled}
@@ -21,10 +21,10 @@ pub record IsEndOfRun (program : Program) (s : State) : Type 0 where
   pub explained : AreExplained (content program) run.tree s
   pub tabled : IsTabled (content program) s
 
--- Where the report of what is claimed there is left open by the number of solves, so many were counted since the report before as are
--- allowed. So else it has a finding, or it is open for pivots or for an operation.
+-- Where a report that tells what is claimed there is left open by the number of solves, so many were counted since the report before as
+-- are allowed. So else it has a finding, or it is open for pivots or for an operation.
 abbrev pub EndsAreFinished : Type 0
-EndsAreFinished = (program : Program) (s : State) (number : ℕ) (place : Place) (solves : ℕ) (report : Report) (n : ℕ)
-    → IsEndOfRun program s → IsClaimed program number place (closing s).why solves (closing s).claim report
+EndsAreFinished = (program : Program) (s : State) (place : Place) (solves : ℕ) (report : Report) (n : ℕ)
+    → IsEndOfRun program s → TellsClaim program place (closing s).why solves (closing s).claim report
     → report.finding ≡ OpenSolves n
     → s.budget.solves ≤ s.counts.since_report

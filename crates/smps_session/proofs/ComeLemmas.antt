@@ -16,9 +16,9 @@ use Rattle.proved_report.specs.declared.open.Open.{Open}
 use Rattle.proved_report.specs.declared.open.Open.TheVariants.{Pivots, Passed as PassedAt}
 use Rattle.proved_report.specs.Open.{given}
 use Rattle.proved_report.specs.Reports.{IsClaimed}
-use Rattle.proved_report.proofs.PassingLemmas.{by_claim}
 use Rattle.claim_laws.specs.Held.{PassesInClaim}
-use Rattle.claim_laws.proofs.Unsettled.{passes_are_met}
+use Rattle.claim_laws.specs.Tells.{IsFindingOf, TellsClaim}
+use Rattle.claim_laws.proofs.Telling.{claims_are_told}
 use Rattle.node_lp.specs.declared.solved.Solved.TheVariants.{PivotsEnded, Passed}
 use Rattle.rationals.specs.Passes.{Operation}
 use Rattle.pass_core.specs.declared.budget.Budget.{Budget}
@@ -48,37 +48,38 @@ use Rattle.smps_session.specs.Comes.{tells_solves, is_unfinished, ShowsClosing, 
 use Rattle.smps_session.proofs.WayLemmas.{counted_within}
 
 -- ---- what is found and tested
-claimed_so : (program : Program) (number solves : ℕ) (place place' : Place) (why why' : Open) (claim claim' : Claim) (report : Report)
-    → report.number ≡ number → place ≡ place' → why ≡ why' → claim ≡ claim' → IsClaimed program number place why solves claim report
-    → IsClaimed program report.number place' why' solves claim' report
-claimed_so program number solves place place' why why' claim claim' report n p w k c = record { is = cc (n, p, w, k, c.is) }
+told_so : (program : Program) (number solves : ℕ) (place place' : Place) (why why' : Open) (claim claim' : Claim) (report : Report)
+    → place ≡ place' → why ≡ why' → claim ≡ claim' → IsClaimed program number place why solves claim report
+    → TellsClaim program place' why' solves claim' report
+told_so program number solves place place' why why' claim claim' report p w k c =
+    subst (λ (x : Claim). TellsClaim program place' why' solves x report) k
+    (subst (λ (x : Open). TellsClaim program place' x solves claim report) w
+    (subst (λ (x : Place). TellsClaim program x why solves claim report) p (claims_are_told program number place why solves claim report c)))
 
 shows_one : (budget : Budget) (start : Started) (came : ℕ) (program : Program) (old new : Method) (found : Found) (number : ℕ) (report : Report)
     → FindsBySolves (content program) old new found → EndsAt (content program) new → WorksBySteps (content program) old new
-    → report.number ≡ number
     → IsClaimed program number found.place found.why budget.solves found.claim report
     → IsTrue (view_of (content program)) (given found.why budget.solves) report → ShowsFound budget start came program old new report
-shows_one budget start came program (AtWork old) (AtWork new) found number report f ends steps n c t = record {
+shows_one budget start came program (AtWork old) (AtWork new) found number report f ends steps c t = record {
   solves = f.solves.solves;
   once = λ widths few. f.solves.never;
   first = λ small begins uncounted. f.solves.never;
   ends = ends;
-  claimed = claimed_so program number budget.solves found.place _ found.why _ found.claim _ report n f.place f.why f.claim c;
+  claimed = told_so program number budget.solves found.place _ found.why _ found.claim _ report f.place f.why f.claim c;
   truth = subst (λ (why : Open). IsTrue (view_of (content program)) (given why budget.solves) report) f.why t;
 }
-shows_one budget start came program (AtWork old) (Idle why own) found number report f ends steps n c t = f
-shows_one budget start came program (Idle why own) new found number report f ends steps n c t = steps
+shows_one budget start came program (AtWork old) (Idle why own) found number report f ends steps c t = f
+shows_one budget start came program (Idle why own) new found number report f ends steps c t = steps
 
 pub shows_found : {E : Type 0} (budget : Budget) (start : Started) (came : ℕ) (program : Program) (old new : Method) (found : Found) (number : ℕ)
     (result : Result Report E)
     → FindsBySolves (content program) old new found → EndsAt (content program) new → WorksBySteps (content program) old new
-    → IfOk result (λ report. report.number ≡ number)
     → IfOk result (IsClaimed program number found.place found.why budget.solves found.claim)
     → IfOk result (IsTrue (view_of (content program)) (given found.why budget.solves))
     → IfOk result (ShowsFound budget start came program old new)
-shows_found budget start came program old new found number (Ok report) f ends steps n c t =
-    shows_one budget start came program old new found number report f ends steps n c t
-shows_found budget start came program old new found number (Err e) f ends steps n c t = tt
+shows_found budget start came program old new found number (Ok report) f ends steps c t =
+    shows_one budget start came program old new found number report f ends steps c t
+shows_found budget start came program old new found number (Err e) f ends steps c t = tt
 
 -- ---- a program that is begun anew until its solves have ended
 -- so many solves at least are counted
@@ -117,7 +118,7 @@ never_left budget start came program old mid report few stands shows items way n
     let p = content program in
     let here : IsOnWay budget came p mid.state = solves_keep_way budget came p old mid.state shows.solves way in
     let same : mid.tree ≡ here.run.tree = cc (stands.tree, here.run.walk) in
-    ends_are_finished program mid.state report.number (Cost mid.state.counts.all) budget.solves report n
+    ends_are_finished program mid.state (Cost mid.state.counts.all) budget.solves report n
     (record {
       run = here.run;
       numbers = ways_have_numbers budget came p mid.state items here (counted_within budget p mid program.keeps few stands);
@@ -136,7 +137,7 @@ never_left_first budget start came program old mid report few stands shows small
     let p = content program in
     let all : mid.state.counts.all ≤ mid.state.counts.since_report = begun_counts budget p old mid.state begins uncounted shows.solves in
     let within : mid.state.counts.since_report ≤ budget.solves = counted_within budget p mid program.keeps few stands in
-    ends_are_finished program mid.state report.number (Cost mid.state.counts.all) budget.solves report n
+    ends_are_finished program mid.state (Cost mid.state.counts.all) budget.solves report n
     (record {
       run = record {
         program = program.keeps;
@@ -271,22 +272,22 @@ comes_of budget start came program (AtWork old) (AtWork mid) new report few stan
         subst (Explains (view_of (content program)) (given (closing mid.state).why budget.solves) report) f shows.truth.finding in
         pivots_arise (content program) old.state mid.state k shows.solves rests (closing_pivots mid.state k why)
 
-    passed : (k : ℕ) (o : Operation) → report.finding ≡ OpenPassed (Solve k) o → HasSolve (content program) k (Passed false o) old.state mid.state
-    passed k o f =
-        let s = mid.state in
-        let because = by_claim program o (Solve k) s.counts.all report.number report.nodes report.scenarios budget.solves (closing s).why (closing s).claim
-        (sym (ap (λ (r : Report). r.finding) shows.claimed.is) ∙ f) in
-        elim because [
-          | inl w ↦ pass_arises (content program) old.state s k o shows.solves rests (closing_passed s (Solve k) o (λ q. cc) w)
-          | inr t ↦ absurd t
-        ]
-
-    -- an operation that is told is the reason, or one of the test
+    -- an operation that is told is the reason, or one of the tests
     told_at : (place : Place) (o : Operation) → report.finding ≡ OpenPassed place o
         → ((closing mid.state).why ≡ PassedAt place o) ⊎ PassesInTestOf program mid.state place o
     told_at place o f =
         let s = mid.state in
-        passes_are_met program report.number (Cost s.counts.all) (closing s).why budget.solves (closing s).claim report place o shows.claimed f
+        subst (IsFindingOf program (Cost s.counts.all) (closing s).why budget.solves (closing s).claim) f shows.claimed.finding
+
+    passed : (k : ℕ) (o : Operation) → report.finding ≡ OpenPassed (Solve k) o → HasSolve (content program) k (Passed false o) old.state mid.state
+    passed k o f =
+        elim (told_at (Solve k) o f) [
+          | inl w ↦ pass_arises (content program) old.state mid.state k o shows.solves rests (closing_passed mid.state (Solve k) o (λ q. cc) w)
+          | inr t ↦ elim (test_places program (Cost mid.state.counts.all) (closing mid.state).claim (Solve k) o t) [
+            | inl q ↦ absurd (cc)
+            | inr q ↦ absurd (cc)
+          ]
+        ]
 
     cut : (k : ℕ) (o : Operation) → report.finding ≡ OpenPassed (Cut k) o
         → WasReason budget start came (content program) (PassedAt (Cut k) o) (CutPasses (content program) k o) old.state

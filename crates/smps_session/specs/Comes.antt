@@ -13,8 +13,8 @@ use Rattle.report_defs.specs.Truth.{IsTrue}
 use Rattle.proved_report.specs.declared.open.Open.{Open}
 use Rattle.proved_report.specs.declared.open.Open.TheVariants.{Passed as PassedAt}
 use Rattle.proved_report.specs.Open.{given}
-use Rattle.proved_report.specs.Reports.{IsClaimed}
 use Rattle.claim_laws.specs.Held.{PassesInClaim}
+use Rattle.claim_laws.specs.Tells.{TellsClaim}
 use Rattle.run_ends.specs.Claims.{EndsAssembly}
 use Rattle.scen_tree.specs.Trees.{Tree, tree_walk}
 use Rattle.edit_defs.specs.declared.edit.Edit.{Edit}
@@ -47,8 +47,8 @@ tells_solves (OpenPassed place o) = false
 abbrev pub is_unfinished : Finding → Method → Bool
 is_unfinished finding method = tells_solves finding && not (is_spent method)
 
--- What is claimed behind solves of the program's nodes, where the method can't go on, is tested, and the report tells what was shown, and
--- is true for the reason that is claimed with it. The program is the one behind so many items of a script that starts with another one.
+-- Behind solves of the program's nodes, where the method can't go on, the report tells what is claimed, and is true for the reason that is
+-- claimed with it. The program is the one behind so many items of a script that starts with another one.
 pub record ShowsClosing (budget : Budget) (start : Program) (came : ℕ) (program : ProgramOf) (old new : State) (report : Report)
     : Type 0 where
   pub solves : SolvesNodes (content program) old new
@@ -57,7 +57,8 @@ pub record ShowsClosing (budget : Budget) (start : Program) (came : ℕ) (progra
   -- nor is it from the beginning of any program to its first report
   pub first : budget.solves < 2 ^ 63 → IsBeginning (content program) budget old → old.counts ≡ no_commits → NeverAnew solves
   pub ends : IsAtEnd (content program) new
-  pub claimed : IsClaimed program report.number (Cost new.counts.all) (closing new).why budget.solves (closing new).claim report
+  -- it finds what the claim asks for where that holds, prints no lists but the claim's, and is open only as it is told here
+  pub claimed : TellsClaim program (Cost new.counts.all) (closing new).why budget.solves (closing new).claim report
   pub truth : IsTrue (view_of (content program)) (given (closing new).why budget.solves) report
 
 -- so a method at work finds what is reported
@@ -66,7 +67,7 @@ ShowsFound budget start came program (AtWork old) (AtWork new) report = ShowsClo
 ShowsFound budget start came program (AtWork old) (Idle why own) report = ⊥
 ShowsFound budget start came program (Idle why own) new report = new ≡ Idle why own
 
--- the operation passes in the test of what is claimed in this state, and is told at this place
+-- the operation is the first that passes in the tests of what is claimed in this state, and is told at this place
 abbrev pub PassesInTestOf : ProgramOf → State → Place → Operation → Type 0
 PassesInTestOf program s told o = PassesInClaim program (Cost s.counts.all) (closing s).claim told o
 
@@ -77,7 +78,7 @@ pub record WasReason (budget : Budget) (start : Program) (came : ℕ) (p : Progr
   pub reason : HasReason old why
   pub met : HasWidths start → AreFew budget came → WasMet p Passes old
 
--- The report shows what is claimed behind solves. Where it tells that so many solves were made, so many were counted since the report
+-- The report tells what is claimed behind solves. Where it tells that so many solves were made, so many were counted since the report
 -- before; where it tells that the pivots of a solve ended, or of an operation of a solve, one of them has that number, and ended so. An
 -- operation at CUT or at COST passes in the cut or in the cost behind the solve with that number, one of these solves or of those before
 -- the report before; or, at COST, in the test of the claimed points. One at GROUND passes before a run that was to open; one at DUAL where

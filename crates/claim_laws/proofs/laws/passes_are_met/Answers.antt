@@ -1,4 +1,4 @@
-use Rattle.claim_laws.proofs.Unsettled.{passes_are_met}
+use Rattle.claim_laws.proofs.Telling.{passes_are_met}
 use Rattle.claim_laws.proofs.laws.passes_are_met.Goals as goal
 
 pub returns : goal.returns
