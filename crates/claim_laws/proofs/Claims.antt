@@ -1,5 +1,5 @@
 -- The report of a claim that holds.
-use Rattle.std.proofs.Common.{◌≡◌, ℕ, Bool, true, List, [], Some, None, Ok, Err, refl, sym, ap, ap₂, subst, ◌∙◌, inl, inr}
+use Rattle.std.proofs.Common.{◌≡◌, ℕ, Bool, true, List, [], Some, None, Ok, Err, refl, sym, ap, ap₂, ◌∙◌, inl, inr}
 use Rattle.std.specs.Prelude.{◌⊎◌}
 use Rattle.std.specs.declared.cmp.Ordering.{Ordering}
 use Rattle.std.specs.declared.cmp.Ordering.TheVariants.{Less, Equal, Greater}
@@ -28,7 +28,6 @@ use Rattle.proved_report.specs.Open.{finding_of}
 use Rattle.proved_report.specs.Tested.{or_before, by_cost, policy_test, dual_test, direction_test, ray_test}
 use Rattle.proved_report.specs.Reports.{ends_report, ray_report, falling_report, claimed_report}
 use Rattle.claim_laws.specs.Held.{OptimumHolds, RayHolds, CostFalls, ClaimHolds, finding_for, TellsTest}
-use Rattle.claim_laws.specs.Laws.{ClaimsShow}
 use Rattle.claim_laws.proofs.Passing.{IsWide}
 use Rattle.claim_laws.proofs.Tests.{ComesTo, policy_comes, dual_comes, direction_comes, ray_comes}
 
@@ -144,8 +143,3 @@ module _ (program : Program) (number nodes scenarios : ℕ) (place : Place) (why
   claim_shown (Ends None dual) h = absurd h
   claim_shown (Nowhere ray) h = by_ray ray h
   claim_shown (Endless policy direction) h = by_fall policy direction h
-
-pub claims_show : ClaimsShow
-claims_show program number place why solves claim report tree claimed h =
-    subst (λ (r : Report). (r.finding ≡ finding_for claim) ⊎ TellsTest program place claim r) (sym claimed.is)
-    (claim_shown program number report.nodes report.scenarios place why solves tree claim h)

@@ -7,8 +7,8 @@ use Rattle.scen_defs.proofs.Valid.{programs_are_trees}
 use Rattle.proved_report.specs.declared.open.Open.{Open}
 use Rattle.proved_report.specs.declared.claim.Claim.{Claim}
 use Rattle.proved_report.specs.Reports.{claimed_report}
-use Rattle.claim_laws.specs.Tells.{IsFindingOf, TellsClaim}
-use Rattle.claim_laws.specs.Laws.{ClaimsAreTold, SolvesAreReasons, PassesAreMet}
+use Rattle.claim_laws.specs.Tells.{TellsClaim}
+use Rattle.claim_laws.specs.Laws.{ClaimsAreTold}
 use Rattle.claim_laws.proofs.Claims.{claim_shown}
 use Rattle.claim_laws.proofs.Unsettled.{finding_so, test_told}
 use Rattle.claim_laws.proofs.Printed.{lists_claimed}
@@ -26,12 +26,3 @@ pub claims_are_told : ClaimsAreTold
 claims_are_told program number place why solves claim report claimed =
     subst (TellsClaim program place why solves claim) (sym claimed.is)
     (tells_so program number report.nodes report.scenarios place why solves claim)
-
--- so a report is open for a reason, or for an operation of a test
-pub solves_are_reasons : SolvesAreReasons
-solves_are_reasons program number place why solves claim report n claimed e =
-    subst (IsFindingOf program place why solves claim) e (claims_are_told program number place why solves claim report claimed).finding
-
-pub passes_are_met : PassesAreMet
-passes_are_met program number place why solves claim report told o claimed e =
-    subst (IsFindingOf program place why solves claim) e (claims_are_told program number place why solves claim report claimed).finding

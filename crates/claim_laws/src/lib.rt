@@ -4,7 +4,4 @@
 
 mod laws;
 
-pub use laws::{
-    claims_are_told, claims_show, passes_are_met, recession_points_are_directions,
-    solves_are_reasons,
-};
+pub use laws::{claims_are_told, recession_points_are_directions};
