@@ -128,7 +128,9 @@ fn core_place(text: &[u8], at: Refused<'_>, cause: Cause) -> Option<usize> {
         | Cause::BoundKind => Some(0),
         Cause::RowTwice | Cause::IntegerMarker => Some(1),
         Cause::ObjectiveRhs => {
-            let is_first = objective(text) == field(at.line, first_row(at));
+            let first = first_row(at);
+            let is_first = objective(text) == field(at.line, first)
+                && !is_zero(field(at.line, first.saturating_add(1))?);
             Some(row_at_fault(at, is_first).saturating_add(1))
         }
         Cause::RangeOnFree => {
@@ -234,6 +236,14 @@ fn has_fault(line: &[u8], place: usize, fault: NumFault) -> bool {
     match field(line, place) {
         Some(word) => parse(word) == Err(fault),
         None => false,
+    }
+}
+
+/// Whether a field is a number, and 0.
+fn is_zero(word: &[u8]) -> bool {
+    match parse(word) {
+        Ok(number) => number.is_zero(),
+        Err(_) => false,
     }
 }
 

@@ -18,7 +18,8 @@ const DECIMAL: &str =
     "that line's number has a point or an exponent; a report has fractions in lowest terms, as 27/10";
 
 const HEAD: &str =
-    "no report begins so there: the one before it ends with END, reports have the numbers 1, 2 and so on, \
+    "no report begins so there: REPORT, its number, NODES, how many, SCENARIOS, how many, without zeros in front; \
+the one before it ends with END, reports have the numbers 1, 2 and so on, \
 and there is one for each SOLVE of the edit list, or one without a list";
 
 const LISTED: &str =
