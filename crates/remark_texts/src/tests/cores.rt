@@ -100,6 +100,10 @@ ENDATA
 RHS
  CORN 1 COST 3
 ENDATA
+#7 25: '5': the objective has a right-hand side other than 0
+RHS
+ R COST 0 COST 5
+ENDATA
 #7 25: '4': the objective has a right-hand side other than 0
 RHS
  R COST 4 CORN 1
