@@ -1,5 +1,5 @@
 //! The fields of a refused line that are at fault, where the line and those before it tell which they are.
-use crate::lines::{Line, field, field_count, kind_of, numbered_line};
+use crate::lines::{Line, end_field, field, field_count, kind_of, numbered_line};
 use crate::visible::push_line;
 use core_defs::Cause;
 use frac128::{NumFault, parse};
@@ -25,14 +25,14 @@ struct Refused<'a> {
     section: &'a [u8],
 }
 
-/// Appends the fields at fault in the line with this number of a file of these bytes, where it is sure which they are. The core file is the
-/// one that a time file goes with; empty where it can't be read again.
+/// Appends the fields at fault in the line with this number of a file of these bytes, where it is sure which they are. The base is the file
+/// that this one goes with: of a time file the core file, of a stoch file the time file; empty where it can't be read again.
 pub fn put_fault(
     text: &mut String,
     file: FileKind,
     cause: Cause,
     bytes: &[u8],
-    core: &[u8],
+    base: &[u8],
     number: u32,
 ) -> Result<(), AllocError> {
     let Some(line) = numbered_line(bytes, number) else {
@@ -43,7 +43,7 @@ pub fn put_fault(
         count: field_count(line),
         section: section_before(bytes, number),
     };
-    put_places(text, line, where_at_fault(file, cause, bytes, core, at))
+    put_places(text, line, where_at_fault(file, cause, bytes, base, at))
 }
 
 /// Appends how many fields the line with this number has, where that is at fault.
@@ -92,13 +92,13 @@ fn where_at_fault(
     file: FileKind,
     cause: Cause,
     text: &[u8],
-    core: &[u8],
+    base: &[u8],
     at: Refused<'_>,
 ) -> Option<Places> {
     match file {
         FileKind::Core => Some(Places::One(core_place(text, at, cause)?)),
-        FileKind::Time => Some(Places::One(time_place(core, at, cause)?)),
-        FileKind::Stoch => stoch_places(at, cause),
+        FileKind::Time => Some(Places::One(time_place(base, at, cause)?)),
+        FileKind::Stoch => stoch_places(base, at, cause),
         FileKind::Edits => edit_places(at, cause),
         FileKind::Report | FileKind::Trace => None,
     }
@@ -283,12 +283,12 @@ fn time_place(core: &[u8], at: Refused<'_>, cause: Cause) -> Option<usize> {
 }
 
 /// In a stoch file.
-fn stoch_places(at: Refused<'_>, cause: Cause) -> Option<Places> {
+fn stoch_places(time: &[u8], at: Refused<'_>, cause: Cause) -> Option<Places> {
     match cause {
         Cause::SectionUnknown | Cause::SectionOrder | Cause::ScenariosMixed => Some(Places::One(0)),
         Cause::KindUnknown => Some(Places::One(unknown_word(at))),
         Cause::EntryUnknown | Cause::EntryTwice => entry(at),
-        Cause::EntryStage => stage(at),
+        Cause::EntryStage => stage(time, at),
         Cause::NumberBad => Some(Places::One(stoch_number(at, NumFault::Bad)?)),
         Cause::NumberWide => Some(Places::One(stoch_number(at, NumFault::Wide)?)),
         Cause::ProbabilityRange => Some(Places::One(chance(at)?)),
@@ -326,19 +326,45 @@ fn entry(at: Refused<'_>) -> Option<Places> {
 }
 
 /// The period that doesn't fit, or the entry that doesn't go with one.
-fn stage(at: Refused<'_>) -> Option<Places> {
+fn stage(time: &[u8], at: Refused<'_>) -> Option<Places> {
     if begins_case(at) {
         return Some(Places::One(2));
     }
     if at.section == b"INDEP".as_slice() && at.count == 5 {
-        // a probability before the period; a period may have a number for a name
-        let (period, last) = (field(at.line, 3)?, field(at.line, 4)?);
-        return match (parse(period), parse(last)) {
-            (Ok(_), Err(_)) => Some(Places::One(3)),
-            _ => None,
+        return if is_unfit(time, field(at.line, 3)?, field(at.line, 4)?) {
+            Some(Places::One(3))
+        } else {
+            None
         };
     }
     entry(at)
+}
+
+/// Whether it is sure that a field before the last one isn't a period of INDEP: it is a number and the last field, where the probability
+/// stands, isn't one; or the time file has no period of that name behind the first. A period may have a number for a name.
+fn is_unfit(time: &[u8], period: &[u8], last: &[u8]) -> bool {
+    let is_swapped = parse(period).is_ok() && parse(last).is_err();
+    is_swapped || (!time.is_empty() && !is_later_period(time, period))
+}
+
+/// Whether a time file states a period of this name behind the first.
+fn is_later_period(time: &[u8], name: &[u8]) -> bool {
+    let mut is_here = false;
+    let mut is_first = true;
+    for line in time.split(|byte| *byte == b'\n') {
+        match kind_of(line) {
+            Line::Header(b"ENDATA") => break,
+            Line::Header(word) => is_here = word == b"PERIODS",
+            Line::Data if is_here => {
+                if !is_first && end_field(line) == name {
+                    return true;
+                }
+                is_first = false;
+            }
+            Line::Data | Line::Skipped => {}
+        }
+    }
+    false
 }
 
 /// The first number of a line of a stoch file that has this fault.

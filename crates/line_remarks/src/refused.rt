@@ -10,16 +10,17 @@ use std::alloc::AllocError;
 use std::fmt::Write;
 
 /// Appends the fields at fault where the line tells them, why a file of these bytes is refused at the line with this number, and the line
-/// where it has one. The core file is the one that a time file goes with; empty where it can't be read again.
+/// where it has one. The base is the file that this one goes with: of a time file the core file, of a stoch file the time file; empty where
+/// it can't be read again.
 pub fn put_cause(
     text: &mut String,
     file: FileKind,
     bytes: &[u8],
-    core: &[u8],
+    base: &[u8],
     number: u32,
     cause: &Cause,
 ) -> Result<(), AllocError> {
-    put_fault(text, file, *cause, bytes, core, number)?;
+    put_fault(text, file, *cause, bytes, base, number)?;
     let reason = reason_of(file, bytes, number, *cause);
     write!(text, ": {reason}")?;
     put_count(text, *cause, bytes, number)?;

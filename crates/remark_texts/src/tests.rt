@@ -59,6 +59,15 @@ impl<'a> Files<'a> {
         }
     }
 
+    /// The text that a file goes with.
+    fn base_of(self, file: FileKind) -> &'a str {
+        match file {
+            FileKind::Time => self.core,
+            FileKind::Stoch => self.time,
+            FileKind::Core | FileKind::Edits | FileKind::Report | FileKind::Trace => "",
+        }
+    }
+
     /// The text of a file.
     fn of(self, file: FileKind) -> &'a str {
         match file {
@@ -127,7 +136,8 @@ fn said_of(
 ) -> Result<String, AllocError> {
     let mut said = format!(in alloc; "{file:?} {line} {}", cause.number())?;
     let text = files.of(file).as_bytes();
-    put_cause(&mut said, file, text, files.core.as_bytes(), line, cause)?;
+    let base = files.base_of(file).as_bytes();
+    put_cause(&mut said, file, text, base, line, cause)?;
     first_line(alloc, said.as_str())
 }
 

@@ -46,8 +46,8 @@ pub fn put_refusal<R: Files>(
     }
     match bytes_of(rt, alloc, sources, file) {
         Some(bytes) => {
-            let core = bytes_of(rt, alloc, sources, FileKind::Core).unwrap_or(Vec::new(alloc));
-            put_cause(text, file, &bytes, &core, line, &cause)?;
+            let base = base_of(rt, alloc, sources, file).unwrap_or(Vec::new(alloc));
+            put_cause(text, file, &bytes, &base, line, &cause)?;
         }
         None => {
             let sentence = sentence(file, cause);
@@ -56,6 +56,20 @@ pub fn put_refusal<R: Files>(
     }
     let number = cause.number();
     writeln!(text, "docs/CAUSES.md, cause {number}, says how to mend it")
+}
+
+/// The bytes of the file that a file goes with: of a time file the core file, of a stoch file the time file.
+fn base_of<R: Files>(
+    rt: &R,
+    alloc: Global,
+    sources: &Sources<'_>,
+    file: FileKind,
+) -> Option<Vec<u8>> {
+    match file {
+        FileKind::Time => bytes_of(rt, alloc, sources, FileKind::Core),
+        FileKind::Stoch => bytes_of(rt, alloc, sources, FileKind::Time),
+        FileKind::Core | FileKind::Edits | FileKind::Report | FileKind::Trace => None,
+    }
 }
 
 /// The bytes of a file that the words name, where it can be read again.

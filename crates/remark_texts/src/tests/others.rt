@@ -79,6 +79,14 @@ BLOCKS
 the column is of a later period than the row
 INDEP
  RHS DEMAND 2 0.5 P2
+#Stoch 2 42: 'P9': a period there isn't known, is the first, is later than that of the entry, or another one than in the case before; or \
+the column is of a later period than the row
+INDEP
+ RHS DEMAND 2 P9 0.5
+#Stoch 2 42: 'P1': a period there isn't known, is the first, is later than that of the entry, or another one than in the case before; or \
+the column is of a later period than the row
+INDEP
+ RHS DEMAND 2 P1 0.5
 #Stoch 2 42: 'P3': a period there isn't known, is the first, is later than that of the entry, or another one than in the case before; or \
 the column is of a later period than the row
 BLOCKS
