@@ -354,7 +354,7 @@ fn is_later_period(time: &[u8], name: &[u8]) -> bool {
     for line in time.split(|byte| *byte == b'\n') {
         match kind_of(line) {
             Line::Header(b"ENDATA") => break,
-            Line::Header(word) => is_here = word == b"PERIODS",
+            Line::Header(word) => is_here = word == b"PERIODS".as_slice(),
             Line::Data if is_here => {
                 if !is_first && end_field(line) == name {
                     return true;
