@@ -2,12 +2,12 @@
 use Rattle.std.proofs.Common.{◌≡◌, ◌⊎◌, inl, inr, ℕ, Bool, true, false, List, [], Option, Some, None, Result, Ok, Err, refl, sym, ap, subst, ◌∙◌}
 use Rattle.rationals.specs.Rational.{ℚ, zero_ℚ, at_most}
 use Rattle.rationals.specs.Passes.{Operation}
+use Rattle.rationals.specs.Choices.{pick}
 use Rattle.scen_defs.specs.declared.program.Program.{Program}
 use Rattle.scen_defs.specs.declared.report.Finding.{Finding}
 use Rattle.scen_defs.specs.declared.report.Place.{Place}
 use Rattle.scen_defs.specs.declared.report.Place.TheVariants.{Dual}
 use Rattle.scen_defs.specs.declared.report.Report.{Report}
-use Rattle.scen_defs.specs.Lists.{pick}
 use Rattle.scen_defs.specs.Values.{At, at}
 use Rattle.scen_defs.specs.Program.{View, content}
 use Rattle.scen_defs.specs.Flat.{Feasible, IsGood, without_costs}
@@ -18,6 +18,7 @@ use Rattle.scen_model.specs.Walks.{cost_walk, dual_walk, feasible_walk, directio
 use Rattle.scen_model.proofs.DualEnds.{dual_is}
 use Rattle.scen_model.proofs.FeasibleEnds.{feasible_is}
 use Rattle.report_defs.specs.Seen.{seen}
+use Rattle.report_defs.specs.Blank.{blank_report}
 use Rattle.proved_report.specs.declared.open.Open.{Open}
 use Rattle.proved_report.specs.declared.claim.Claim.{Claim}
 use Rattle.proved_report.specs.declared.claim.Claim.TheVariants.{Ends, Nowhere, Endless}
@@ -26,7 +27,7 @@ use Rattle.proved_report.specs.declared.tested.Tested.TheVariants.{Shows, Fails,
 use Rattle.proved_report.specs.Open.{finding_of}
 use Rattle.proved_report.specs.Tested.{where_fits, where_meets, where_above, by_cost, by_value, or_before}
 use Rattle.proved_report.specs.Tested.{policy_test, dual_test, direction_test, ray_test, some_policy_test, some_dual_test}
-use Rattle.proved_report.specs.Reports.{blank_report, ends_report, ray_report, falling_report, claimed_report}
+use Rattle.proved_report.specs.Reports.{ends_report, ray_report, falling_report, claimed_report}
 use Rattle.claim_laws.specs.Held.{FitsColumns, FitsRows}
 use Rattle.claim_laws.specs.Tells.{PrintsOnly, PrintsClaimed}
 

@@ -18,6 +18,7 @@ use Rattle.scen_model.specs.declared.stop.Stop.TheVariants.{Decided, Passed as P
 use Rattle.scen_model.specs.Derived.{all_fit}
 use Rattle.scen_model.specs.Walks.{cost_walk, dual_walk, feasible_walk, direction_walk, own_end}
 use Rattle.report_defs.specs.Seen.{seen}
+use Rattle.report_defs.specs.Blank.{blank_report}
 use Rattle.proved_report.specs.declared.open.Open.{Open}
 use Rattle.proved_report.specs.declared.open.Open.TheVariants.{Solves, Pivots, Passed}
 use Rattle.proved_report.specs.declared.claim.Claim.{Claim}
@@ -27,7 +28,7 @@ use Rattle.proved_report.specs.declared.tested.Tested.TheVariants.{Shows, Fails,
 use Rattle.proved_report.specs.Open.{finding_of}
 use Rattle.proved_report.specs.Tested.{where_fits, where_meets, where_above, by_cost, by_value, shown_number, or_before}
 use Rattle.proved_report.specs.Tested.{policy_test, dual_test, direction_test, ray_test, some_policy_test, some_dual_test}
-use Rattle.proved_report.specs.Reports.{blank_report, ends_finding, upper_report, lower_report, ends_report, ray_report}
+use Rattle.proved_report.specs.Reports.{ends_finding, upper_report, lower_report, ends_report, ray_report}
 use Rattle.proved_report.specs.Reports.{falling_report, claimed_report}
 use Rattle.claim_laws.specs.Held.{PassesInClaim}
 use Rattle.claim_laws.specs.Tells.{IsForSolves, IsFindingOf}
