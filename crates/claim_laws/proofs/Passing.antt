@@ -15,8 +15,10 @@ use Rattle.scen_defs.specs.Program.{View, Scenario}
 use Rattle.scen_defs.specs.Flat.{along, is_above, zero_end}
 use Rattle.scen_model.specs.declared.stop.Stop.{Stop}
 use Rattle.scen_model.specs.declared.stop.Stop.TheVariants.{Decided, Passed}
-use Rattle.scen_model.specs.Walks.{fold_walk, product_from, total_from, total_walk, totals_walk, cost_step, costs_walk, cost_walk, stopping}
-use Rattle.scen_model.specs.Walks.{end_step, worth_step, rows_from, less_from, less_step, less_all, reduced_walk, column_step}
+use Rattle.rationals.specs.Forms.{product_from}
+use Rattle.scen_defs.specs.Walks.{total_from, less_from}
+use Rattle.scen_model.specs.Walks.{fold_walk, total_walk, totals_walk, cost_step, costs_walk, cost_walk, stopping}
+use Rattle.scen_model.specs.Walks.{end_step, worth_step, rows_from, less_step, less_all, reduced_walk, column_step}
 use Rattle.scen_model.specs.Walks.{columns_step, all_rows, all_columns, dual_by, is_between, test, rows_test, all_rows_test}
 use Rattle.scen_model.specs.Walks.{bounds_test, all_bounds_test, meets_walk, direction_walk}
 

@@ -4,7 +4,7 @@ use Rattle.std.specs.Option.{option_map, option_to_list}
 use Rattle.std.proofs.lemmas.List.{append-nil, drop_more, map_push}
 use Rattle.cut_defs.specs.Stored.{Stored}
 use Rattle.cut_pool.specs.Held.{Held}
-use Rattle.node_lp.specs.declared.task.ChildCuts.{ChildCuts}
+use Rattle.cut_proof.specs.declared.child.ChildCuts.{ChildCuts}
 use Rattle.pass_table.specs.declared.table.Reading.{Reading}
 use Rattle.cut_banks.specs.Pools.{cuts_of, cuts_at, cuts_read, reading, numbers_at, numbers_read}
 use Rattle.cut_banks.proofs.Places.{none_read, one_read}

@@ -14,7 +14,7 @@ use Rattle.cut_defs.specs.Stored.{Stored, source_of}
 use Rattle.cut_defs.specs.Support.{support, first_stale}
 use Rattle.cut_pool.specs.Held.{Held}
 use Rattle.cut_pool.specs.Pool.{fits_shift, swept}
-use Rattle.node_lp.specs.declared.task.ChildCuts.{ChildCuts}
+use Rattle.cut_proof.specs.declared.child.ChildCuts.{ChildCuts}
 use Rattle.pass_table.specs.declared.table.Reading.{Reading}
 
 -- ---- the pools of nodes

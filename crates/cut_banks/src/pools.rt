@@ -10,8 +10,8 @@ ghost use Rattle.cut_banks.specs.Pools.{may_change, may_take, may_put, pool_if, 
 
 use cut_defs::{Due, Shift, Touch};
 use cut_pool::{Offer, Pool, SharedCut, Swept, may_sweep};
+use cut_proof::ChildCuts;
 use frac128::{Form, Memory};
-use node_lp::ChildCuts;
 use pass_table::Reading;
 use std::alloc::Global;
 

@@ -6,7 +6,7 @@ use Rattle.rationals.specs.Sparse.{Entry, coefficient}
 use Rattle.scen_defs.specs.declared.program.NodeRow.{NodeRow}
 use Rattle.scen_defs.specs.Lists.{Each}
 use Rattle.scen_defs.specs.Ends.{used_end, IsFinite, IsGoodAt}
-use Rattle.scen_model.proofs.WalkEnds.{ended}
+use Rattle.rationals.proofs.WalkLaws.{ended}
 use Rattle.cut_defs.specs.Stored.{Stored}
 use Rattle.cut_defs.specs.Stored.Stored.{Stored_of}
 use Rattle.cut_defs.proofs.Present.{each_mapped}

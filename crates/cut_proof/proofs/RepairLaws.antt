@@ -8,9 +8,8 @@ use Rattle.rationals.specs.OrderLaws.{same_means}
 use Rattle.rationals.specs.declared.Op.TheVariants.{Add, Sub}
 use Rattle.rationals.specs.Passes.{Operation, sub_walk, add_product_walk, then_walk}
 use Rattle.rationals.specs.Sparse.{coefficient, value_if}
-use Rattle.rationals.proofs.WalkLaws.{walk_value, step_value}
+use Rattle.rationals.proofs.WalkLaws.{walk_value, step_value, ended, product_from-ends}
 use Rattle.rationals.specs.Choices.{pick}
-use Rattle.scen_model.proofs.WalkEnds.{ended}
 use Rattle.cut_defs.specs.declared.kinds.CutKind.{CutKind}
 use Rattle.cut_defs.specs.declared.kinds.CutKind.TheVariants.{Bound, Ray}
 use Rattle.cut_defs.specs.declared.kinds.Part.TheVariants.{Rows, Costs, Gone}
@@ -31,7 +30,6 @@ use Rattle.cut_defs.specs.declared.kinds.Part.{Part}
 use Rattle.cut_defs.specs.Support.{rests_by}
 use Rattle.cut_defs.specs.Stored.{form_of, IsMadeFor}
 use Rattle.cut_defs.proofs.Repairs.{repairs_are_made}
-use Rattle.scen_model.proofs.WalkEnds.{product_from-ends}
 use Rattle.cut_proof.specs.Laws.{RepairLaws, ValueLaw}
 use Rattle.cut_proof.specs.Repairing.{touch_of, touch_before, own_walk, change_step, changes_from, snoc, repair_walk, repairs_from}
 

@@ -1,6 +1,7 @@
 //! Cuts with the records that prove them.
 #![tactic(auto)]
 
+mod child;
 mod columns;
 mod cut;
 mod fault;
@@ -12,6 +13,7 @@ mod resting;
 mod stamps;
 mod sums;
 
+pub use child::ChildCuts;
 pub use cut::{Cut, Record, SharedCut, Used};
 pub use cut_defs::{Bank, ColumnBounds, CutKind, Part, Share, Shift, Stamp, Touch};
 pub use cut_sums::{NodeDatum, push_nonzero};

@@ -2,7 +2,7 @@
 ghost use Rattle.std.specs.Prelude.{◌≡◌, IfOk};
 ghost use Rattle.scen_defs.specs.Lists.{NumbersRise};
 ghost use Rattle.rationals.specs.Sparse.{coefficient};
-ghost use Rattle.scen_model.specs.Walks.{product_from};
+ghost use Rattle.rationals.specs.Forms.{product_from};
 ghost use Rattle.cut_defs.specs.Stored.{constant_of, form_of, IsMadeFrom};
 ghost use Rattle.cut_proof.specs.Answers.{Makes};
 ghost use Rattle.cut_proof.specs.Conditions.{MayBeMade};

@@ -13,7 +13,7 @@ use Rattle.rationals.specs.Choices.{pick}
 use Rattle.scen_defs.specs.declared.program.NodeRow.{NodeRow}
 use Rattle.scen_defs.specs.Lists.{Each, Once, Absent, is_in, NumbersRise}
 use Rattle.scen_defs.proofs.SumLaws.{sum-pick, sum-none}
-use Rattle.scen_model.proofs.WalkEnds.{ended}
+use Rattle.rationals.proofs.WalkLaws.{ended}
 use Rattle.cut_defs.specs.declared.datum.ColumnBounds.{ColumnBounds}
 use Rattle.cut_defs.specs.Data.{Datum, is_own}
 use Rattle.cut_defs.specs.Stored.{Source, StoredUses, form_sum, slope_of, form_of, IsEarlier}

@@ -6,12 +6,11 @@ use Rattle.rationals.specs.Ring.Eqs.{done, by_eq}
 use Rattle.rationals.specs.Passes.{add_product_walk, less_product_walk}
 use Rattle.rationals.specs.Sums.{sum_ℚ}
 use Rattle.rationals.specs.Sparse.{Entry, coefficient}
-use Rattle.rationals.proofs.WalkLaws.{step_value}
+use Rattle.rationals.proofs.WalkLaws.{step_value, ended}
 use Rattle.scen_defs.specs.declared.program.NodeRow.{NodeRow}
 use Rattle.scen_defs.specs.Lists.{Each}
 use Rattle.scen_defs.specs.Ends.{used_end, number, IsFinite, IsGoodAt, worth}
-use Rattle.scen_model.specs.Walks.{less_from}
-use Rattle.scen_model.proofs.WalkEnds.{ended}
+use Rattle.scen_defs.specs.Walks.{less_from}
 use Rattle.cut_defs.specs.declared.datum.ColumnBounds.{ColumnBounds}
 use Rattle.cut_defs.specs.Data.{Datum}
 use Rattle.cut_defs.specs.Stored.{Source, StoredUses, form_sum, constant_sum, slope_of, cost_of, reduced_of, constant_of, form_of}

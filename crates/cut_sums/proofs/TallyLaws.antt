@@ -7,13 +7,12 @@ use Rattle.rationals.specs.Ring.Eqs.{done, by_eq}
 use Rattle.rationals.specs.Sparse.{Entry, Ascending, coefficient, value_if}
 use Rattle.rationals.specs.Forms.{EndsBelow}
 use Rattle.rationals.specs.Passes.{Operation, answer, too_wide, add_product_walk, less_product_walk, then_walk, IsNarrow}
-use Rattle.rationals.proofs.WalkLaws.{step_value}
+use Rattle.rationals.proofs.WalkLaws.{step_value, less_zero_product, product_fits}
 use Rattle.frac128.proofs.FormLemmas.{value_here, value_past, value_none, rises_from, drop_read}
 use Rattle.scen_defs.specs.Lists.{Each}
-use Rattle.scen_model.specs.Walks.{less_from}
+use Rattle.scen_defs.specs.Walks.{less_from}
 use Rattle.rationals.proofs.OrderMeaning.{mul_walk_zero}
 use Rattle.rationals.specs.Choices.{pick}
-use Rattle.scen_model.proofs.Reduces.{nothing, product_fits}
 use Rattle.cut_defs.specs.declared.kinds.CutKind.{CutKind}
 use Rattle.cut_defs.specs.declared.kinds.CutKind.TheVariants.{Bound, Ray}
 use Rattle.cut_defs.specs.Data.{Datum}
@@ -193,7 +192,7 @@ row_moves n y es old new e moves j f =
     (less_from_added (coefficient old j) n y (coefficient es j) (coefficient new j) e m.0, m.1)
 
 pub row_stays : (y : ℚ) (es old : List Entry) → y ≡ zero_ℚ → MovesColumns (λ j s. less_product_walk s (coefficient es j) y) old old
-row_stays y es old e j f = (nothing (coefficient old j) (coefficient es j) y f (ap (λ q. coefficient es j *ℚ q) e ∙ mul_zero_ℚ (coefficient es j)), f)
+row_stays y es old e j f = (less_zero_product (coefficient old j) (coefficient es j) y f (ap (λ q. coefficient es j *ℚ q) e ∙ mul_zero_ℚ (coefficient es j)), f)
 
 -- ---- the start
 zeros_are : (es : List Entry) (j : ℕ) → Each (λ (e : Entry). e.value ≡ zero_ℚ) es → coefficient es j ≡ zero_ℚ

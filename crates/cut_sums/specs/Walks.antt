@@ -3,12 +3,12 @@
 use Rattle.std.specs.Prelude.{ℕ, Bool, true, false, ltb, List, [], ◌∷◌, ◌++◌, Option, Some, None, Result, Ok}
 use Rattle.rationals.specs.Rational.{ℚ, zero_ℚ}
 use Rattle.rationals.specs.Sparse.{Entry, coefficient}
-use Rattle.rationals.specs.Forms.{put}
+use Rattle.rationals.specs.Forms.{put, product_from}
 use Rattle.rationals.specs.Passes.{Operation, add_product_walk, then_walk}
 use Rattle.rationals.specs.Choices.{pick}
 use Rattle.scen_defs.specs.declared.program.NodeRow.{NodeRow}
 use Rattle.scen_defs.specs.Ends.{used_end}
-use Rattle.scen_model.specs.Walks.{product_from, less_from}
+use Rattle.scen_defs.specs.Walks.{less_from}
 use Rattle.cut_defs.specs.declared.datum.ColumnBounds.{ColumnBounds}
 use Rattle.cut_defs.specs.Data.{Datum, is_own}
 use Rattle.cut_defs.specs.Stored.{Source, Stored, StoredUses, cost_of, constant_of, form_of}

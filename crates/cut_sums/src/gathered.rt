@@ -2,7 +2,7 @@
 ghost use Rattle.std.specs.Prelude.{◌≡◌, IfOk, OnOk, ◌++◌, ◌∷◌, []};
 ghost use Rattle.rationals.specs.Sparse.{Ascending, coefficient};
 ghost use Rattle.rationals.specs.Passes.{less_product_walk};
-ghost use Rattle.scen_model.specs.Walks.{less_from};
+ghost use Rattle.scen_defs.specs.Walks.{less_from};
 ghost use Rattle.cut_defs.specs.Data.{BoundsRise};
 ghost use Rattle.cut_sums.specs.Tallies.{AreCosts, AreZeros, MovesColumns, RowsAscend, outside};
 

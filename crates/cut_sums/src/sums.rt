@@ -5,7 +5,7 @@ ghost use Rattle.rationals.specs.Rational.{at_most};
 ghost use Rattle.rationals.specs.Passes.{less_product_walk};
 ghost use Rattle.rationals.specs.Forms.{EndsBelow, put};
 ghost use Rattle.scen_defs.specs.Ends.{used_end};
-ghost use Rattle.scen_model.specs.Walks.{less_from};
+ghost use Rattle.scen_defs.specs.Walks.{less_from};
 ghost use Rattle.cut_defs.specs.Stored.{cost_of};
 ghost use Rattle.cut_sums.specs.Walks.{worth_step, rows_worth, columns_worth};
 

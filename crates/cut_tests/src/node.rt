@@ -2,9 +2,9 @@
 ghost use Rattle.std.specs.Prelude.{◌≡◌, ◌<◌, ◌^◌, length};
 
 use cut_defs::{ColumnBounds, Share};
-use cut_proof::{NodeDatum, SharedCut, push_nonzero};
+use cut_proof::{ChildCuts, NodeDatum, SharedCut, push_nonzero};
 use frac128::{Form, Frac, Memory, print};
-use node_lp::{ChildCuts, Solved, Task, fits, solve_node};
+use node_lp::{Solved, Task, fits, solve_node};
 use scen_defs::{Kind, NodeRow};
 use std::alloc::Global;
 use std::process::Abort;

@@ -7,12 +7,11 @@ use Rattle.rationals.specs.Ring.Eqs.{done, by_eq}
 use Rattle.rationals.specs.Sparse.{Entry, coefficient, value_if}
 use Rattle.rationals.specs.Forms.{put, put_unless, is_zero}
 use Rattle.rationals.specs.Passes.{div_walk}
-use Rattle.rationals.proofs.WalkLaws.{walk_value}
+use Rattle.rationals.proofs.WalkLaws.{walk_value, ended}
 use Rattle.scen_defs.specs.declared.program.NodeRow.{NodeRow}
 use Rattle.scen_defs.specs.Lists.{Each, is_in}
 use Rattle.scen_defs.specs.Values.{At, at}
 use Rattle.scen_defs.proofs.ValueLaws.{each-push}
-use Rattle.scen_model.proofs.WalkEnds.{ended}
 use Rattle.cut_defs.specs.declared.datum.Share.{Share}
 use Rattle.cut_defs.specs.declared.kinds.CutKind.TheVariants.{Bound}
 use Rattle.cut_defs.specs.Cuts.{is_bound}

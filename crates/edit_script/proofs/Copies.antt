@@ -4,7 +4,7 @@ use Rattle.scen_defs.specs.declared.report.Kind.TheVariants.{Cost}
 use Rattle.scen_defs.specs.declared.program.Column.{Column}
 use Rattle.scen_defs.specs.declared.program.NodeRow.{NodeRow}
 use Rattle.scen_defs.specs.Program.{Node, Program}
-use Rattle.scen_model.specs.Derived.{derived_column, derived_row, derived_place, derived}
+use Rattle.scen_nodes.specs.Derived.{derived_column, derived_row, derived_place, derived}
 
 same : {A : Type 0} (f : A → A) → ((x : A) → f x ≡ x) → (xs : List A) → map f xs ≡ xs
 same f is [] = refl

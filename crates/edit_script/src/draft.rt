@@ -7,7 +7,7 @@ use edit_defs::{Act, Counts, Edit, Item, Script};
 use frac128::Memory;
 use reader_defs::Stop;
 use scen_defs::{Kind, Program};
-use scen_model::derive;
+use scen_nodes::derive;
 use smps_words::Line;
 use std::alloc::Global;
 

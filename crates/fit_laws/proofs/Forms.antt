@@ -7,9 +7,8 @@ use Rattle.rationals.specs.Rational.{ℚ, one_ℚ}
 use Rattle.rationals.specs.Sparse.{Entry}
 use Rattle.rationals.specs.Forms.{IsForm, add_scaled_walk}
 use Rattle.rationals.specs.Passes.{Operation, mul_walk, then_walk, then_value}
-use Rattle.rationals.proofs.WalkLaws.{sum_is_form}
+use Rattle.rationals.proofs.WalkLaws.{sum_is_form, ended}
 use Rattle.scen_defs.specs.Lists.{Each}
-use Rattle.scen_model.proofs.WalkEnds.{ended}
 use Rattle.cut_defs.specs.Stored.{Stored, StoredUses}
 use Rattle.cut_defs.specs.Stored.Stored.{Stored_of}
 use Rattle.cut_defs.specs.Stored.StoredUses.{No_stored, Use_stored}

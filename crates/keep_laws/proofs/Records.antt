@@ -10,7 +10,7 @@ use Rattle.rationals.specs.Passes.{Operation, div_walk, then_walk}
 use Rattle.rationals.specs.Sparse.{Entry}
 use Rattle.rationals.specs.Forms.{IsForm, EndsBelow, is_zero, put, put_unless}
 use Rattle.rationals.proofs.Lowest.{num_zero}
-use Rattle.rationals.proofs.WalkLaws.{pushed_is_form}
+use Rattle.rationals.proofs.WalkLaws.{pushed_is_form, ended}
 use Rattle.rationals.specs.Choices.{pick}
 use Rattle.lp_defs.specs.Solution.{Solution, Optimum, Nowhere, Endless, Cut_off, Passes, solution}
 use Rattle.lp_defs.specs.Program as lp
@@ -30,7 +30,6 @@ use Rattle.scen_defs.specs.declared.program.Row.{Row}
 use Rattle.scen_defs.specs.declared.report.Kind.{Kind}
 use Rattle.scen_defs.specs.declared.report.Kind.TheVariants as run_kind
 use Rattle.scen_defs.proofs.SumLaws.{each-map}
-use Rattle.scen_model.proofs.WalkEnds.{ended}
 use Rattle.scen_tree.specs.Trees.{Tree}
 use Rattle.cut_defs.specs.Data.{Datum, RowsRise}
 use Rattle.cut_defs.specs.declared.kinds.CutKind.{CutKind}
@@ -45,7 +44,7 @@ use Rattle.cut_proof.proofs.MadeFrom.{made_parts}
 use Rattle.edit_defs.specs.Data.{view_in}
 use Rattle.edit_defs.proofs.Lists.{each-append, passes-within}
 use Rattle.dual_assemble.specs.Ground.{quotients_from, uses_of_children, ground_source, ground_walk}
-use Rattle.node_lp.specs.declared.task.ChildCuts.{ChildCuts}
+use Rattle.cut_proof.specs.declared.child.ChildCuts.{ChildCuts}
 use Rattle.node_lp.specs.declared.task.Task.{Task}
 use Rattle.node_lp.specs.declared.solved.Solved.{Solved}
 use Rattle.node_lp.specs.declared.solved.Solved.TheVariants as solved

@@ -12,7 +12,7 @@ use Rattle.cut_defs.specs.Stored.{Stored, source_of}
 use Rattle.cut_pool.specs.Held.{Held}
 use Rattle.cut_banks.specs.declared.banks.Banks.{Banks}
 use Rattle.cut_banks.specs.Banks.{pools_of}
-use Rattle.node_lp.specs.declared.task.ChildCuts.{ChildCuts}
+use Rattle.cut_proof.specs.declared.child.ChildCuts.{ChildCuts}
 use Rattle.node_lp.specs.Weighed.{Weighed}
 use Rattle.node_lp.specs.Told.{record_of, node_solved}
 use Rattle.run_data.specs.declared.versions.Version.{Version}

@@ -22,7 +22,7 @@ use Rattle.cut_defs.specs.declared.kinds.CutKind.{CutKind}
 use Rattle.cut_proof.specs.Conditions.{UsesChildren, MayBeMade}
 use Rattle.cut_sums.specs.Walks.{priced_from, form_from, all_columns, constant_walk, cut_if, made}
 use Rattle.interval_form.specs.Own.{place_from}
-use Rattle.node_lp.specs.declared.task.ChildCuts.{ChildCuts}
+use Rattle.cut_proof.specs.declared.child.ChildCuts.{ChildCuts}
 use Rattle.node_lp.specs.Weighed.{Weighed}
 use Rattle.node_lp.specs.Problem.{HeldCut, held, PlacedCut, Problem, IsCut, IsOther, is_taken, taken_of, taken, child_at}
 use Rattle.node_lp.specs.Records.{weighed_constant, slope, reduced, constant, value_at, IsRecord}

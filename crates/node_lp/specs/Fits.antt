@@ -9,7 +9,7 @@ use Rattle.interval_form.specs.Rows.{HasForm}
 use Rattle.cut_defs.specs.declared.datum.ColumnBounds.{ColumnBounds}
 use Rattle.cut_defs.specs.declared.datum.Share.{Share}
 use Rattle.cut_defs.specs.Stored.{Stored, source_of, form_of}
-use Rattle.node_lp.specs.declared.task.ChildCuts.{ChildCuts}
+use Rattle.cut_proof.specs.declared.child.ChildCuts.{ChildCuts}
 use Rattle.node_lp.specs.declared.task.Task.{Task}
 use Rattle.node_lp.specs.Problem.{child_at, is_taken}
 

@@ -7,7 +7,7 @@ use Rattle.cut_defs.specs.Stored.{Source, Stored, source_of}
 use Rattle.cut_defs.specs.declared.kinds.CutKind.{CutKind}
 use Rattle.cut_defs.specs.declared.kinds.CutKind.TheVariants as cut_kind
 use Rattle.cut_sums.specs.Walks.{made}
-use Rattle.node_lp.specs.declared.task.ChildCuts.{ChildCuts}
+use Rattle.cut_proof.specs.declared.child.ChildCuts.{ChildCuts}
 use Rattle.node_lp.specs.declared.task.Task.{Task}
 use Rattle.node_lp.specs.declared.found.Found.{Found}
 use Rattle.node_lp.specs.declared.found.Found.TheVariants as found

@@ -24,7 +24,7 @@ use Rattle.rationals.specs.Choices.{pick}
 use Rattle.scen_defs.specs.declared.program.NodeRow.{NodeRow}
 use Rattle.interval_form.specs.Rows.{terms_walk, right_walk, own_limits_from, bound_limits_from}
 use Rattle.cut_defs.specs.declared.datum.Share.{Share}
-use Rattle.node_lp.specs.declared.task.ChildCuts.{ChildCuts}
+use Rattle.cut_proof.specs.declared.child.ChildCuts.{ChildCuts}
 use Rattle.node_lp.specs.declared.found.Found.{Found}
 use Rattle.node_lp.specs.declared.found.Found.TheVariants as found
 use Rattle.node_lp.specs.Problem.{PlacedCut, Problem, IsCut, taken_of}

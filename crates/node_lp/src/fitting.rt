@@ -11,9 +11,9 @@ ghost use Rattle.node_lp.specs.Fits.{is_child_here, cut_fits, cuts_fit, children
 
 use crate::program::is_taken;
 use crate::solve::is_priced;
-use crate::task::{ChildCuts, Task};
+use crate::task::Task;
 use cut_defs::{ColumnBounds, Share};
-use cut_proof::{Cut, SharedCut};
+use cut_proof::{ChildCuts, Cut, SharedCut};
 use frac128::{Form, Term};
 use interval_form::place_of;
 use scen_defs::NodeRow;

@@ -14,9 +14,8 @@ ghost use Rattle.node_lp.specs.Plain.{frees, share_form, less_form, child_entry}
 ghost use Rattle.cut_defs.specs.Cuts.{is_bound};
 ghost use Rattle.node_lp.specs.Walk.{cut_walk, cuts_from, child_cuts_from, AreCuts};
 
-use crate::task::ChildCuts;
 use cut_defs::{ColumnBounds, CutKind, Share};
-use cut_proof::{Cut, SharedCut};
+use cut_proof::{ChildCuts, Cut, SharedCut};
 use frac128::{Form, FormFault, Frac, Memory, Term};
 use interval_form::{Part, part_at, push_own, push_spread, right_side, spread_own};
 use slack_form::Limit;

@@ -37,7 +37,7 @@ use Rattle.edit_defs.proofs.EditLaws.{scripts_make_books}
 use Rattle.cut_proof.specs.Repairing.{snoc}
 use Rattle.cut_proof.proofs.MadeFrom.{made_parts}
 use Rattle.cut_sums.specs.Walks.{made}
-use Rattle.scen_model.proofs.WalkEnds.{ended}
+use Rattle.rationals.proofs.WalkLaws.{ended}
 use Rattle.dual_assemble.specs.Ground.{quotients_from, uses_of_children, ground_source, ground_walk, AreOfChildren, IsGroundFrom}
 use Rattle.cut_pool.specs.Held.{Held}
 use Rattle.cut_pool.specs.Laws.{AllMadeFor}
@@ -47,7 +47,7 @@ use Rattle.cut_pool.specs.declared.offer.Offer.TheVariants as offer
 use Rattle.cut_banks.specs.declared.banks.Banks.{Banks}
 use Rattle.cut_banks.specs.Banks.{pools_of, with_pools}
 use Rattle.cut_banks.specs.Pools.{cuts_of, cuts_at, cuts_read, with_pool}
-use Rattle.node_lp.specs.declared.task.ChildCuts.{ChildCuts}
+use Rattle.cut_proof.specs.declared.child.ChildCuts.{ChildCuts}
 use Rattle.node_lp.specs.declared.task.Task.{Task}
 use Rattle.node_lp.specs.declared.solved.Solved.{Solved}
 use Rattle.node_lp.specs.declared.solved.Solved.TheVariants as solved

@@ -22,7 +22,7 @@ use Rattle.cut_pool.specs.Held.{Held}
 use Rattle.cut_banks.specs.Banks.{pools_of}
 use Rattle.cut_banks.specs.Pools.{cuts_of, cuts_at, cuts_read, IsOfNode, AreOfNodes}
 use Rattle.cut_banks.specs.declared.banks.Banks.{Banks}
-use Rattle.node_lp.specs.declared.task.ChildCuts.{ChildCuts}
+use Rattle.cut_proof.specs.declared.child.ChildCuts.{ChildCuts}
 use Rattle.node_lp.specs.declared.task.Task.{Task}
 use Rattle.node_lp.specs.Problem.{IsProblem, is_priced, is_taken, child_at, problem_of}
 use Rattle.node_lp.specs.Fits.{HasForms, are_others, is_child_here, cut_fits, cuts_fit, children_fit}

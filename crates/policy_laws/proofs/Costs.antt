@@ -8,7 +8,7 @@ use Rattle.rationals.specs.Sums.{sum_ℚ}
 use Rattle.rationals.specs.Sparse.{Entry, product, coefficient}
 use Rattle.rationals.specs.Forms.{IsForm, dot_walk}
 use Rattle.rationals.specs.Passes.{add_product_walk}
-use Rattle.rationals.proofs.WalkLaws.{step_value, walk_laws}
+use Rattle.rationals.proofs.WalkLaws.{step_value, walk_laws, ended}
 use Rattle.scen_defs.specs.declared.program.Column.{Column}
 use Rattle.scen_defs.specs.declared.report.Kind.{Kind}
 use Rattle.scen_defs.specs.declared.report.Kind.TheVariants.{Cost}
@@ -19,7 +19,6 @@ use Rattle.scen_defs.specs.Flat.{node_cost}
 use Rattle.scen_defs.specs.Valid.{Lives, IsProgram}
 use Rattle.scen_defs.proofs.SumLaws.{each-map, sum-same}
 use Rattle.scen_defs.proofs.Costs.{cost-by_nodes}
-use Rattle.scen_model.proofs.WalkEnds.{ended}
 use Rattle.scen_tree.specs.Trees.{Tree, tree_walk}
 use Rattle.edit_defs.proofs.Lists.{passes-within}
 use Rattle.dual_assemble.specs.Values.{point_entries}

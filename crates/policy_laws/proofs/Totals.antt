@@ -8,8 +8,9 @@ use Rattle.scen_defs.specs.Lists.{passes_at}
 use Rattle.scen_defs.specs.Program.{Node, Scenario, Program, view_of, is_live, total}
 use Rattle.scen_defs.specs.Valid.{Lives}
 use Rattle.scen_defs.proofs.Subtrees.{no}
-use Rattle.scen_model.specs.Walks.{total_from}
-use Rattle.scen_model.proofs.WalkEnds.{ended, total_from-ends}
+use Rattle.scen_defs.specs.Walks.{total_from}
+use Rattle.rationals.proofs.WalkLaws.{ended}
+use Rattle.scen_defs.proofs.WalkEnds.{total_from-ends}
 use Rattle.scen_tree.specs.declared.position.Position.{Position}
 use Rattle.scen_tree.specs.Chances.{Sum, Chances, gathered_from, live_sum, live_sums_from, totals_walk, shares_walk, chances_walk}
 use Rattle.scen_tree.specs.Trees.{position_by, position_of, Tree, tree_by, tree_walk}

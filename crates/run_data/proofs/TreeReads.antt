@@ -5,13 +5,13 @@ use Rattle.std.proofs.lemmas.Bool.Decides.{nat_tests}
 use Rattle.rationals.specs.declared.Op.TheVariants.{Div}
 use Rattle.rationals.specs.Rational.{ℚ, zero_ℚ, ◌/ℚ◌, zero_add_ℚ}
 use Rattle.rationals.specs.Passes.{Operation, div_walk, then_walk}
-use Rattle.rationals.proofs.WalkLaws.{walk_value}
+use Rattle.rationals.proofs.WalkLaws.{walk_value, ended}
 use Rattle.scen_defs.specs.Lists.{places, passes_at, keep}
 use Rattle.scen_defs.specs.Program.{Node, Scenario, Program, view_of, is_live, node_at, or_root, total}
 use Rattle.scen_defs.specs.Flat.{is_child, children}
 use Rattle.scen_defs.specs.Valid.{Lives, HasParent, IsProgram}
-use Rattle.scen_model.specs.Walks.{total_from}
-use Rattle.scen_model.proofs.WalkEnds.{ended, total_from-ends}
+use Rattle.scen_defs.specs.Walks.{total_from}
+use Rattle.scen_defs.proofs.WalkEnds.{total_from-ends}
 use Rattle.scen_tree.specs.declared.position.Position.{Position}
 use Rattle.scen_tree.specs.declared.position.Position.TheVariants.{Dropped}
 use Rattle.scen_tree.specs.Chances.{Sum, Chances, gathered_from, live_sum, live_sums_from, share_walk, shares_from, totals_walk, shares_walk, chances_walk}

@@ -12,7 +12,7 @@ use Rattle.scen_defs.specs.Values.{At, at}
 use Rattle.scen_defs.specs.declared.program.NodeRow.{NodeRow}
 use Rattle.scen_defs.specs.declared.report.Kind.{Kind}
 use Rattle.scen_defs.proofs.SumLaws.{each-map}
-use Rattle.scen_model.proofs.WalkEnds.{ended}
+use Rattle.rationals.proofs.WalkLaws.{ended}
 use Rattle.scen_tree.specs.Trees.{Tree}
 use Rattle.cut_defs.specs.Data.{Datum, RowsRise, SharesRise, IsDatum, share_of}
 use Rattle.cut_defs.specs.declared.datum.Share.{Share}
@@ -31,7 +31,7 @@ use Rattle.cut_banks.specs.Pools.{cuts_of, cuts_read}
 use Rattle.dual_assemble.specs.Ground.{quotients_from, uses_of_children, ground_source, ground_walk, AreOfChildren}
 use Rattle.dual_assemble.proofs.Grounds.{may_be_ground}
 use Rattle.edit_defs.specs.Data.{view_in}
-use Rattle.node_lp.specs.declared.task.ChildCuts.{ChildCuts}
+use Rattle.cut_proof.specs.declared.child.ChildCuts.{ChildCuts}
 use Rattle.node_lp.specs.declared.task.Task.{Task}
 use Rattle.node_lp.specs.Problem.{held, PlacedCut, is_priced, taken_of, taken, problem_of, IsCut, IsProblem}
 use Rattle.node_lp.specs.Answers.{LooseAnswer}

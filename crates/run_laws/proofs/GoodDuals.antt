@@ -9,7 +9,7 @@ use Rattle.rationals.specs.Sums.{sum_ℚ}
 use Rattle.rationals.specs.Sparse.{Entry, Ascending, coefficient, value_if}
 use Rattle.rationals.specs.Forms.{EndsBelow, is_zero, put, put_unless}
 use Rattle.rationals.specs.Passes.{Operation, div_walk, then_walk}
-use Rattle.rationals.proofs.WalkLaws.{walk_value}
+use Rattle.rationals.proofs.WalkLaws.{walk_value, ended}
 use Rattle.scen_defs.specs.Lists.{Each, NumbersRise}
 use Rattle.scen_defs.specs.Ends.{IsGoodAt, worth}
 use Rattle.scen_defs.specs.Program.{Program, View, IsTree, IsLive, total, view_of, is_live}
@@ -22,7 +22,6 @@ use Rattle.scen_defs.specs.declared.report.Kind.TheVariants as run_kind
 use Rattle.scen_defs.proofs.SumLaws.{each-map, each-both}
 use Rattle.scen_defs.proofs.Subtrees.{child-is}
 use Rattle.scen_defs.proofs.Valid.{once-passes}
-use Rattle.scen_model.proofs.WalkEnds.{ended}
 use Rattle.scen_tree.specs.Trees.{Tree, tree_walk}
 use Rattle.cut_defs.specs.Cuts.{node_of, slope, slopes, IsMade, IsGround, AreGround}
 use Rattle.cut_defs.specs.Cuts.Cut.{Cut_of}

@@ -13,3 +13,4 @@ pub mod Recession
 pub mod Valid
 pub mod Runs
 pub mod CoverLaws
+pub mod WalkEnds

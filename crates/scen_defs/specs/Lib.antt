@@ -10,3 +10,4 @@ pub mod ValidProofs
 pub mod Laws
 pub mod Fits
 pub mod Cover
+pub mod Walks

@@ -4,13 +4,16 @@ use Rattle.rationals.specs.declared.Op.TheVariants.{Add}
 use Rattle.rationals.specs.Rational.{ℚ, zero_ℚ, one_ℚ, ◌+ℚ◌, ◌*ℚ◌, by_eqs, terms, zero_add_ℚ}
 use Rattle.rationals.specs.Ring.Eqs.{done, by_eq}
 use Rattle.rationals.specs.Passes.{then_walk, add_product_walk}
-use Rattle.rationals.proofs.WalkLaws.{step_value}
+use Rattle.rationals.proofs.WalkLaws.{step_value, ended, product_from-ends}
 use Rattle.scen_defs.specs.Program.{View, total}
 use Rattle.scen_defs.specs.Flat.{node_cost}
 use Rattle.scen_defs.proofs.Costs.{cost-by_nodes}
-use Rattle.scen_model.specs.Walks.{product_from, total_from, totals_walk, cost_step, costs_walk}
+use Rattle.rationals.specs.Forms.{product_from}
+use Rattle.scen_defs.specs.Walks.{total_from}
+use Rattle.scen_model.specs.Walks.{totals_walk, cost_step, costs_walk}
 use Rattle.scen_model.specs.Laws.{CostLaw}
-use Rattle.scen_model.proofs.WalkEnds.{ended, fold-adds, product_from-ends, total_from-ends}
+use Rattle.scen_defs.proofs.WalkEnds.{total_from-ends}
+use Rattle.scen_model.proofs.WalkEnds.{fold-adds}
 
 step-adds : (v : View) (x : ℕ → ℕ → ℚ) (s : ℚ) (n : ℕ) (q : ℚ) → cost_step v.scenarios (v.cost n) (x n) n s ≡ Ok q → q ≡ s +ℚ total v n *ℚ node_cost v x n
 step-adds v x s n q e =

@@ -6,7 +6,7 @@ use Rattle.rationals.specs.Ring.Eqs.{done, by_eq}
 use Rattle.rationals.specs.Passes.{then_walk, mul_walk, add_product_walk, less_product_walk}
 use Rattle.rationals.specs.Sums.{sum_ℚ}
 use Rattle.rationals.specs.Sparse.{coefficient, value_if}
-use Rattle.rationals.proofs.WalkLaws.{walk_value, step_value}
+use Rattle.rationals.proofs.WalkLaws.{walk_value, step_value, ended}
 use Rattle.rationals.specs.Choices.{pick}
 use Rattle.scen_defs.specs.declared.program.NodeRow.{NodeRow}
 use Rattle.scen_defs.specs.Lists.{Each}
@@ -15,9 +15,11 @@ use Rattle.scen_defs.specs.Program.{View, total}
 use Rattle.scen_defs.specs.Flat.{is_above, subtree, reduced, GoodAt, IsGood, value}
 use Rattle.scen_defs.proofs.SumLaws.{each-both, each-map, sum-keep}
 use Rattle.scen_model.specs.declared.stop.Stop.TheVariants.{Decided}
-use Rattle.scen_model.specs.Walks.{total_walk, totals_walk, stopping, end_step, worth_step, rows_from, less_from, less_step, less_all, reduced_walk, column_step, columns_step, all_rows, all_columns, dual_walk}
+use Rattle.scen_defs.specs.Walks.{less_from}
+use Rattle.scen_model.specs.Walks.{total_walk, totals_walk, stopping, end_step, worth_step, rows_from, less_step, less_all, reduced_walk, column_step, columns_step, all_rows, all_columns, dual_walk}
 use Rattle.scen_model.specs.Laws.{DualLaws}
-use Rattle.scen_model.proofs.WalkEnds.{Decides, ended, decides, stopping-ends, stopping-decided, fold-adds, fold-takes, fold-each, fold-decided, total_from-ends}
+use Rattle.scen_defs.proofs.WalkEnds.{total_from-ends}
+use Rattle.scen_model.proofs.WalkEnds.{Decides, decides, stopping-ends, stopping-decided, fold-adds, fold-takes, fold-each, fold-decided}
 use Rattle.scen_model.proofs.WalkEnds.Decides.{at_first, at_next}
 
 -- ---- a multiplier and the end that it uses

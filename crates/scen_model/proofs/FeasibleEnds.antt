@@ -10,9 +10,11 @@ use Rattle.scen_defs.specs.Program.{View, IsTree}
 use Rattle.scen_defs.specs.Flat.{along, FeasibleAt, Feasible, zero_end, zero_row, with_zero_ends, IsDirection}
 use Rattle.scen_defs.proofs.SumLaws.{each-both, each-map}
 use Rattle.scen_model.specs.declared.stop.Stop.TheVariants.{Decided}
-use Rattle.scen_model.specs.Walks.{product_from, stopping, own_end, is_above_low, is_below_high, is_between, test, rows_test, all_rows_test, bounds_test, all_bounds_test, meets_walk, cost_walk, direction_walk}
+use Rattle.rationals.specs.Forms.{product_from}
+use Rattle.scen_model.specs.Walks.{stopping, own_end, is_above_low, is_below_high, is_between, test, rows_test, all_rows_test, bounds_test, all_bounds_test, meets_walk, cost_walk, direction_walk}
 use Rattle.scen_model.specs.Laws.{FeasibleLaws, DirectionLaws}
-use Rattle.scen_model.proofs.WalkEnds.{Decides, ended, decides, stopping-ends, stopping-decided, fold-each, fold-decided, product_from-ends}
+use Rattle.rationals.proofs.WalkLaws.{ended, product_from-ends}
+use Rattle.scen_model.proofs.WalkEnds.{Decides, decides, stopping-ends, stopping-decided, fold-each, fold-decided}
 use Rattle.scen_model.proofs.WalkEnds.Decides.{at_first, at_next}
 use Rattle.scen_model.proofs.CostEnds.{cost_is}
 

@@ -16,9 +16,11 @@ use Rattle.scen_defs.specs.declared.program.Node.{Node as NodeOf}
 use Rattle.scen_defs.specs.Lists.{passes_at}
 use Rattle.scen_defs.specs.Program.{View, Node, Program, content, nodes_content, is_live, view_of, column_at}
 use Rattle.scen_defs.specs.Flat.{up, home, is_above}
-use Rattle.scen_model.specs.Walks.{less_from, less_step, less_all, reduced_walk}
+use Rattle.scen_defs.specs.Walks.{less_from}
+use Rattle.scen_model.specs.Walks.{less_step, less_all, reduced_walk}
 use Rattle.scen_model.specs.Gathered.{lists_in, is_of, IsSeated, AreSeated, AreApart, column_number, if_home, entry_from, entries_from, AreTotals, LessAt, LessIn, AllMove, IsOnPath, AreStages, IsPriced, AllPriced, AreAll}
-use Rattle.scen_model.proofs.Reduces.{nothing, entries_sum}
+use Rattle.rationals.proofs.WalkLaws.{less_zero_product}
+use Rattle.scen_model.proofs.Reduces.{entries_sum}
 
 -- ---- what is left to do from the numbers now is what there was to do from those at the start
 abbrev pub AllSame : {A P : Type 0} → View → List Column → List ℕ → (ℕ → ℕ → ℚ → List A → Result ℚ P) → List (List ℚ) → List A → List (List ℚ) → List A → Type 0
@@ -233,7 +235,7 @@ row_moves v columns seats n y es old new a moves k j o f =
 pub row_stays : (v : View) (columns : List Column) (seats : List ℕ) (n : ℕ) (y : ℚ) (es : List Entry) (old : List (List ℚ)) → y ≡ zero_ℚ
     → AllMove v columns seats (λ k j s. if_home v n k j s (less_product_walk s (coefficient es j) y)) old old
 row_stays v columns seats n y es old e k j o f = (
-  ap (λ r. pick (eqb (home v n j) k) r (Ok (column_number old seats k j))) (nothing (column_number old seats k j) (coefficient es j) y f (ap (λ q. coefficient es j *ℚ q) e ∙ mul_zero_ℚ (coefficient es j)))
+  ap (λ r. pick (eqb (home v n j) k) r (Ok (column_number old seats k j))) (less_zero_product (column_number old seats k j) (coefficient es j) y f (ap (λ q. coefficient es j *ℚ q) e ∙ mul_zero_ℚ (coefficient es j)))
       ∙ pick_same (eqb (home v n j) k) (Ok (column_number old seats k j)),
   f,
 )

@@ -8,7 +8,8 @@ use Rattle.scen_defs.specs.declared.program.Program.{Program as ProgramOf}
 use Rattle.scen_defs.specs.Lists.{places, passes_at}
 use Rattle.scen_defs.specs.Program.{View, Node, content, nodes_content, is_live, view_of}
 use Rattle.scen_model.specs.declared.stop.Stop.{Stop}
-use Rattle.scen_model.specs.Walks.{fold_walk, product_from, total_walk, totals_walk, cost_step, costs_walk, cost_walk, stopping, bound_step, worth_step, column_step, columns_step, reduced_walk, all_rows, all_columns, dual_by}
+use Rattle.rationals.specs.Forms.{product_from}
+use Rattle.scen_model.specs.Walks.{fold_walk, total_walk, totals_walk, cost_step, costs_walk, cost_walk, stopping, bound_step, worth_step, column_step, columns_step, reduced_walk, all_rows, all_columns, dual_by}
 use Rattle.scen_model.specs.Gathered.{AreTotals, AreAll, column_number, is_of, cost_step_with, costs_with, columns_with}
 use Rattle.scen_model.proofs.Reduces.{then_same}
 use Rattle.scen_model.proofs.Homes.{content_long}

@@ -1,28 +1,12 @@
 -- What is taken away entry by entry is what is taken away row by row.
-use Rattle.std.proofs.Common.{◌≡◌, ℕ, suc, ◌<◌, ◌≤◌, Bool, true, false, eqb, List, [], ◌∷◌, Result, Ok, Err, refl, sym, ap, ap₂, subst, ◌∙◌, arith, eqb-true}
+use Rattle.std.proofs.Common.{◌≡◌, ℕ, suc, ◌<◌, ◌≤◌, Bool, true, false, eqb, List, [], ◌∷◌, Result, Ok, Err, refl, sym, ap, ap₂, ◌∙◌, arith, eqb-true}
 use Rattle.std.proofs.lemmas.Bool.{ne_eqb}
-use Rattle.rationals.specs.Rational.{ℚ, zero_ℚ, ◌+ℚ◌, ◌-ℚ◌, ◌*ℚ◌, zero_add_ℚ, add_zero_ℚ, zero_mul_ℚ, by_ring, terms}
+use Rattle.rationals.specs.Rational.{ℚ, zero_ℚ, ◌+ℚ◌, zero_add_ℚ, add_zero_ℚ, zero_mul_ℚ}
 use Rattle.rationals.specs.Sparse.{Entry, coefficient, value_if, Ascending}
-use Rattle.rationals.specs.Passes.{Operation, answer, too_wide, less_product_walk, mul_walk, then_walk, IsNarrow}
+use Rattle.rationals.specs.Passes.{Operation, less_product_walk, then_walk, IsNarrow}
 use Rattle.rationals.specs.Choices.{pick}
+use Rattle.rationals.proofs.WalkLaws.{less_zero_product}
 use Rattle.scen_model.specs.Gathered.{entries_from}
-
--- an answer that is a value
-answered : {X P : Type 0} (b : Bool) (p : P) (x y : X) → answer b p x ≡ Ok y → (b ≡ false) × (x ≡ y)
-answered true p x y e = absurd (cc)
-answered false p x y e = (refl, cc)
-
-pub product_fits : (a b t : ℚ) → mul_walk a b ≡ Ok t → IsNarrow t
-product_fits a b t e = let p = answered (too_wide (a *ℚ b)) _ (a *ℚ b) t e in subst (λ q. too_wide q ≡ false) p.1 p.0
-
--- a product of 0 takes nothing away
-pub nothing : (s a b : ℚ) → IsNarrow s → a *ℚ b ≡ zero_ℚ → less_product_walk s a b ≡ Ok s
-nothing s a b f e =
-    let same : s -ℚ a *ℚ b ≡ s = ap (λ q. s -ℚ q) e ∙ by_ring (s ∷ []) (search terms depth 40) tt in
-    go (s -ℚ a *ℚ b) same _
-  where
-    go : (q : ℚ) → q ≡ s → (p : Operation) → answer (too_wide q) p q ≡ Ok s
-    go q e p = ap (λ r. answer (too_wide r) p r) e ∙ ap (λ b. answer b p s) f
 
 -- ---- a column that stands nowhere in the entries
 absent_coefficient : (c j : ℕ) (es : List Entry) → j < c → Ascending c es → coefficient es j ≡ zero_ℚ
@@ -44,7 +28,7 @@ only (Ok u) t f h e = sym (h u) ∙ e
 only (Err p) t f h e = absurd (cc)
 
 pub entries_sum : (c j : ℕ) (y s t : ℚ) (es : List Entry) → Ascending c es → IsNarrow s → entries_from y j s es ≡ Ok t → less_product_walk s (coefficient es j) y ≡ Ok t
-entries_sum c j y s t [] a f e = nothing s zero_ℚ y f (zero_mul_ℚ y) ∙ e
+entries_sum c j y s t [] a f e = less_zero_product s zero_ℚ y f (zero_mul_ℚ y) ∙ e
 entries_sum c j y s t (d ∷ es) a f e = go (eqb d.column j) refl (entries_sum (suc d.column) j y s t es a.1 f) e
   where
     go : (b : Bool) → eqb d.column j ≡ b → (entries_from y j s es ≡ Ok t → less_product_walk s (coefficient es j) y ≡ Ok t)

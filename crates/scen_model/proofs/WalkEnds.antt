@@ -1,29 +1,16 @@
 -- What a walk that came to its end, or was stopped, went through.
-use Rattle.std.proofs.Common.{◌≡◌, ℕ, Bool, true, false, List, [], ◌∷◌, Result, Ok, Err, refl, sym, ap, ◌∙◌}
-use Rattle.rationals.specs.declared.Op.TheVariants.{Add}
-use Rattle.rationals.specs.Rational.{ℚ, one_ℚ, ◌+ℚ◌, ◌-ℚ◌, ◌*ℚ◌, by_eqs, by_ring, terms, add_zero_ℚ}
+use Rattle.std.proofs.Common.{◌≡◌, List, [], ◌∷◌, Result, Ok, Err, refl, sym, ap, ◌∙◌}
+use Rattle.rationals.specs.Rational.{ℚ, one_ℚ, ◌+ℚ◌, ◌-ℚ◌, by_eqs, by_ring, terms, add_zero_ℚ}
 use Rattle.rationals.specs.Ring.Eqs.{done, by_eq}
-use Rattle.rationals.specs.Passes.{Operation, add_walk, add_product_walk, then_walk}
+use Rattle.rationals.specs.Passes.{Operation, then_walk}
 use Rattle.rationals.specs.Sums.{sum_ℚ}
-use Rattle.rationals.specs.Sparse.{Entry, product, value_if}
-use Rattle.rationals.proofs.WalkLaws.{walk_value, step_value}
-use Rattle.rationals.specs.Choices.{pick}
-use Rattle.scen_defs.specs.Lists.{Each, is_in}
-use Rattle.scen_defs.specs.Program.{Scenario}
+use Rattle.rationals.proofs.WalkLaws.{ended}
+use Rattle.scen_defs.specs.Lists.{Each}
 use Rattle.scen_model.specs.declared.stop.Stop.{Stop}
 use Rattle.scen_model.specs.declared.stop.Stop.TheVariants.{Decided}
-use Rattle.scen_model.specs.Walks.{fold_walk, product_from, total_from, stopping}
+use Rattle.scen_model.specs.Walks.{fold_walk, stopping}
 
--- one walk and then another
-pub record Ended {A B P : Type 0} (first : Result A P) (next : A → Result B P) (b : B) : Type 0 where
-  pub result : A
-  pub first_is : first ≡ Ok result
-  pub next_is : next result ≡ Ok b
-
-pub ended : {A B P : Type 0} (first : Result A P) (next : A → Result B P) (b : B) → then_walk first next ≡ Ok b → Ended first next b
-ended (Ok a) next b e = record { result = a; first_is = refl; next_is = e }
-ended (Err p) next b e = absurd (cc)
-
+-- a walk that decides
 pub data Decides {A B : Type 0} (first : Result A Stop) (next : A → Result B Stop) : Type 0 where
   at_first : first ≡ Err Decided → Decides first next
   at_next : (a : A) → first ≡ Ok a → next a ≡ Err Decided → Decides first next
@@ -69,31 +56,3 @@ fold-decided {A} {S} f G h s (x ∷ xs) e g = go (decides (f s x) (λ t. fold_wa
     go : Decides (f s x) (λ t. fold_walk f t xs) → ((t : S) → fold_walk f t xs ≡ Err Decided → ⊥) → ⊥
     go (at_first d) rest = h s x d g.0
     go (at_next t d k) rest = rest t k
-
--- ---- sums
-pub product_from-ends : (x : ℕ → ℚ) (s : ℚ) (es : List Entry) (q : ℚ) → product_from x s es ≡ Ok q → q ≡ s +ℚ product es x
-product_from-ends x s [] q e = let d : q ≡ s = cc in d ∙ sym (add_zero_ℚ s)
-product_from-ends x s (d ∷ es) q e =
-    let one = ended (add_product_walk s d.value (x d.column)) (λ t. product_from x t es) q e in
-    let r : q ≡ one.result +ℚ product es x = product_from-ends x one.result es q one.next_is in
-    let t : one.result ≡ s +ℚ d.value *ℚ x d.column = step_value Add s d.value (x d.column) one.result one.first_is in
-    by_eqs (q ∷ s ∷ one.result ∷ d.value ∷ x d.column ∷ product es x ∷ []) (by_eq one_ℚ r (by_eq one_ℚ t done)) (search terms depth 40) tt
-
-through : ℕ → List Scenario → ℚ
-through n cs = sum_ℚ (λ (c : Scenario). value_if (is_in n c.path) c.probability) cs
-
-pub total_from-ends : (n : ℕ) (s : ℚ) (cs : List Scenario) (q : ℚ) → total_from n s cs ≡ Ok q → q ≡ s +ℚ sum_ℚ (λ (c : Scenario). value_if (is_in n c.path) c.probability) cs
-unfolding through
-total_from-ends n s [] q e = let d : q ≡ s = cc in d ∙ sym (add_zero_ℚ s)
-total_from-ends n s (c ∷ cs) q e = go (is_in n c.path) e (λ t r k. total_from-ends n t cs r k)
-  where
-    go : (b : Bool) → pick b (then_walk (add_walk s c.probability) (λ t. total_from n t cs)) (total_from n s cs) ≡ Ok q
-        → ((t r : ℚ) → total_from n t cs ≡ Ok r → r ≡ t +ℚ through n cs) → q ≡ s +ℚ (value_if b c.probability +ℚ through n cs)
-    go true e rest =
-        let one = ended (add_walk s c.probability) (λ t. total_from n t cs) q e in
-        let r : q ≡ one.result +ℚ through n cs = rest one.result q one.next_is in
-        let t : one.result ≡ s +ℚ c.probability = walk_value Add s c.probability one.result one.first_is in
-        by_eqs (q ∷ s ∷ one.result ∷ c.probability ∷ through n cs ∷ []) (by_eq one_ℚ r (by_eq one_ℚ t done)) (search terms depth 40) tt
-    go false e rest =
-        let r : q ≡ s +ℚ through n cs = rest s q e in
-        by_eqs (q ∷ s ∷ through n cs ∷ []) (by_eq one_ℚ r done) (search terms depth 40) tt

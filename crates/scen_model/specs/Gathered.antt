@@ -16,7 +16,8 @@ use Rattle.scen_model.specs.declared.stop.Stop.{Stop}
 use Rattle.scen_model.specs.declared.stop.Stop.TheVariants.{Decided as DecidedStop}
 use Rattle.scen_model.specs.declared.unfinished.Ended.{Ended}
 use Rattle.scen_model.specs.declared.unfinished.Ended.TheVariants.{Decided, Walk, Memory}
-use Rattle.scen_model.specs.Walks.{cost_walk, stopping, test, total_walk, worth_step, product_from, fold_walk}
+use Rattle.rationals.specs.Forms.{product_from}
+use Rattle.scen_model.specs.Walks.{cost_walk, stopping, test, total_walk, worth_step, fold_walk}
 
 -- at each place that passes the test, the walk comes from the old number to the new one
 abbrev pub Moves : {P : Type 0} → (ℕ → Bool) → (ℕ → ℚ → Result ℚ P) → List ℚ → List ℚ → Type 0

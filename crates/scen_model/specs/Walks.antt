@@ -2,13 +2,14 @@
 use Rattle.std.specs.Prelude.{ℕ, Bool, true, false, not, ◌&&◌, List, [], ◌∷◌, Option, Some, None, Result, Ok, Err}
 use Rattle.rationals.specs.Rational.{ℚ, zero_ℚ, at_most}
 use Rattle.rationals.specs.Sparse.{Entry, coefficient}
-use Rattle.rationals.specs.Passes.{Operation, add_walk, mul_walk, add_product_walk, less_product_walk, then_walk}
+use Rattle.rationals.specs.Passes.{Operation, mul_walk, add_product_walk, then_walk}
+use Rattle.rationals.specs.Forms.{product_from}
 use Rattle.rationals.specs.Choices.{pick}
 use Rattle.scen_defs.specs.declared.program.NodeRow.{NodeRow}
-use Rattle.scen_defs.specs.Lists.{is_in}
 use Rattle.scen_defs.specs.Ends.{used_end}
 use Rattle.scen_defs.specs.Program.{View, Scenario}
 use Rattle.scen_defs.specs.Flat.{along, is_above, zero_end}
+use Rattle.scen_defs.specs.Walks.{total_from, less_from}
 use Rattle.scen_model.specs.declared.charges.Costs.{Costs}
 use Rattle.scen_model.specs.declared.charges.Costs.TheVariants.{Own, Zero}
 use Rattle.scen_model.specs.declared.feasibility.Ends.{Ends}
@@ -21,17 +22,7 @@ abbrev pub fold_walk : {S A P : Type 0} → (S → A → Result S P) → S → L
 fold_walk f s [] = Ok s
 fold_walk f s (x ∷ xs) = then_walk (f s x) (λ t. fold_walk f t xs)
 
--- s and, entry by entry, the entry times the value of its column
-abbrev pub product_from : (ℕ → ℚ) → ℚ → List Entry → Result ℚ Operation
-product_from x s [] = Ok s
-product_from x s (e ∷ es) = then_walk (add_product_walk s e.value (x e.column)) (λ t. product_from x t es)
-
 -- ---- the total of a node
-
--- s and the probabilities of the scenarios through node n
-abbrev pub total_from : ℕ → ℚ → List Scenario → Result ℚ Operation
-total_from n s [] = Ok s
-total_from n s (c ∷ cs) = pick (is_in n c.path) (then_walk (add_walk s c.probability) (λ t. total_from n t cs)) (total_from n s cs)
 
 abbrev pub total_walk : View → ℕ → Result ℚ Operation
 total_walk v n = total_from n zero_ℚ v.scenarios
@@ -75,11 +66,6 @@ worth_step low high y s = end_step s y (used_end low high y)
 abbrev pub rows_from : (ℕ → ℚ) → ℚ → List NodeRow → Result ℚ Stop
 rows_from y s [] = Ok s
 rows_from y s (r ∷ rs) = then_walk (worth_step r.low r.high (y r.row) s) (λ t. rows_from y t rs)
-
--- s less, row by row, the entry of column j times the multiplier
-abbrev pub less_from : ℕ → (ℕ → ℚ) → ℚ → List NodeRow → Result ℚ Operation
-less_from j y s [] = Ok s
-less_from j y s (r ∷ rs) = then_walk (less_product_walk s (coefficient r.entries j) (y r.row)) (λ t. less_from j y t rs)
 
 -- s less the products of a node's rows, where the node is m or below it
 abbrev pub less_step : View → (ℕ → ℕ → ℚ) → ℕ → ℕ → ℚ → ℕ → Result ℚ Operation

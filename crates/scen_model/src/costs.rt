@@ -4,7 +4,8 @@ ghost use Rattle.rationals.specs.Rational.{zero_ℚ};
 ghost use Rattle.scen_defs.specs.Values.{at};
 ghost use Rattle.scen_defs.specs.Program.{content, scenarios_content, view_of};
 ghost use Rattle.scen_model.specs.Answers.{Answers};
-ghost use Rattle.scen_model.specs.Walks.{product_from, cost_step, costs_walk, cost_walk};
+ghost use Rattle.rationals.specs.Forms.{product_from};
+ghost use Rattle.scen_model.specs.Walks.{cost_step, costs_walk, cost_walk};
 ghost use Rattle.scen_model.specs.Gathered.{cost_step_with, costs_with};
 
 use crate::ends::number_at;

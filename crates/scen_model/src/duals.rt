@@ -5,7 +5,8 @@ ghost use Rattle.scen_defs.specs.Values.{at};
 ghost use Rattle.scen_defs.specs.Program.{content, view_of};
 ghost use Rattle.scen_defs.specs.Flat.{without_costs, is_above};
 ghost use Rattle.scen_model.specs.Answers.{AnswersOption};
-ghost use Rattle.scen_model.specs.Walks.{costs_of, less_from, less_all, reduced_walk};
+ghost use Rattle.scen_defs.specs.Walks.{less_from};
+ghost use Rattle.scen_model.specs.Walks.{costs_of, less_all, reduced_walk};
 ghost use Rattle.scen_model.specs.Walks.{bound_step, columns_step, all_columns, dual_by, dual_walk};
 
 use crate::charges::{Costs, cost_at};

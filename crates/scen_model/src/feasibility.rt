@@ -5,7 +5,8 @@ ghost use Rattle.scen_defs.specs.Values.{at};
 ghost use Rattle.scen_defs.specs.Flat.{along};
 ghost use Rattle.scen_defs.specs.Program.{content, view_of};
 ghost use Rattle.scen_model.specs.Answers.{AnswersTest};
-ghost use Rattle.scen_model.specs.Walks.{product_from, end_of, is_between, test, rows_test, all_rows_test};
+ghost use Rattle.rationals.specs.Forms.{product_from};
+ghost use Rattle.scen_model.specs.Walks.{end_of, is_between, test, rows_test, all_rows_test};
 ghost use Rattle.scen_model.specs.Walks.{bounds_test, all_bounds_test, meets_walk, feasible_walk, direction_walk};
 ghost use Rattle.scen_model.specs.Gathered.{falls_walk};
 

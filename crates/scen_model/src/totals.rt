@@ -5,7 +5,8 @@ ghost use Rattle.rationals.specs.Passes.{add_walk};
 ghost use Rattle.rationals.specs.Choices.{pick};
 ghost use Rattle.scen_defs.specs.Lists.{is_in};
 ghost use Rattle.scen_defs.specs.Program.{scenarios_content, content, view_of};
-ghost use Rattle.scen_model.specs.Walks.{total_from, totals_walk};
+ghost use Rattle.scen_defs.specs.Walks.{total_from};
+ghost use Rattle.scen_model.specs.Walks.{totals_walk};
 ghost use Rattle.scen_model.specs.Gathered.{Moves, everywhere, AreTotals};
 
 use crate::unfinished::Unfinished;

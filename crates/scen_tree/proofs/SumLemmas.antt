@@ -12,7 +12,7 @@ use Rattle.scen_tree.specs.declared.fault.TreeFault.{TreeFault}
 use Rattle.scen_tree.specs.declared.fault.TreeFault.TheVariants.{Passed}
 use Rattle.scen_defs.specs.Lists.{is_in}
 use Rattle.scen_defs.specs.Program.{Scenario}
-use Rattle.scen_model.specs.Walks.{total_from}
+use Rattle.scen_defs.specs.Walks.{total_from}
 use Rattle.scen_tree.specs.Chances.{Sum, gathered_from, TreeFaultOf}
 use Rattle.scen_tree.specs.Sums.{more, with_path, sums_through}
 

@@ -5,7 +5,7 @@ use Rattle.rationals.specs.Replies.Reply.{Says, Silent}
 use Rattle.rationals.specs.Rational.{ℚ, zero_ℚ, one_ℚ}
 use Rattle.rationals.specs.Passes.{Operation, div_walk, then_walk}
 use Rattle.scen_defs.specs.Program.{Scenario}
-use Rattle.scen_model.specs.Walks.{total_from}
+use Rattle.scen_defs.specs.Walks.{total_from}
 use Rattle.scen_tree.specs.declared.position.Position.{Position}
 use Rattle.scen_tree.specs.declared.position.Position.TheVariants.{Dropped, Root, Below}
 use Rattle.scen_tree.specs.declared.fault.TreeFault.{TreeFault}

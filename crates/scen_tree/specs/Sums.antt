@@ -5,7 +5,7 @@ use Rattle.rationals.specs.Passes.{add_walk, then_walk}
 use Rattle.rationals.specs.Choices.{pick}
 use Rattle.scen_defs.specs.Lists.{is_in}
 use Rattle.scen_defs.specs.Program.{Scenario}
-use Rattle.scen_model.specs.Walks.{total_from}
+use Rattle.scen_defs.specs.Walks.{total_from}
 use Rattle.scen_tree.specs.Chances.{Sum}
 
 -- a sum and a further probability

@@ -24,7 +24,7 @@ use Rattle.cut_defs.specs.Data.{Datum, BoundsRise, SharesRise, is_own}
 use Rattle.cut_defs.specs.Stored.{Source, Stored, StoredUses, source_of, constant_of, form_of, form_sum, constant_sum, slope_of}
 use Rattle.cut_defs.specs.Stored.{cost_of as datum_cost, reduced_of, weight_on, WeightsFit, IsEarlier}
 use Rattle.cut_defs.specs.Stored.StoredUses.{No_stored, Use_stored}
-use Rattle.node_lp.specs.declared.task.ChildCuts.{ChildCuts}
+use Rattle.cut_proof.specs.declared.child.ChildCuts.{ChildCuts}
 use Rattle.node_lp.specs.declared.task.Task.{Task}
 use Rattle.node_lp.specs.Places.{OfColumns}
 use Rattle.node_lp.specs.Problem.{held, PlacedCut, is_priced, taken_of, taken, problem_of, child_at, IsCut, IsOther, IsProblem}

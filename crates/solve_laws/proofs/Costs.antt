@@ -15,7 +15,7 @@ use Rattle.cut_defs.specs.declared.kinds.CutKind.{CutKind}
 use Rattle.cut_defs.specs.declared.kinds.CutKind.TheVariants.{Ray}
 use Rattle.cut_defs.specs.Data.{SharesRise, share_of}
 use Rattle.cut_defs.specs.Stored.{Stored, source_of, constant_of, form_of}
-use Rattle.node_lp.specs.declared.task.ChildCuts.{ChildCuts}
+use Rattle.cut_proof.specs.declared.child.ChildCuts.{ChildCuts}
 use Rattle.node_lp.specs.declared.task.Task.{Task}
 use Rattle.node_lp.specs.Problem.{held, PlacedCut, Problem, is_priced, is_taken, taken_of, taken, problem_of, child_at, IsProblem}
 use Rattle.node_lp.specs.Records.{form_at, shared_cost, place_cost, limit_of}

@@ -4,7 +4,7 @@ use Rattle.rationals.specs.Rational.{ℚ, zero_ℚ, ◌<ℚ◌}
 use Rattle.rationals.specs.Sparse.{Entry}
 use Rattle.scen_defs.specs.Lists.{Each}
 use Rattle.scen_defs.specs.Values.{At, at}
-use Rattle.scen_model.proofs.WalkEnds.{ended}
+use Rattle.rationals.proofs.WalkLaws.{ended}
 use Rattle.cut_defs.specs.declared.datum.Share.{Share}
 use Rattle.cut_defs.specs.declared.kinds.CutKind.TheVariants.{Bound}
 use Rattle.cut_defs.specs.Data.{Datum}
@@ -14,7 +14,7 @@ use Rattle.cut_sums.specs.Walks.{made}
 use Rattle.cut_proof.specs.Repairing.{snoc}
 use Rattle.cut_proof.proofs.MadeFrom.{made_parts}
 use Rattle.dual_assemble.specs.Ground.{quotients_from, uses_of_children, ground_source, ground_walk}
-use Rattle.node_lp.specs.declared.task.ChildCuts.{ChildCuts}
+use Rattle.cut_proof.specs.declared.child.ChildCuts.{ChildCuts}
 use Rattle.node_lp.specs.declared.task.Task.{Task}
 use Rattle.node_lp.specs.Problem.{IsProblem, problem_of}
 use Rattle.solve_laws.specs.Bounds.{StandsAmong, UsesAmong, IsBoundOf}

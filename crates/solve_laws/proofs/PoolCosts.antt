@@ -11,7 +11,7 @@ use Rattle.cut_defs.proofs.Present.{each_mapped}
 use Rattle.cut_pool.specs.Held.{Held}
 use Rattle.cut_banks.specs.Pools.{no_cuts, cuts_of, cuts_at, cuts_read}
 use Rattle.cut_banks.proofs.Places.{one_read}
-use Rattle.node_lp.specs.declared.task.ChildCuts.{ChildCuts}
+use Rattle.cut_proof.specs.declared.child.ChildCuts.{ChildCuts}
 use Rattle.node_lp.specs.declared.task.Task.{Task}
 use Rattle.node_lp.specs.Problem.{problem_of, IsProblem}
 use Rattle.node_lp.specs.Answers.{PointAnswer}

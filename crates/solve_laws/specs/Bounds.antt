@@ -6,7 +6,7 @@ use Rattle.rationals.specs.Sparse.{Entry, coefficient, product}
 use Rattle.cut_defs.specs.declared.kinds.CutKind.TheVariants.{Bound}
 use Rattle.cut_defs.specs.Stored.{Source, Stored, StoredUses, IsMadeFrom}
 use Rattle.cut_defs.specs.Stored.StoredUses.{No_stored, Use_stored}
-use Rattle.node_lp.specs.declared.task.ChildCuts.{ChildCuts}
+use Rattle.cut_proof.specs.declared.child.ChildCuts.{ChildCuts}
 use Rattle.node_lp.specs.declared.task.Task.{Task}
 use Rattle.node_lp.specs.Places.{OfColumns}
 use Rattle.node_lp.specs.Problem.{is_priced, IsProblem, problem_of}

@@ -11,7 +11,7 @@ use Rattle.cut_defs.specs.declared.kinds.CutKind.TheVariants.{Bound, Ray}
 use Rattle.cut_defs.specs.Stored.{Stored, source_of}
 use Rattle.cut_pool.specs.Held.{Held}
 use Rattle.cut_banks.specs.Pools.{cuts_of, cuts_read}
-use Rattle.node_lp.specs.declared.task.ChildCuts.{ChildCuts}
+use Rattle.cut_proof.specs.declared.child.ChildCuts.{ChildCuts}
 use Rattle.node_lp.specs.declared.task.Task.{Task}
 use Rattle.node_lp.specs.Problem.{is_priced, IsProblem, problem_of}
 use Rattle.node_lp.specs.Answers.{PointAnswer, value_at_trial}

@@ -13,7 +13,7 @@ use Rattle.cut_defs.specs.Stored.{Stored, StoredUses}
 use Rattle.cut_defs.specs.Stored.Stored.{Stored_of}
 use Rattle.cut_defs.specs.Stored.StoredUses.{No_stored, Use_stored}
 use Rattle.scen_defs.specs.Lists.{Each}
-use Rattle.scen_model.specs.Walks.{total_from}
+use Rattle.scen_defs.specs.Walks.{total_from}
 use Rattle.dual_assemble.specs.Walks.{form_at, padded, flat_from, flats_from}
 use Rattle.dual_assemble.specs.Values.{assembled}
 use Rattle.run_ends.specs.declared.last.Last.{Last}

@@ -1,6 +1,6 @@
 use Rattle.std.proofs.Common.{drop}
 use Rattle.rationals.specs.Sparse.{Ascending, coefficient}
-use Rattle.scen_model.specs.Walks.{less_from}
+use Rattle.scen_defs.specs.Walks.{less_from}
 use Rattle.cut_sums.proofs.TallyLaws.{Remains}
 use Rattle.cut_sums.proofs.gathered.take_rows.Given as goal
 

@@ -1,6 +1,6 @@
 use Rattle.std.proofs.Common.{◌≡◌, drop}
 use Rattle.rationals.specs.Sparse.{coefficient}
-use Rattle.scen_model.specs.Walks.{less_from}
+use Rattle.scen_defs.specs.Walks.{less_from}
 use Rattle.cut_sums.proofs.sums.less_rows.Given as goal
 
 abbrev pub invariant-loop-row : goal.invariant-loop-row

@@ -1,7 +1,7 @@
 use Rattle.std.proofs.Common.{◌≡◌, drop}
 use Rattle.rationals.specs.Rational.{zero_ℚ}
 use Rattle.scen_defs.specs.Values.{at}
-use Rattle.scen_model.specs.Walks.{product_from}
+use Rattle.rationals.specs.Forms.{product_from}
 use Rattle.scen_model.proofs.costs.node_cost.Given as goal
 
 abbrev pub invariant-loop-term : goal.invariant-loop-term

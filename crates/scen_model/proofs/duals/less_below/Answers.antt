@@ -4,7 +4,8 @@ use Rattle.rationals.specs.Choices.{pick}
 use Rattle.scen_defs.specs.Program.{content, view_of}
 use Rattle.scen_defs.specs.Flat.{is_above}
 use Rattle.scen_defs.specs.Values.{at}
-use Rattle.scen_model.specs.Walks.{fold_walk, less_from, less_step}
+use Rattle.scen_defs.specs.Walks.{less_from}
+use Rattle.scen_model.specs.Walks.{fold_walk, less_step}
 use Rattle.scen_model.proofs.NodeSteps.{live_from, next_live, stop_live, next_dead, rows_read}
 use Rattle.scen_model.proofs.duals.less_below.Goals as goal
 use Rattle.scen_model.proofs.duals.less_below.Goals.{in-Some+in_ok-rest, in_default}

@@ -1,6 +1,6 @@
 use Rattle.std.proofs.Common.{◌≡◌, drop}
 use Rattle.scen_defs.specs.Values.{at}
-use Rattle.scen_model.specs.Walks.{less_from}
+use Rattle.scen_defs.specs.Walks.{less_from}
 use Rattle.scen_model.proofs.duals.less_rows.Given as goal
 
 abbrev pub invariant-loop-row : goal.invariant-loop-row

@@ -3,7 +3,7 @@ use Rattle.rationals.specs.Rational.{zero_ℚ}
 use Rattle.scen_defs.specs.Values.{at}
 use Rattle.scen_defs.specs.Flat.{along}
 use Rattle.scen_defs.specs.Program.{content, view_of}
-use Rattle.scen_model.specs.Walks.{product_from}
+use Rattle.rationals.specs.Forms.{product_from}
 use Rattle.scen_model.proofs.feasibility.row_sum.Given as goal
 
 abbrev pub invariant-loop-term : goal.invariant-loop-term

@@ -3,7 +3,8 @@ use Rattle.std.specs.declared.alloc.Global.{Global}
 use Rattle.rationals.specs.Rational.{ℚ}
 use Rattle.scen_defs.specs.Program.{content, view_of}
 use Rattle.scen_defs.specs.Values.{at}
-use Rattle.scen_model.specs.Walks.{fold_walk, less_from, less_step}
+use Rattle.scen_defs.specs.Walks.{less_from}
+use Rattle.scen_model.specs.Walks.{fold_walk, less_step}
 use Rattle.scen_model.specs.Gathered.{lists_in, if_home, AllMove}
 use Rattle.scen_model.proofs.NodeSteps.{live_from, live_there, dead_there, rows_read}
 use Rattle.scen_model.proofs.Homes.{AllSame, all_next, node_moves}

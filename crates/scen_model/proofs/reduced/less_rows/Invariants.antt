@@ -1,7 +1,7 @@
 use Rattle.std.proofs.Common.{drop}
 use Rattle.scen_defs.specs.Values.{at}
 use Rattle.scen_defs.specs.Program.{content, view_of}
-use Rattle.scen_model.specs.Walks.{less_from}
+use Rattle.scen_defs.specs.Walks.{less_from}
 use Rattle.scen_model.specs.Gathered.{lists_in}
 use Rattle.scen_model.proofs.Homes.{AllSame, home_walk}
 use Rattle.scen_model.proofs.reduced.less_rows.Given as goal

@@ -1,6 +1,6 @@
 use Rattle.std.proofs.Common.{drop}
 use Rattle.scen_defs.specs.Program.{scenarios_content}
-use Rattle.scen_model.specs.Walks.{total_from}
+use Rattle.scen_defs.specs.Walks.{total_from}
 use Rattle.scen_model.specs.Gathered.{everywhere}
 use Rattle.scen_model.proofs.Gathers.{Same}
 use Rattle.scen_model.proofs.totals.add_paths.Given as goal

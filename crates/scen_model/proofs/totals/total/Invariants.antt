@@ -1,7 +1,7 @@
 use Rattle.std.proofs.Common.{◌≡◌, drop}
 use Rattle.rationals.specs.Rational.{zero_ℚ}
 use Rattle.scen_defs.specs.Program.{scenarios_content}
-use Rattle.scen_model.specs.Walks.{total_from}
+use Rattle.scen_defs.specs.Walks.{total_from}
 use Rattle.scen_model.proofs.totals.total.Given as goal
 
 abbrev pub invariant-loop-scenario : goal.invariant-loop-scenario

@@ -5,7 +5,7 @@ use Rattle.scen_defs.specs.Program.{scenarios_content}
 use Rattle.scen_tree.specs.declared.position.Position.TheVariants.{Dropped}
 use Rattle.scen_tree.specs.Chances.{live_sum, live_sums_from, gathered_from}
 use Rattle.scen_tree.specs.Sums.{sums_through}
-use Rattle.scen_model.specs.Walks.{total_from}
+use Rattle.scen_defs.specs.Walks.{total_from}
 use Rattle.scen_tree.proofs.SumLemmas.{passed, sums_at, sums_length, gathered_more, gathered_ends}
 use Rattle.scen_tree.proofs.totals.totals.Goals as goal
 use Rattle.scen_tree.proofs.totals.totals.Goals.{then-node-len+in_ok-total+in_ok-push, else-node-len}
