@@ -1,5 +1,5 @@
 -- What holds of fractions in lowest terms.
-use Rattle.std.proofs.Common.{◌≡◌, ℕ, ◌*◌, ◌/◌, ◌<◌, ◌≤◌, ◌^◌, refl, sym, ◌∙◌, ap, subst, arith, ℤ, pos, negsuc, Bool, true, false}
+use Rattle.std.proofs.Common.{◌≡◌, ℕ, ◌*◌, ◌/◌, ◌<◌, ◌≤◌, ◌^◌, refl, sym, ◌∙◌, ap, ap₂, subst, arith, ℤ, pos, negsuc, Bool, true, false}
 use lib.Signed.{lt_z}
 use mathlib.Core.Bool.{not, beq}
 use Rattle.std.specs.Prelude.{◌+ℤ◌, ◌*ℤ◌, int_div, unsigned_abs}
@@ -11,6 +11,7 @@ use lib.IntN.{+ℤ_comm, *ℤ-zero}
 use Rattle.std.specs.Int.{w128, w64}
 use Rattle.std.specs.Prelude.{FitsSigned}
 use mir.Val.{to_z, of_z}
+use mir.Facts.{to_z_pos}
 use Rattle.std.proofs.lemmas.Int.{to_z-of_z, fits_signed_from_abs}
 use Rattle.std.proofs.lemmas.Nat.{mul-le}
 use native.Mathlib.Nat.{lt_of_lt_of_le, le_of_lt, lt_of_le_of_lt, div-le_self, mul-div_assoc, dvd-mul_right, div-mul_cancel, mul-pos, le-div_iff_mul-le, dvd-mul_left_of_dvd, eq-one_of_dvd-one, mul_comm, mul-one, mul-div_cancel}
@@ -285,6 +286,63 @@ pub small_product_passed : (a b : ℤ) → unsigned_abs a < 2 ^ 63 → unsigned_
 small_product_passed a b p q =
     let wide : 2 ^ 63 ≤ 2 ^ 127 = lit≤ tt in
     rw (passed a (lt_of_lt_of_le p wide), passed b (lt_of_lt_of_le q wide)) (passed (a *ℤ b) (small_product a b p q))
+
+pub small_product_fits : (a b : ℤ) → unsigned_abs a < 2 ^ 63 → unsigned_abs b < 2 ^ 63 → FitsSigned w128 (to_z w128 (of_z w128 a) *ℤ to_z w128 (of_z w128 b))
+small_product_fits a b p q =
+    let wide : 2 ^ 63 ≤ 2 ^ 127 = lit≤ tt in
+    rw (passed a (lt_of_lt_of_le p wide), passed b (lt_of_lt_of_le q wide)) (fits_signed_from_abs w128 (a *ℤ b) (small_product a b p q))
+
+-- a number of 128 bits whose size is read
+pub size_read : (a : ℤ) (n : ℕ) → FitsSigned w128 a → n ≡ unsigned_abs (to_z w128 (of_z w128 a)) → unsigned_abs a ≡ n
+size_read a n f e = sym (e ∙ ap unsigned_abs (to_z-of_z w128 a f))
+
+-- a product with a number that has no sign
+small_times : (a : ℤ) (b : ℕ) → unsigned_abs a ≤ 2 ^ 63 → b < 2 ^ 63 → unsigned_abs (a *ℤ pos b) < 2 ^ 127
+small_times a b p q =
+    let le : unsigned_abs a * b ≤ 2 ^ 63 * 2 ^ 63 = mul-le (unsigned_abs a) b (2 ^ 63) (2 ^ 63) p (le_of_lt q) in
+    rw (abs-times a b) (lt_of_le_of_lt le (lit< tt))
+
+times_read : (a : ℤ) (b : ℕ) → unsigned_abs a ≤ 2 ^ 63 → b < 2 ^ 63 → to_z w128 (of_z w128 a) *ℤ to_z w128 b ≡ a *ℤ pos b
+times_read a b p q =
+    ap₂ (λ x y. x *ℤ y) (passed a (lt_of_le_of_lt p (lit< tt))) (to_z_pos w128 (lt_of_lt_of_le q (lit≤ tt)))
+
+pub times_fits : (a : ℤ) (b : ℕ) → unsigned_abs a ≤ 2 ^ 63 → b < 2 ^ 63 → FitsSigned w128 (to_z w128 (of_z w128 a) *ℤ to_z w128 b)
+times_fits a b p q = rw (times_read a b p q) (fits_signed_from_abs w128 (a *ℤ pos b) (small_times a b p q))
+
+pub times_passed : (a : ℤ) (b : ℕ) → unsigned_abs a ≤ 2 ^ 63 → b < 2 ^ 63
+    → (unsigned_abs (a *ℤ pos b) < 2 ^ 127) × (to_z w128 (of_z w128 (to_z w128 (of_z w128 a) *ℤ to_z w128 b)) ≡ a *ℤ pos b)
+times_passed a b p q = (small_times a b p q, rw (times_read a b p q) (passed (a *ℤ pos b) (small_times a b p q)))
+
+-- ---- what a checked operation of 128 bits gives
+
+pub product_read : (a b : ℤ) → FitsSigned w128 a → FitsSigned w128 b → to_z w128 (of_z w128 a) *ℤ to_z w128 (of_z w128 b) ≡ a *ℤ b
+product_read a b f g = ap₂ (λ x y. x *ℤ y) (to_z-of_z w128 a f) (to_z-of_z w128 b g)
+
+pub multiple_read : (a : ℤ) (b : ℕ) → FitsSigned w128 a → b < 2 ^ 127 → to_z w128 (of_z w128 a) *ℤ to_z w128 b ≡ a *ℤ pos b
+multiple_read a b f h = ap₂ (λ x y. x *ℤ y) (to_z-of_z w128 a f) (to_z_pos w128 h)
+
+pub sum_read : (a b : ℤ) → FitsSigned w128 a → FitsSigned w128 b → to_z w128 (of_z w128 a) +ℤ to_z w128 (of_z w128 b) ≡ a +ℤ b
+sum_read a b f g = ap₂ (λ x y. x +ℤ y) (to_z-of_z w128 a f) (to_z-of_z w128 b g)
+
+size_kept : (x : ℤ) → FitsSigned w128 x → (of_z w128 x ≡ 2 ^ 127 → ⊥) → unsigned_abs x < 2 ^ 127
+size_kept (pos n) f n' = f.sfits
+size_kept (negsuc n) f n' = omega (arith, f.sfits)
+
+-- x is what was computed, of the value y, and z what was given: all but the least number
+pub value_kept : (x y z : ℤ) → x ≡ y → FitsSigned w128 x × (z ≡ x) → (of_z w128 z ≡ 2 ^ 127 → ⊥) → (unsigned_abs y < 2 ^ 127) × (to_z w128 (of_z w128 z) ≡ y)
+value_kept x y z e (f, q) n =
+    let fits : FitsSigned w128 z = rw q f in
+    (rw (← e, ← q) (size_kept z fits n), to_z-of_z w128 z fits ∙ q ∙ e)
+
+size_of_least : (x : ℤ) → of_z w128 x ≡ 2 ^ 127 → unsigned_abs x < 2 ^ 127 → ⊥
+size_of_least (pos n) q h = omega arith
+size_of_least (negsuc n) q h = omega arith
+
+pub least_passes : (x y z : ℤ) → x ≡ y → FitsSigned w128 x × (z ≡ x) → of_z w128 z ≡ 2 ^ 127 → unsigned_abs y < 2 ^ 127 → ⊥
+least_passes x y z e (f, q) l h = size_of_least z l (rw (q, e) h)
+
+pub value_passes : (x y : ℤ) → x ≡ y → (FitsSigned w128 x → ⊥) → unsigned_abs y < 2 ^ 127 → ⊥
+value_passes x y e n h = n (rw e (fits_signed_from_abs w128 y h))
 
 -- ---- integers
 
