@@ -1,5 +1,5 @@
 -- What holds of fractions in lowest terms.
-use Rattle.std.proofs.Common.{◌≡◌, ℕ, ◌*◌, ◌/◌, ◌<◌, ◌≤◌, ◌^◌, refl, sym, ◌∙◌, ap, ap₂, subst, arith, ℤ, pos, negsuc, Bool, true, false}
+use Rattle.std.proofs.Common.{◌≡◌, ℕ, ◌+◌, ◌*◌, ◌/◌, ◌<◌, ◌≤◌, ◌^◌, refl, sym, ◌∙◌, ap, ap₂, subst, arith, ℤ, pos, negsuc, Bool, true, false}
 use lib.Signed.{lt_z}
 use mathlib.Core.Bool.{not, beq}
 use Rattle.std.specs.Prelude.{◌+ℤ◌, ◌*ℤ◌, int_div, unsigned_abs}
@@ -36,6 +36,17 @@ lowest_is n d k h e =
 pub abs-signed : (t : Bool) (n : ℕ) → unsigned_abs (signed t n) ≡ n
 abs-signed true n = abs-neg (pos n)
 abs-signed false n = refl
+
+signed-plus : (t : Bool) (n m : ℕ) → signed t n +ℤ signed t m ≡ signed t (n + m)
+signed-plus true n m = omega (arith, ints)
+signed-plus false n m = omega (arith, ints)
+
+-- two numbers of one sign
+pub sum_is : (s t : Bool) (n m k : ℕ) → s ≡ t → k ≡ n + m → signed s k ≡ signed s n +ℤ signed t m
+sum_is s t n m k e q = ap (signed s) q ∙ sym (signed-plus s n m) ∙ ap (λ u. signed s n +ℤ signed u m) e
+
+pub sum_above : (s t : Bool) (n m l : ℕ) → s ≡ t → l ≤ n + m → l ≤ unsigned_abs (signed s n +ℤ signed t m)
+sum_above s t n m l e h = rw (sym (sum_is s t n m (n + m) e refl), abs-signed s (n + m)) h
 
 pub div-signed : (t : Bool) (n k : ℕ) → int_div (signed t n) (pos k) ≡ signed t (n / k)
 div-signed true n k = div-neg n k
