@@ -9,12 +9,12 @@ use Rattle.std.proofs.Common.{add-one, lit<, lit≤}
 use Rattle.std.proofs.lemmas.Bool.{le-ltb}
 use lib.IntN.{+ℤ_comm, *ℤ-zero}
 use Rattle.std.specs.Int.{w128, w64}
-use Rattle.std.specs.Prelude.{FitsSigned}
+use Rattle.std.specs.Prelude.{FitsSigned, Result, Ok, Err, OkIff, IfOk}
 use mir.Val.{to_z, of_z}
 use mir.Facts.{to_z_pos}
 use Rattle.std.proofs.lemmas.Int.{to_z-of_z, fits_signed_from_abs}
 use Rattle.std.proofs.lemmas.Nat.{mul-le}
-use native.Mathlib.Nat.{lt_of_lt_of_le, le_of_lt, lt_of_le_of_lt, div-le_self, mul-div_assoc, dvd-mul_right, div-mul_cancel, mul-pos, le-div_iff_mul-le, dvd-mul_left_of_dvd, eq-one_of_dvd-one, mul_comm, mul-one, mul-div_cancel}
+use native.Mathlib.Nat.{lt_of_lt_of_le, le_of_lt, lt_of_le_of_lt, div-le_self, mul-div_assoc, dvd-mul_right, div-mul_cancel, mul-pos, zero-mul, le-div_iff_mul-le, dvd-mul_left_of_dvd, eq-one_of_dvd-one, mul_comm, mul-one, mul-div_cancel}
 use Rattle.rationals.specs.Gcd.{gcd}
 use Rattle.ratio128.specs.Ratio.{Ratio, lowest, signed, quotient, sum_of, product_of, IsFrac, IsLowest, Fits}
 use Rattle.rationals.proofs.GcdLemmas.{gcd-one, coprime-mul_right, coprime_from_dvd, coprime_from_dvd_right, gcd_comm, gcd-mul, gcd_pos, gcd_le_right, gcd_le_left, coprime-div, gcd-is, coprime-mul}
@@ -47,6 +47,18 @@ sum_is s t n m k e q = ap (signed s) q ∙ sym (signed-plus s n m) ∙ ap (λ u.
 
 pub sum_above : (s t : Bool) (n m l : ℕ) → s ≡ t → l ≤ n + m → l ≤ unsigned_abs (signed s n +ℤ signed t m)
 sum_above s t n m l e h = rw (sym (sum_is s t n m (n + m) e refl), abs-signed s (n + m)) h
+
+signed-times : (t : Bool) (n m : ℕ) → signed t n *ℤ pos m ≡ signed t (n * m)
+signed-times true zero m = rw (zero-mul m) refl
+signed-times true (suc n) m = refl
+signed-times false n m = refl
+
+-- a multiple of a number of one sign
+pub multiple_is : (t : Bool) (n m k : ℕ) → k ≡ n * m → signed t k ≡ signed t n *ℤ pos m
+multiple_is t n m k q = ap (signed t) q ∙ sym (signed-times t n m)
+
+pub multiple_above : (t : Bool) (n m l : ℕ) → l ≤ n * m → l ≤ unsigned_abs (signed t n *ℤ pos m)
+multiple_above t n m l h = rw (signed-times t n m, abs-signed t (n * m)) h
 
 pub div-signed : (t : Bool) (n k : ℕ) → int_div (signed t n) (pos k) ≡ signed t (n / k)
 div-signed true n k = div-neg n k
@@ -354,6 +366,13 @@ least_passes x y z e (f, q) l h = size_of_least z l (rw (q, e) h)
 
 pub value_passes : (x y : ℤ) → x ≡ y → (FitsSigned w128 x → ⊥) → unsigned_abs y < 2 ^ 127 → ⊥
 value_passes x y e n h = n (rw e (fits_signed_from_abs w128 y h))
+
+pub product_kept : (a l : ℤ) (b : ℕ) → FitsSigned w128 a → (unsigned_abs (to_z w128 (of_z w128 a) *ℤ pos b) < 2 ^ 127) × (l ≡ to_z w128 (of_z w128 a) *ℤ pos b) → to_z w128 (of_z w128 l) ≡ a *ℤ pos b
+product_kept a l b f (p, q) = passed l (rw q p) ∙ q ∙ ap (λ x. x *ℤ pos b) (to_z-of_z w128 a f)
+
+pub sum_kept : {E : Type 0} (t : Result ℤ E) (s w : ℤ) → s ≡ w → OkIff t (unsigned_abs s < 2 ^ 127) s → IfOk t (λ v. (unsigned_abs v < 2 ^ 127) × (v ≡ w))
+sum_kept (Ok v) s w e (p, q) = (rw q p, q ∙ e)
+sum_kept (Err x) s w e n = tt
 
 -- ---- integers
 
