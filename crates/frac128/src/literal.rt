@@ -1,6 +1,8 @@
 // The parts of a number's text: sign, exponent, decimal digits, fraction.
 ghost use Rattle.std.specs.Prelude.{◌≡◌, pos, true, ◌≢◌, ◌<◌, ◌≤◌, ◌-◌, ◌*◌, ◌+◌, ◌^◌, ◌%◌};
-ghost use Rattle.std.specs.Prelude.{length, ◌+ℤ◌, neg_ℤ};
+ghost use Rattle.std.specs.Prelude.{length, ◌+ℤ◌, neg_ℤ, Some, None};
+ghost use Rattle.rationals.specs.Choices.{pick};
+ghost use Rattle.ratio128.specs.Ratio.{signed};
 ghost use Rattle.frac128.specs.Numbers.{number, is_negative, after_sign, is_short, exponent, power_value, decimal_literal};
 ghost use Rattle.frac128.specs.Numbers.{fraction_literal, literal_value};
 ghost use Rattle.frac128.specs.Significand.{AllDigits};
@@ -46,20 +48,25 @@ fn short_number(text: &[u8]) -> i32
     }
 }
 
+/// An exponent behind its letter: a sign or none, and one to four digits.
+fn signed_number(text: &[u8]) -> Option<i32>
+    ensures { result ≡ pick (is_short (after_sign text.now)) (Some (signed (is_negative text.now) (number (after_sign text.now)))) None }
+{
+    let size = without_sign(text);
+    if !is_short_number(size) {
+        return None;
+    }
+    let n = short_number(size);
+    Some(if begins_with_minus(text) { -n } else { n })
+}
+
 /// The exponent that a text is, 0 where there is none.
 fn read_exponent(text: &[u8]) -> Option<i32>
     ensures { result ≡ exponent text.now }
 {
     match text {
         [] => Some(0),
-        [b'E' | b'e' | b'D' | b'd', rest @ ..] => {
-            let size = without_sign(rest);
-            if !is_short_number(size) {
-                return None;
-            }
-            let n = short_number(size);
-            Some(if begins_with_minus(rest) { -n } else { n })
-        }
+        [b'E' | b'e' | b'D' | b'd', rest @ ..] => signed_number(rest),
         _ => None,
     }
 }

@@ -1,5 +1,5 @@
 -- What holds of fractions in lowest terms.
-use Rattle.std.proofs.Common.{◌≡◌, ℕ, ◌*◌, ◌/◌, ◌<◌, ◌≤◌, ◌^◌, refl, sym, ◌∙◌, ap, subst, arith, ℤ, pos, negsuc, Bool, true, false}
+use Rattle.std.proofs.Common.{◌≡◌, ℕ, ◌+◌, ◌*◌, ◌/◌, ◌<◌, ◌≤◌, ◌^◌, refl, sym, ◌∙◌, ap, ap₂, subst, arith, ℤ, pos, negsuc, Bool, true, false}
 use lib.Signed.{lt_z}
 use mathlib.Core.Bool.{not, beq}
 use Rattle.std.specs.Prelude.{◌+ℤ◌, ◌*ℤ◌, int_div, unsigned_abs}
@@ -9,11 +9,12 @@ use Rattle.std.proofs.Common.{add-one, lit<, lit≤}
 use Rattle.std.proofs.lemmas.Bool.{le-ltb}
 use lib.IntN.{+ℤ_comm, *ℤ-zero}
 use Rattle.std.specs.Int.{w128, w64}
-use Rattle.std.specs.Prelude.{FitsSigned}
+use Rattle.std.specs.Prelude.{FitsSigned, Result, Ok, Err, OkIff, IfOk}
 use mir.Val.{to_z, of_z}
+use mir.Facts.{to_z_pos}
 use Rattle.std.proofs.lemmas.Int.{to_z-of_z, fits_signed_from_abs}
 use Rattle.std.proofs.lemmas.Nat.{mul-le}
-use native.Mathlib.Nat.{lt_of_lt_of_le, le_of_lt, lt_of_le_of_lt, div-le_self, mul-div_assoc, dvd-mul_right, div-mul_cancel, mul-pos, le-div_iff_mul-le, dvd-mul_left_of_dvd, eq-one_of_dvd-one, mul_comm, mul-one, mul-div_cancel}
+use native.Mathlib.Nat.{lt_of_lt_of_le, le_of_lt, lt_of_le_of_lt, div-le_self, mul-div_assoc, dvd-mul_right, div-mul_cancel, mul-pos, zero-mul, le-div_iff_mul-le, dvd-mul_left_of_dvd, eq-one_of_dvd-one, mul_comm, mul-one, mul-div_cancel}
 use Rattle.rationals.specs.Gcd.{gcd}
 use Rattle.ratio128.specs.Ratio.{Ratio, lowest, signed, quotient, sum_of, product_of, IsFrac, IsLowest, Fits}
 use Rattle.rationals.proofs.GcdLemmas.{gcd-one, coprime-mul_right, coprime_from_dvd, coprime_from_dvd_right, gcd_comm, gcd-mul, gcd_pos, gcd_le_right, gcd_le_left, coprime-div, gcd-is, coprime-mul}
@@ -35,6 +36,29 @@ lowest_is n d k h e =
 pub abs-signed : (t : Bool) (n : ℕ) → unsigned_abs (signed t n) ≡ n
 abs-signed true n = abs-neg (pos n)
 abs-signed false n = refl
+
+signed-plus : (t : Bool) (n m : ℕ) → signed t n +ℤ signed t m ≡ signed t (n + m)
+signed-plus true n m = omega (arith, ints)
+signed-plus false n m = omega (arith, ints)
+
+-- two numbers of one sign
+pub sum_is : (s t : Bool) (n m k : ℕ) → s ≡ t → k ≡ n + m → signed s k ≡ signed s n +ℤ signed t m
+sum_is s t n m k e q = ap (signed s) q ∙ sym (signed-plus s n m) ∙ ap (λ u. signed s n +ℤ signed u m) e
+
+pub sum_above : (s t : Bool) (n m l : ℕ) → s ≡ t → l ≤ n + m → l ≤ unsigned_abs (signed s n +ℤ signed t m)
+sum_above s t n m l e h = rw (sym (sum_is s t n m (n + m) e refl), abs-signed s (n + m)) h
+
+signed-times : (t : Bool) (n m : ℕ) → signed t n *ℤ pos m ≡ signed t (n * m)
+signed-times true zero m = rw (zero-mul m) refl
+signed-times true (suc n) m = refl
+signed-times false n m = refl
+
+-- a multiple of a number of one sign
+pub multiple_is : (t : Bool) (n m k : ℕ) → k ≡ n * m → signed t k ≡ signed t n *ℤ pos m
+multiple_is t n m k q = ap (signed t) q ∙ sym (signed-times t n m)
+
+pub multiple_above : (t : Bool) (n m l : ℕ) → l ≤ n * m → l ≤ unsigned_abs (signed t n *ℤ pos m)
+multiple_above t n m l h = rw (signed-times t n m, abs-signed t (n * m)) h
 
 pub div-signed : (t : Bool) (n k : ℕ) → int_div (signed t n) (pos k) ≡ signed t (n / k)
 div-signed true n k = div-neg n k
@@ -285,6 +309,70 @@ pub small_product_passed : (a b : ℤ) → unsigned_abs a < 2 ^ 63 → unsigned_
 small_product_passed a b p q =
     let wide : 2 ^ 63 ≤ 2 ^ 127 = lit≤ tt in
     rw (passed a (lt_of_lt_of_le p wide), passed b (lt_of_lt_of_le q wide)) (passed (a *ℤ b) (small_product a b p q))
+
+pub small_product_fits : (a b : ℤ) → unsigned_abs a < 2 ^ 63 → unsigned_abs b < 2 ^ 63 → FitsSigned w128 (to_z w128 (of_z w128 a) *ℤ to_z w128 (of_z w128 b))
+small_product_fits a b p q =
+    let wide : 2 ^ 63 ≤ 2 ^ 127 = lit≤ tt in
+    rw (passed a (lt_of_lt_of_le p wide), passed b (lt_of_lt_of_le q wide)) (fits_signed_from_abs w128 (a *ℤ b) (small_product a b p q))
+
+-- a number of 128 bits whose size is read
+pub size_read : (a : ℤ) (n : ℕ) → FitsSigned w128 a → n ≡ unsigned_abs (to_z w128 (of_z w128 a)) → unsigned_abs a ≡ n
+size_read a n f e = sym (e ∙ ap unsigned_abs (to_z-of_z w128 a f))
+
+-- a product with a number that has no sign
+small_times : (a : ℤ) (b : ℕ) → unsigned_abs a ≤ 2 ^ 63 → b < 2 ^ 63 → unsigned_abs (a *ℤ pos b) < 2 ^ 127
+small_times a b p q =
+    let le : unsigned_abs a * b ≤ 2 ^ 63 * 2 ^ 63 = mul-le (unsigned_abs a) b (2 ^ 63) (2 ^ 63) p (le_of_lt q) in
+    rw (abs-times a b) (lt_of_le_of_lt le (lit< tt))
+
+times_read : (a : ℤ) (b : ℕ) → unsigned_abs a ≤ 2 ^ 63 → b < 2 ^ 63 → to_z w128 (of_z w128 a) *ℤ to_z w128 b ≡ a *ℤ pos b
+times_read a b p q =
+    ap₂ (λ x y. x *ℤ y) (passed a (lt_of_le_of_lt p (lit< tt))) (to_z_pos w128 (lt_of_lt_of_le q (lit≤ tt)))
+
+pub times_fits : (a : ℤ) (b : ℕ) → unsigned_abs a ≤ 2 ^ 63 → b < 2 ^ 63 → FitsSigned w128 (to_z w128 (of_z w128 a) *ℤ to_z w128 b)
+times_fits a b p q = rw (times_read a b p q) (fits_signed_from_abs w128 (a *ℤ pos b) (small_times a b p q))
+
+pub times_passed : (a : ℤ) (b : ℕ) → unsigned_abs a ≤ 2 ^ 63 → b < 2 ^ 63
+    → (unsigned_abs (a *ℤ pos b) < 2 ^ 127) × (to_z w128 (of_z w128 (to_z w128 (of_z w128 a) *ℤ to_z w128 b)) ≡ a *ℤ pos b)
+times_passed a b p q = (small_times a b p q, rw (times_read a b p q) (passed (a *ℤ pos b) (small_times a b p q)))
+
+-- ---- what a checked operation of 128 bits gives
+
+pub product_read : (a b : ℤ) → FitsSigned w128 a → FitsSigned w128 b → to_z w128 (of_z w128 a) *ℤ to_z w128 (of_z w128 b) ≡ a *ℤ b
+product_read a b f g = ap₂ (λ x y. x *ℤ y) (to_z-of_z w128 a f) (to_z-of_z w128 b g)
+
+pub multiple_read : (a : ℤ) (b : ℕ) → FitsSigned w128 a → b < 2 ^ 127 → to_z w128 (of_z w128 a) *ℤ to_z w128 b ≡ a *ℤ pos b
+multiple_read a b f h = ap₂ (λ x y. x *ℤ y) (to_z-of_z w128 a f) (to_z_pos w128 h)
+
+pub sum_read : (a b : ℤ) → FitsSigned w128 a → FitsSigned w128 b → to_z w128 (of_z w128 a) +ℤ to_z w128 (of_z w128 b) ≡ a +ℤ b
+sum_read a b f g = ap₂ (λ x y. x +ℤ y) (to_z-of_z w128 a f) (to_z-of_z w128 b g)
+
+size_kept : (x : ℤ) → FitsSigned w128 x → (of_z w128 x ≡ 2 ^ 127 → ⊥) → unsigned_abs x < 2 ^ 127
+size_kept (pos n) f n' = f.sfits
+size_kept (negsuc n) f n' = omega (arith, f.sfits)
+
+-- x is what was computed, of the value y, and z what was given: all but the least number
+pub value_kept : (x y z : ℤ) → x ≡ y → FitsSigned w128 x × (z ≡ x) → (of_z w128 z ≡ 2 ^ 127 → ⊥) → (unsigned_abs y < 2 ^ 127) × (to_z w128 (of_z w128 z) ≡ y)
+value_kept x y z e (f, q) n =
+    let fits : FitsSigned w128 z = rw q f in
+    (rw (← e, ← q) (size_kept z fits n), to_z-of_z w128 z fits ∙ q ∙ e)
+
+size_of_least : (x : ℤ) → of_z w128 x ≡ 2 ^ 127 → unsigned_abs x < 2 ^ 127 → ⊥
+size_of_least (pos n) q h = omega arith
+size_of_least (negsuc n) q h = omega arith
+
+pub least_passes : (x y z : ℤ) → x ≡ y → FitsSigned w128 x × (z ≡ x) → of_z w128 z ≡ 2 ^ 127 → unsigned_abs y < 2 ^ 127 → ⊥
+least_passes x y z e (f, q) l h = size_of_least z l (rw (q, e) h)
+
+pub value_passes : (x y : ℤ) → x ≡ y → (FitsSigned w128 x → ⊥) → unsigned_abs y < 2 ^ 127 → ⊥
+value_passes x y e n h = n (rw e (fits_signed_from_abs w128 y h))
+
+pub product_kept : (a l : ℤ) (b : ℕ) → FitsSigned w128 a → (unsigned_abs (to_z w128 (of_z w128 a) *ℤ pos b) < 2 ^ 127) × (l ≡ to_z w128 (of_z w128 a) *ℤ pos b) → to_z w128 (of_z w128 l) ≡ a *ℤ pos b
+product_kept a l b f (p, q) = passed l (rw q p) ∙ q ∙ ap (λ x. x *ℤ pos b) (to_z-of_z w128 a f)
+
+pub sum_kept : {E : Type 0} (t : Result ℤ E) (s w : ℤ) → s ≡ w → OkIff t (unsigned_abs s < 2 ^ 127) s → IfOk t (λ v. (unsigned_abs v < 2 ^ 127) × (v ≡ w))
+sum_kept (Ok v) s w e (p, q) = (rw q p, q ∙ e)
+sum_kept (Err x) s w e n = tt
 
 -- ---- integers
 

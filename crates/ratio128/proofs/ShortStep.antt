@@ -1,8 +1,8 @@
 -- A whole number and a product of two, added, all three below 2 ^ 63 in size.
 use Rattle.std.proofs.Common.{◌≡◌, ℕ, ◌+◌, ◌<◌, ◌≤◌, ◌^◌, sym, ◌∙◌, ap, ap₂, arith, lit≤, ℤ, to_z, of_z}
-use Rattle.std.specs.Prelude.{◌+ℤ◌, ◌*ℤ◌, unsigned_abs}
+use Rattle.std.specs.Prelude.{◌+ℤ◌, ◌*ℤ◌, unsigned_abs, FitsSigned}
 use Rattle.std.specs.Int.{w128}
-use Rattle.std.proofs.lemmas.Int.{ints, unsigned_abs-mul}
+use Rattle.std.proofs.lemmas.Int.{ints, unsigned_abs-mul, fits_signed_from_abs}
 use Rattle.std.proofs.lemmas.Nat.{mul-le}
 use native.Mathlib.Nat.{lt_of_lt_of_le, le_of_lt, le_trans}
 use Rattle.ratio128.specs.Ratio.{Ratio, IsFrac, IsShort, sum_of, product_of}
@@ -22,6 +22,10 @@ step_small a b c p q r = lt_of_lt_of_le (size_below a (b *ℤ c) (2 ^ 63) (2 ^ 1
 pub step_passed : (a b c : ℤ) → unsigned_abs a < 2 ^ 63 → unsigned_abs b < 2 ^ 63 → unsigned_abs c < 2 ^ 63
     → to_z w128 (of_z w128 (to_z w128 (of_z w128 a) +ℤ to_z w128 (of_z w128 (to_z w128 (of_z w128 b) *ℤ to_z w128 (of_z w128 c))))) ≡ a +ℤ b *ℤ c
 step_passed a b c p q r = rw (small_product_passed b c q r, passed a (lt_of_lt_of_le p (lit≤ tt))) (passed (a +ℤ b *ℤ c) (step_small a b c p q r))
+
+pub step_fits : (a b c : ℤ) → unsigned_abs a < 2 ^ 63 → unsigned_abs b < 2 ^ 63 → unsigned_abs c < 2 ^ 63
+    → FitsSigned w128 (to_z w128 (of_z w128 a) +ℤ to_z w128 (of_z w128 (to_z w128 (of_z w128 b) *ℤ to_z w128 (of_z w128 c))))
+step_fits a b c p q r = rw (small_product_passed b c q r, passed a (lt_of_lt_of_le p (lit≤ tt))) (fits_signed_from_abs w128 (a +ℤ b *ℤ c) (step_small a b c p q r))
 
 pub step_frac : (a b c : ℤ) → unsigned_abs a < 2 ^ 63 → unsigned_abs b < 2 ^ 63 → unsigned_abs c < 2 ^ 63 → IsFrac (a +ℤ b *ℤ c) 1
 step_frac a b c p q r = frac_whole (a +ℤ b *ℤ c) (step_small a b c p q r)

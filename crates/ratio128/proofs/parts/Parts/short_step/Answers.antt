@@ -1,5 +1,19 @@
-use Rattle.ratio128.proofs.ShortStep.{step_passed, step_frac, step_is}
+use Rattle.ratio128.proofs.RatioLemmas.{small_product_fits}
+use Rattle.ratio128.proofs.ShortStep.{step_passed, step_fits, step_frac, step_is}
 use Rattle.ratio128.proofs.parts.Parts.short_step.Goals as goal
+
+pub overflow_mul-result : goal.overflow_mul-result
+overflow_mul-result c =
+    let q = rw (← c.factor.view_is) at c.requires.factor in
+    let r = rw (← c.times.view_is) at c.requires.times in
+    small_product_fits c.factor.inside.num c.times.inside.num q.size r.size
+
+pub overflow_add-result : goal.overflow_add-result
+overflow_add-result c =
+    let p = rw (← c.self.view_is) at c.requires.from in
+    let q = rw (← c.factor.view_is) at c.requires.factor in
+    let r = rw (← c.times.view_is) at c.requires.times in
+    step_fits c.self.inside.num c.factor.inside.num c.times.inside.num p.size q.size r.size
 
 pub invariant_of-result : goal.invariant_of-result
 invariant_of-result c =
