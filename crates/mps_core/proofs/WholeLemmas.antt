@@ -1,6 +1,5 @@
 -- The constraints and the columns of what is filed.
-use Rattle.std.proofs.Common.{◌≡◌, ◌+◌, ◌<◌, ◌∙◌, ap, ℕ, suc, List, [], ◌∷◌, Option, length, get_or, drop, refl, arith}
-use Rattle.rationals.specs.Rational.{ℚ}
+use Rattle.std.proofs.Common.{◌≡◌, ◌+◌, ◌<◌, ◌∙◌, ap, ℕ, suc, List, [], ◌∷◌, length, get_or, drop, refl, arith}
 use Rattle.core_defs.specs.declared.parts.ColumnPart.{ColumnPart}
 use Rattle.core_defs.specs.Filed.{Filed, nothing_filed}
 use Rattle.core_defs.specs.Finished.{row_defs, column_defs}
@@ -15,10 +14,9 @@ columns_by f g names bounds place [] = refl
 columns_by f g names bounds place (part ∷ parts) = rw (names, bounds, columns_by f g names bounds (place + 1) parts) refl
 
 -- closing the last column changes neither the constraints
-pub same_row_defs : (f d : Filed) (parts : List ColumnPart) (values : List (Option ℚ)) → d ≡ record f { parts = d.parts; costs = d.costs; terms = d.terms } →
-    row_defs (record d { parts = parts; free_rhs = values }) 0 d.rows ≡ row_defs f 0 f.rows
-same_row_defs f d parts values rest =
-    rows_by (record d { parts = parts; free_rhs = values }) f (ap (λ (g : Filed). g.kinds) rest) (ap (λ (g : Filed). g.rhs) rest) (ap (λ (g : Filed). g.ranges) rest) 0 d.rows ∙ ap (λ (g : Filed). row_defs f 0 g.rows) rest
+pub same_row_defs : (f d : Filed) → d ≡ record f { parts = d.parts; costs = d.costs; terms = d.terms; free_rhs = d.free_rhs } → row_defs d 0 d.rows ≡ row_defs f 0 f.rows
+same_row_defs f d rest =
+    rows_by d f (ap (λ (g : Filed). g.kinds) rest) (ap (λ (g : Filed). g.rhs) rest) (ap (λ (g : Filed). g.ranges) rest) 0 d.rows ∙ ap (λ (g : Filed). row_defs f 0 g.rows) rest
 
 -- nor the columns' names and bounds
 pub same_column_defs : (f d : Filed) → d ≡ record f { parts = d.parts; costs = d.costs; terms = d.terms } → (parts : List ColumnPart) → column_defs (record nothing_filed { names = d.names; bounds = d.bounds }) 0 parts ≡ column_defs f 0 parts
@@ -36,4 +34,4 @@ pub split_first : (names : List (List ℕ)) → 0 < length names → names ≡ g
 split_first [] some = absurd (omega arith)
 split_first (name ∷ names) some = refl
 
-pub ruleset core_lemmas = (same_row_defs, same_column_defs, row_names_are, row_count, column_count, split_first)
+pub ruleset core_lemmas = (same_row_defs, row_names_are, row_count, column_count, split_first)

@@ -15,7 +15,8 @@ impl Draft {
     ghost use Rattle.std.specs.Prelude.{◌≡◌, OnOk, IfOk, option_map, map};
     ghost use Rattle.smps_words.specs.Seen.{seen};
     ghost use Rattle.core_defs.specs.Stated.{same_set, chosen};
-    ghost use Rattle.core_defs.specs.Step.{choosing_bound, with_bound_at, with_bound, without_bound, value_line, plain_line, bound_line};
+    ghost use Rattle.core_defs.specs.Step.{choosing_bound, in_bound_set, with_bound_at, with_bound, without_bound};
+    ghost use Rattle.core_defs.specs.Step.{value_line, plain_line, bound_line};
     ghost use Rattle.mps_core.specs.View.{filed, Files};
 
     /// Whether a line of this set is used.
@@ -72,6 +73,41 @@ impl Draft {
         self.with_bound_at(kind, place, Frac::zero())
     }
 
+    /// A column and the value of its bound, where its set is used.
+    fn bound_in_set(
+        &mut self,
+        kind: BoundKind,
+        set: Option<&[u8]>,
+        column: &[u8],
+        word: &[u8],
+    ) -> Result<(), Stop>
+        ensures filed { let line = option_map (λ name. name.now) set.entry
+            in Files self.new result (in_bound_set (filed self.old) line (λ f. with_bound f kind column.now word.now)) }
+        ensures entries { OnOk result (self.new.entries ≡ self.old.entries) }
+    {
+        if !self.choose_bound(set)? {
+            return Ok(());
+        }
+        self.with_bound(kind, column, word)
+    }
+
+    /// A column whose bound has no value, where its set is used.
+    fn plain_in_set(
+        &mut self,
+        kind: BoundKind,
+        set: Option<&[u8]>,
+        column: &[u8],
+    ) -> Result<(), Stop>
+        ensures filed { let line = option_map (λ name. name.now) set.entry
+            in Files self.new result (in_bound_set (filed self.old) line (λ f. without_bound f kind column.now)) }
+        ensures entries { OnOk result (self.new.entries ≡ self.old.entries) }
+    {
+        if !self.choose_bound(set)? {
+            return Ok(());
+        }
+        self.without_bound(kind, column)
+    }
+
     /// What stands behind LO, UP and FX.
     #[tactic(auto, using(crate::proofs::StepLemmas::long_value), unfolding(core_defs::specs::Step::value_line))]
     fn value_line(&mut self, kind: BoundKind, fields: &[&[u8]]) -> Result<(), Stop>
@@ -79,18 +115,8 @@ impl Draft {
         ensures entries { OnOk result (self.new.entries ≡ self.old.entries) }
     {
         match fields {
-            [column, word] => {
-                if !self.choose_bound(None)? {
-                    return Ok(());
-                }
-                self.with_bound(kind, column, word)
-            }
-            [set, column, word] => {
-                if !self.choose_bound(Some(set))? {
-                    return Ok(());
-                }
-                self.with_bound(kind, column, word)
-            }
+            [column, word] => self.bound_in_set(kind, None, column, word),
+            [set, column, word] => self.bound_in_set(kind, Some(set), column, word),
             _ => Err(Stop::Fault(Cause::FieldCount)),
         }
     }
@@ -102,18 +128,8 @@ impl Draft {
         ensures entries { OnOk result (self.new.entries ≡ self.old.entries) }
     {
         match fields {
-            [column] => {
-                if !self.choose_bound(None)? {
-                    return Ok(());
-                }
-                self.without_bound(kind, column)
-            }
-            [set, column] | [set, column, _] => {
-                if !self.choose_bound(Some(set))? {
-                    return Ok(());
-                }
-                self.without_bound(kind, column)
-            }
+            [column] => self.plain_in_set(kind, None, column),
+            [set, column] | [set, column, _] => self.plain_in_set(kind, Some(set), column),
             _ => Err(Stop::Fault(Cause::FieldCount)),
         }
     }

@@ -1,5 +1,5 @@
 //! The core of what is filed.
-ghost use Rattle.std.specs.Prelude.{◌≡◌, ◌<◌, ◌≤◌, [], ◌∷◌, Some, None, IfOk, length, vec_len, slice_index_or, drop};
+ghost use Rattle.std.specs.Prelude.{◌≡◌, ◌<◌, ◌≤◌, [], ◌∷◌, Some, None, IfOk, OnOk, length, vec_len, slice_index_or, drop};
 ghost use Rattle.std.specs.Option.{unwrap_or};
 ghost use Rattle.rationals.specs.Rational.{zero_ℚ};
 ghost use Rattle.core_defs.specs.Filed.{Filed, nothing_filed, closed};
@@ -99,20 +99,32 @@ fn name_of_set(alloc: Global, set: Option<Option<Name>>) -> Result<Name, AllocEr
     }
 }
 
+/// The last column is closed, and the columns are those of all parts; afterwards the draft holds the parts no more.
+fn columns_of(alloc: Global, draft: &mut Draft) -> Result<Vec<ColumnDef>, AllocError>
+    requires { IsWhole (filed draft.old) }
+    ensures columns { IfOk result (λ columns. columns.items ≡ column_defs (filed draft.old) 0 (closed (filed draft.old)).parts) }
+    ensures rest { OnOk result (filed draft.new ≡ record (filed draft.old)
+        { parts = draft.new.parts.items; costs = draft.new.costs; terms = draft.new.terms; free_rhs = draft.new.free_rhs.items }) }
+    ensures names { OnOk result (draft.new.names ≡ draft.old.names) }
+{
+    draft.close_column()?;
+    let parts = mem::replace(&mut draft.parts, Vec::new(alloc));
+    // Of N rows nothing is kept, and there may be many.
+    draft.free_rhs = Vec::new(alloc);
+    let columns = column_defs(alloc, &draft.names, &draft.bounds, parts)?;
+    Ok(columns)
+}
+
 /// The core of the lines that are filed; afterwards the draft holds them no more.
 #[tactic(auto, using(crate::proofs::WholeLemmas::core_lemmas))]
 pub(crate) fn core_of(alloc: Global, draft: &mut Draft) -> Result<Core, AllocError>
     requires { IsWhole (filed draft.old) }
     ensures { IfOk result (IsCoreOf (filed draft.old)) }
 {
-    draft.close_column()?;
-    let parts = mem::replace(&mut draft.parts, Vec::new(alloc));
-    // Of N rows nothing is kept, and there may be many.
-    draft.free_rhs = Vec::new(alloc);
-    let objective = Name::new(alloc, draft.free.name(0))?;
-    let skipped = skipped_rows(alloc, &draft.free)?;
+    let columns = columns_of(alloc, draft)?;
     let rows = row_defs(alloc, draft)?;
-    let columns = column_defs(alloc, &draft.names, &draft.bounds, parts)?;
+    let skipped = skipped_rows(alloc, &draft.free)?;
+    let objective = Name::new(alloc, draft.free.name(0))?;
     let rhs_set = name_of_set(alloc, mem::replace(&mut draft.rhs_set, None))?;
     let row_names = mem::replace(&mut draft.rows, Names::empty(alloc));
     let column_names = mem::replace(&mut draft.names, Names::empty(alloc));

@@ -1,10 +1,14 @@
 -- Passes over the numbers of many places.
 use Rattle.std.proofs.Common.{◌≡◌, ℕ, ◌<◌, Bool, true, false, ◌||◌, eqb, List, [], ◌∷◌, Result, Ok, length, get_or, refl, sym, ap, subst, ◌∙◌, eqb-true}
-use Rattle.rationals.specs.Rational.{ℚ}
+use Rattle.rationals.specs.Rational.{ℚ, zero_ℚ}
 use Rattle.rationals.specs.Passes.{Operation, add_walk, then_walk, IsNarrow}
+use Rattle.rationals.proofs.OrderMeaning.{mul_walk_zero}
 use Rattle.rationals.specs.Choices.{pick}
 use Rattle.scen_defs.specs.Lists.{is_in}
-use Rattle.scen_model.specs.Gathered.{Moves}
+use Rattle.scen_defs.specs.Program.{View}
+use Rattle.scen_defs.specs.Walks.{total_from}
+use Rattle.scen_model.specs.Gathered.{Moves, everywhere, AreTotals}
+use Rattle.rationals.proofs.WalkLaws.{product_fits}
 
 -- what is left to do from the numbers now is what there was to do from those at the start
 abbrev pub Same : {A P : Type 0} → (ℕ → Bool) → (ℕ → ℚ → List A → Result ℚ P) → List ℚ → List A → List ℚ → List A → Type 0
@@ -53,3 +57,12 @@ path_next p now new start x left rest all read long once same moves n d h t f =
     go false e s t m =
         let same : s ≡ t = cc in
         ap (λ u. path_walk p n u rest) (sym same) ∙ sym (ap (λ b. pick (b || is_in n rest) (add_walk s p) (Ok s)) e)
+
+-- ---- totals
+-- sums that were 0 at the start and to which all scenarios are added
+pub totals_moved : (v : View) (start sums : List ℚ) → length sums ≡ length start → ((n : ℕ) (d : ℚ) → n < length start → get_or start n d ≡ zero_ℚ)
+    → Moves everywhere (λ n s. total_from n s v.scenarios) start sums → AreTotals v sums
+totals_moved v start sums long zeros moves n d h =
+    let within = subst (λ k. n < k) long h in
+    let zero = zeros n d within in
+    let m = moves n d within refl (subst IsNarrow (sym zero) (product_fits zero_ℚ zero_ℚ zero_ℚ (mul_walk_zero zero_ℚ))) in ap (λ s. total_from n s v.scenarios) (sym zero) ∙ m.0

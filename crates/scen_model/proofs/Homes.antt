@@ -18,8 +18,8 @@ use Rattle.scen_defs.specs.Program.{View, Node, Program, content, nodes_content,
 use Rattle.scen_defs.specs.Flat.{up, home, is_above}
 use Rattle.scen_defs.specs.Walks.{less_from}
 use Rattle.scen_model.specs.Walks.{less_step, less_all, reduced_walk}
-use Rattle.scen_model.specs.Gathered.{lists_in, is_of, IsSeated, AreSeated, AreApart, column_number, if_home, entry_from, entries_from, AreTotals, LessAt, LessIn, AllMove, IsOnPath, AreStages, IsPriced, AllPriced, AreAll}
-use Rattle.rationals.proofs.WalkLaws.{less_zero_product}
+use Rattle.scen_model.specs.Gathered.{lists_in, is_of, IsSeated, AreSeated, AreApart, column_number, if_home, entry_from, entries_from, AreTotals, LessAt, LessIn, AllMove, IsOnPath, AreStages, ArePriced, IsPriced, AllPriced, AreAll}
+use Rattle.rationals.proofs.WalkLaws.{less_zero_product, product_fits}
 use Rattle.scen_model.proofs.Reduces.{entries_sum}
 
 -- ---- what is left to do from the numbers now is what there was to do from those at the start
@@ -241,6 +241,25 @@ row_stays v columns seats n y es old e k j o f = (
 )
 
 -- ---- the numbers from which all rows are taken are the reduced costs
+-- one more number of a list
+pub number_next : (total : ℚ) (costs : List Entry) (own : List ℕ) (place : ℕ) (old new : List ℚ) (cost number : ℚ) → length old ≡ place → new ≡ old ++ number ∷ [] → cost ≡ coefficient costs (get_or own place 0)
+    → mul_walk total cost ≡ Ok number → ArePriced total costs own old → ArePriced total costs own new
+number_next total costs own place old new cost number long pushed is product kept i below = go (eqb_tells i place)
+  where
+    Priced : List ℚ → Type 0
+    Priced numbers = (mul_walk total (coefficient costs (get_or own i 0)) ≡ Ok (get_or numbers i zero_ℚ)) × IsNarrow (get_or numbers i zero_ℚ)
+
+    go : (((eqb i place ≡ true) × (i ≡ place)) ⊎ ((eqb i place ≡ false) × (i ≢ place))) → Priced new
+    go (inl q) =
+        let at : number ≡ get_or new i zero_ℚ = sym (ap (λ (l : List ℚ). get_or l i zero_ℚ) pushed ∙ get_or_at old number [] zero_ℚ i (long ∙ sym q.1)) in
+        let priced : mul_walk total (coefficient costs (get_or own i 0)) ≡ Ok number = ap (λ k. mul_walk total (coefficient costs (get_or own k 0))) q.1 ∙ ap (mul_walk total) (sym is) ∙ product in
+        (priced ∙ ap Ok at, subst IsNarrow at (product_fits total cost number product))
+    go (inr q) =
+        let apart : i ≢ place = q.1 in
+        let grown : length new ≡ length old + 1 = ap length pushed ∙ length-append old (number ∷ []) in
+        let within : i < length old = omega (arith, below, apart, long, grown) in
+        subst Priced (sym pushed) (subst (λ n. (mul_walk total (coefficient costs (get_or own i 0)) ≡ Ok n) × IsNarrow n) (sym (get_or_append_left old (number ∷ []) zero_ℚ i within)) (kept i within))
+
 -- one more list
 pub priced_next : (p : Program) (costs : ℕ → List Entry) (totals : List ℚ) (own : List (List ℕ)) (place : ℕ) (old new : List (Vec ℚ Global)) (list : Vec ℚ Global) → length old ≡ place → new ≡ old ++ list ∷ []
     → AllPriced p costs totals own place (lists_in old) → (passes_at is_live place p.nodes ≡ true → IsPriced (view_of p) costs totals own place list.items) → AllPriced p costs totals own (place + 1) (lists_in new)

@@ -63,24 +63,39 @@ fn are_seated(columns: &[Column], own: &[Vec<u64>], seats: &[usize]) -> bool
     true
 }
 
+/// No columns yet, for each of so many stages.
+fn no_columns(alloc: Global, count: usize) -> Result<Vec<Vec<u64>>, Unfinished> {
+    let mut own = Vec::with_capacity(alloc, count)?;
+    for _stage in 0..count {
+        own.push(Vec::new(alloc))?;
+    }
+    Ok(own)
+}
+
+/// Puts each column behind the others of its stage; gives the seats.
+fn seats(
+    alloc: Global,
+    columns: &[Column],
+    own: &mut Vec<Vec<u64>>,
+) -> Result<Vec<usize>, Unfinished> {
+    let mut seats = Vec::with_capacity(alloc, columns.len())?;
+    for (place, column) in columns.iter().enumerate() {
+        seats.push(put(own, column.stage, place as u64)?)?;
+    }
+    Ok(seats)
+}
+
 /// The columns of each stage, and of each column its stage and its seat.
 pub(crate) fn seated(alloc: Global, program: &Program) -> Result<Seating, Unfinished>
     ensures stages { IfOk result (λ s. AreStages program.now.columns.items s.stages.items) }
     ensures seated { IfOk result (λ s. AreSeated program.now.columns.items (lists_in s.own.items) s.seats.items) }
 {
-    let stages = stages(alloc, &program.columns)?;
-    let mut own = Vec::with_capacity(alloc, program.periods.len())?;
-    for _period in &program.periods {
-        own.push(Vec::new(alloc))?;
+    let columns = program.columns.as_slice();
+    let mut own = no_columns(alloc, program.periods.len())?;
+    let seats = seats(alloc, columns, &mut own)?;
+    if !are_seated(columns, own.as_slice(), seats.as_slice()) {
+        return Err(Unfinished::Walk);
     }
-    let mut seats = Vec::with_capacity(alloc, program.columns.len())?;
-    for (place, column) in program.columns.iter().enumerate() {
-        let seat = put(&mut own, column.stage, place as u64)?;
-        seats.push(seat)?;
-    }
-    if are_seated(&program.columns, own.as_slice(), seats.as_slice()) {
-        Ok(Seating { own, stages, seats })
-    } else {
-        Err(Unfinished::Walk)
-    }
+    let stages = stages(alloc, columns)?;
+    Ok(Seating { own, stages, seats })
 }

@@ -2,40 +2,30 @@
 use Rattle.std.proofs.Common.{◌∙◌, ◌∷◌, ap, sym, subst₂, length, drop, List, ℕ, arith}
 use Rattle.core_defs.specs.Core.{column_names, IsCore}
 use Rattle.core_defs.specs.Filed.{Filed}
-use Rattle.core_defs.specs.Finished.{column_defs}
 use Rattle.core_defs.specs.Stated.{name_of_set}
 use Rattle.mps_core.specs.View.{filed}
-use Rattle.mps_core.proofs.WholeLemmas.{same_row_defs, same_column_defs, split_first}
+use Rattle.mps_core.proofs.WholeLemmas.{same_row_defs, split_first}
 use Rattle.mps_core.proofs.whole.core_of.Goals as goal
 
 pub of_parts-requires-clause-columns : goal.of_parts-requires-clause-columns
 of_parts-requires-clause-columns c =
-    c.replace-column_names.ensures.value ∙ c.in_ok-close_column.ensures.names
-    ∙ sym (ap column_names (rw c.replace-parts.ensures.value at c.in_ok-columns.ensures ∙ same_column_defs (filed c.args.draft.now) (filed c.close_column.new.self) c.in_ok-close_column.ensures.rest _
-    ∙ ap (λ (g : Filed). column_defs (filed c.args.draft.now) 0 g.parts) c.in_ok-close_column.ensures.closed) ∙ c.requires.named)
+    c.replace-column_names.ensures.value ∙ c.in_ok-columns.ensures.names ∙ sym (ap column_names c.in_ok-columns.ensures.columns ∙ c.requires.named)
 
 pub of_parts-requires-clause-keeps : goal.of_parts-requires-clause-keeps
 of_parts-requires-clause-keeps c =
-    let f = filed c.args.draft.now in
-    let rest = c.in_ok-close_column.ensures.rest in
-    let rows = c.in_ok-rows.ensures ∙ same_row_defs f (filed c.close_column.new.self) c.new.result.items c.new-2.result.items rest in
-    let columns = rw c.replace-parts.ensures.value at c.in_ok-columns.ensures ∙ same_column_defs f (filed c.close_column.new.self) rest _
-    ∙ ap (λ (g : Filed). column_defs f 0 g.parts) c.in_ok-close_column.ensures.closed in
-    subst₂ IsCore (sym rows) (sym columns) c.requires.keeps
+    subst₂ IsCore (sym (c.in_ok-rows.ensures ∙ same_row_defs (filed c.args.draft.now) (filed c.columns_of.new.draft) c.in_ok-columns.ensures.rest)) (sym c.in_ok-columns.ensures.columns) c.requires.keeps
 
 pub returns : goal.returns
 returns c =
-    let f = filed c.args.draft.now in
-    let rest = c.in_ok-close_column.ensures.rest in
+    let rest = c.in_ok-columns.ensures.rest in
     let first = c.of_parts.ensures.objective ∙ c.in_ok-objective.ensures ∙ c.name.ensures in
     let free = ap (λ (g : Filed). g.free) rest in
     record {
       free = rw (c.of_parts.ensures.skipped, c.in_ok-skipped.ensures)
-          (sym free ∙ split_first c.close_column.new.self.free (omega (arith, ap length free, c.requires.some_free))
-          ∙ ap (λ (name : List ℕ). name ∷ drop 1 c.close_column.new.self.free) (sym first));
+          (sym free ∙ split_first c.columns_of.new.draft.free (omega (arith, ap length free, c.requires.some_free))
+          ∙ ap (λ (name : List ℕ). name ∷ drop 1 c.columns_of.new.draft.free) (sym first));
       rhs_set = c.of_parts.ensures.rhs_set ∙ c.in_ok-rhs_set.ensures
           ∙ ap name_of_set (c.replace.ensures.value ∙ ap (λ (g : Filed). g.rhs_set) rest);
-      rows = rw c.of_parts.ensures.rows (c.in_ok-rows.ensures ∙ same_row_defs f (filed c.close_column.new.self) c.new.result.items c.new-2.result.items rest);
-      columns = rw c.of_parts.ensures.columns (rw c.replace-parts.ensures.value at c.in_ok-columns.ensures ∙ same_column_defs f (filed c.close_column.new.self) rest _
-          ∙ ap (λ (g : Filed). column_defs f 0 g.parts) c.in_ok-close_column.ensures.closed);
+      rows = rw c.of_parts.ensures.rows (c.in_ok-rows.ensures ∙ same_row_defs (filed c.args.draft.now) (filed c.columns_of.new.draft) rest);
+      columns = rw c.of_parts.ensures.columns c.in_ok-columns.ensures.columns;
     }
