@@ -16,13 +16,11 @@ use scen_tree::Position;
 use std::alloc::{AllocError, Global};
 
 /// Nodes without a mark.
+#[tactic(auto, using(crate::proofs::Grown::nodes_long))]
 fn unmarked(alloc: Global, nodes: &[Option<Node>]) -> Result<Vec<bool>, AllocError>
     ensures { IfOk result (λ marks. marks.items ≡ replicate (length (nodes_content nodes.now)) false) }
 {
-    let mut marks = Vec::new(alloc);
-    for _node in nodes {
-        marks.push(false)?;
-    }
+    let marks = vec![in alloc; false; nodes.len()]?;
     Ok(marks)
 }
 

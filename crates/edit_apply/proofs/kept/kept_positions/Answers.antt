@@ -1,0 +1,13 @@
+-- A node more.
+use Rattle.std.proofs.Common.{◌∙◌, ap, None}
+use Rattle.rationals.specs.Choices.{pick}
+use Rattle.scen_defs.specs.Program.{place_content}
+use Rattle.scen_tree.specs.Trees.{position_of}
+use Rattle.edit_apply.proofs.Marks.{next_position}
+use Rattle.edit_apply.proofs.kept.kept_positions.Goals as goal
+
+pub loop-node-preserved : goal.loop-node-preserved
+loop-node-preserved c =
+    let place = c.index-nodes-node.result in
+    next_position c.args.marks.now c.loop-node.all.items _ c.args.nodes.now c.loop-node.node place c.kept_position.result _ c.loop-node-test.true c.index-nodes-node.is
+    (c.kept_position.ensures ∙ ap (λ is_marked. position_of (pick is_marked (place_content place) None)) c.is_marked.ensures) c.in_ok-push.ensures.items c.loop-node.invariant
