@@ -91,7 +91,6 @@ pub(crate) fn place_counts(place: &Option<Node>) -> Result<Counts, Memory>
 }
 
 /// What nodes have, all together.
-#[tactic(auto, using(crate::proofs::Counting::next_counts, crate::proofs::Counting::plus_none))]
 pub fn count(nodes: &[Option<Node>]) -> Result<Counts, Memory>
     ensures { IfOk result (λ all. all ≡ counts (nodes_content nodes.now)) }
 {

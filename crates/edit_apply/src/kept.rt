@@ -16,13 +16,11 @@ use scen_tree::Position;
 use std::alloc::{AllocError, Global};
 
 /// Nodes without a mark.
+#[tactic(auto, using(crate::proofs::Grown::nodes_long))]
 fn unmarked(alloc: Global, nodes: &[Option<Node>]) -> Result<Vec<bool>, AllocError>
     ensures { IfOk result (λ marks. marks.items ≡ replicate (length (nodes_content nodes.now)) false) }
 {
-    let mut marks = Vec::new(alloc);
-    for _node in nodes {
-        marks.push(false)?;
-    }
+    let marks = vec![in alloc; false; nodes.len()]?;
     Ok(marks)
 }
 
@@ -84,7 +82,6 @@ fn kept_position(place: &Option<Node>, is_marked: bool) -> Position
 }
 
 /// Where the nodes stand, of which those that aren't marked go.
-#[tactic(auto, using(crate::proofs::Marks::next_position))]
 pub(crate) fn kept_positions(
     alloc: Global,
     nodes: &[Option<Node>],
@@ -111,7 +108,6 @@ fn kept_place(place: &Option<Node>, is_marked: bool) -> Result<Counts, Memory>
 }
 
 /// What the marked nodes have.
-#[tactic(auto, using(crate::proofs::Marks::next_kept_counts, crate::proofs::Counting::plus_none))]
 pub(crate) fn kept_counts(nodes: &[Option<Node>], marks: &[bool]) -> Result<Counts, Memory>
     ensures { IfOk result (λ all. all ≡ counts (kept_from marks.now 0 (nodes_content nodes.now))) }
 {

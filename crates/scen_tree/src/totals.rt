@@ -51,11 +51,8 @@ fn add_path(sums: &mut Vec<Result<Frac, Passed>>, path: &[u32], probability: Fra
 fn empty_sums(alloc: Global, count: usize) -> Result<Vec<Result<Frac, Passed>>, AllocError>
     ensures { IfOk result (λ sums. sums.items ≡ replicate count (Ok zero_ℚ)) }
 {
-    let mut sums: Vec<Result<Frac, Passed>> = Vec::with_capacity(alloc, count)?;
-    for _node in 0..count {
-        sums.push(Ok(Frac::zero()))?;
-    }
-    Ok(sums)
+    let sum: Result<Frac, Passed> = Ok(Frac::zero());
+    vec![in alloc; sum; count]
 }
 
 /// The sums of the probabilities of the scenarios through each of so many nodes.

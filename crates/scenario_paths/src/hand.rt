@@ -1,5 +1,5 @@
 //! What is set on the path of a scenario.
-ghost use Rattle.std.specs.Prelude.{◌≡◌, ◌<◌, [], IfOk, length, map};
+ghost use Rattle.std.specs.Prelude.{◌≡◌, ◌<◌, [], IfOk, OnOk, length, map};
 ghost use Rattle.smps_words.specs.declared.entry.Entry.{Entry};
 ghost use Rattle.stoch_defs.specs.Stated.{value_set, path_among, paths_of};
 ghost use Rattle.scenario_paths.specs.Paths.{set_first, earlier, node_stated, IsAtHand, SetsTheSame};
@@ -50,12 +50,10 @@ pub(crate) fn earlier(parent: Option<usize>, number: usize) -> Option<usize>
     }
 }
 
-/// The values with these, which count before them.
-fn with_sets(
-    mut values: IndexMap<Entry, Frac>,
-    sets: &[(Entry, Frac)],
-) -> Result<IndexMap<Entry, Frac>, AllocError>
-    ensures { IfOk result (λ m. (e : Entry) → value_set m.entries e ≡ set_first (value_set sets.now e) (value_set values.entries e)) }
+/// Adds values, which count before those that are there.
+fn add_sets(values: &mut IndexMap<Entry, Frac>, sets: &[(Entry, Frac)]) -> Result<(), AllocError>
+    ensures { OnOk result ((e : Entry) → value_set values.new.entries e
+        ≡ set_first (value_set sets.now e) (value_set values.old.entries e)) }
 {
     let mut left = sets.len();
     while left > 0 {
@@ -63,15 +61,13 @@ fn with_sets(
         let set = sets[left];
         values.insert(set.0, set.1)?;
     }
-    Ok(values)
+    Ok(())
 }
 
-/// The values with those of these that they lack.
-fn with_missing(
-    mut values: IndexMap<Entry, Frac>,
-    sets: &[(Entry, Frac)],
-) -> Result<IndexMap<Entry, Frac>, AllocError>
-    ensures { IfOk result (λ m. (e : Entry) → value_set m.entries e ≡ set_first (value_set values.entries e) (value_set sets.now e)) }
+/// Adds those of these values that are missing.
+fn add_missing(values: &mut IndexMap<Entry, Frac>, sets: &[(Entry, Frac)]) -> Result<(), AllocError>
+    ensures { OnOk result ((e : Entry) → value_set values.new.entries e
+        ≡ set_first (value_set values.old.entries e) (value_set sets.now e)) }
 {
     for set in sets {
         match values.get(&set.0) {
@@ -81,7 +77,7 @@ fn with_missing(
             }
         }
     }
-    Ok(values)
+    Ok(())
 }
 
 /// The values on the path of a scenario, found by going up its parents.
@@ -99,7 +95,7 @@ fn collected(
             return Ok(values);
         }
         let scenario = &scenarios[at];
-        values = with_missing(values, &scenario.sets)?;
+        add_missing(&mut values, &scenario.sets)?;
         next = earlier(scenario.parent, at);
     }
     Ok(values)
@@ -118,7 +114,8 @@ fn values_on_path(
 {
     let scenario = &scenarios[number];
     if earlier(scenario.parent, number) == hand.at {
-        let values = with_sets(hand.values, &scenario.sets)?;
+        let mut values = hand.values;
+        add_sets(&mut values, &scenario.sets)?;
         return Ok(values);
     }
     collected(alloc, scenarios, number)

@@ -2,3 +2,4 @@ pub mod BelowLemmas
 pub mod CoreFits
 pub mod Gathering
 pub mod SingleLaws
+pub mod MapLoops

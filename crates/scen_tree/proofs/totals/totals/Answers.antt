@@ -1,4 +1,4 @@
-use Rattle.std.proofs.Common.{◌≡◌, ◌∙◌, ap, sym, subst, suc, drop, get_or, ◌+◌, ◌++◌, ◌∷◌, [], length, arith, Ok, Err, add-one}
+use Rattle.std.proofs.Common.{◌≡◌, ◌∙◌, ap, sym, subst, suc, drop, get_or, ◌+◌, ◌++◌, ◌∷◌, [], length, arith, Ok, Err, add-one, drop_of_length-le}
 use Rattle.rationals.specs.Rational.{zero_ℚ}
 use Rattle.std.proofs.lemmas.List.{at_drop_more}
 use Rattle.scen_defs.specs.Program.{scenarios_content}
@@ -43,3 +43,10 @@ loop-node-preserved c =
           ∙ c.loop-node.invariant)
       | else-node-len w ↦ absurd (omega (arith, w.if-node-len.false, c.len.ensures, ap length c.in_ok-sums.ensures ∙ sums_length 0 (length positions) scenarios, c.loop-node-test.true))
     ]
+
+pub returns : goal.returns
+returns c =
+    let positions = c.args.positions.now in
+    let scenarios = scenarios_content c.args.scenarios.now in
+    sym (subst (λ left. gathered_from c.loop-node.totals.items (live_sums_from c.loop-node.node left scenarios) ≡ gathered_from [] (live_sums_from 0 positions scenarios))
+    (drop_of_length-le positions c.loop-node-test.false) c.loop-node.invariant)

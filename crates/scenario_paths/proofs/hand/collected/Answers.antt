@@ -11,8 +11,8 @@ returns-then-at-scenarios c = λ e. none_left (path_among (paths_of (map node_st
 
 pub loop-next-preserved : goal.loop-next-preserved
 loop-next-preserved c = λ e.
-    ap (λ (above : Option ℕ). set_first (value_set c.in_ok-values.values.entries e) (value_set (path_among (paths_of (map node_stated c.args.scenarios.now)) above) e)) c.earlier-next.ensures
-    ∙ up_step (map node_stated c.args.scenarios.now) c.in-Some.at (node_stated c.index-scenarios-at.result) c.loop-next.values.entries c.in_ok-values.values.entries e
-    (within_map c.args.scenarios.now c.in-Some.at (omega arith)) (at_map c.args.scenarios.now c.in-Some.at c.index-scenarios-at.result (omega arith) c.index-scenarios-at.is) (c.in_ok-values.ensures e ∙ ap (λ sets. set_first (value_set c.loop-next.values.entries e) (value_set sets e)) c.deref.ensures.value)
+    ap (λ (above : Option ℕ). set_first (value_set c.add_missing.new.values.entries e) (value_set (path_among (paths_of (map node_stated c.args.scenarios.now)) above) e)) c.earlier-next.ensures
+    ∙ up_step (map node_stated c.args.scenarios.now) c.in-Some.at (node_stated c.index-scenarios-at.result) c.loop-next.values.entries c.add_missing.new.values.entries e
+    (within_map c.args.scenarios.now c.in-Some.at (omega arith)) (at_map c.args.scenarios.now c.in-Some.at c.index-scenarios-at.result (omega arith) c.index-scenarios-at.is) (c.in_ok-add_missing.ensures e ∙ ap (λ sets. set_first (value_set c.loop-next.values.entries e) (value_set sets e)) c.deref.ensures.value)
     ∙ ap (λ (here : Option ℕ). set_first (value_set c.loop-next.values.entries e) (value_set (path_among (paths_of (map node_stated c.args.scenarios.now)) here) e)) (sym c.in-Some.is)
     ∙ c.loop-next.invariant e

@@ -1,6 +1,7 @@
-use Rattle.std.proofs.Common.{◌≡◌, ℕ, suc, ◌<◌, List, [], ◌∷◌, ◌++◌, Result, Ok, refl, sym, ap, ap₂, ◌∙◌, rules, subst, get_or, drop, length, arith}
+use Rattle.std.proofs.Common.{◌≡◌, ℕ, suc, ◌<◌, List, [], ◌∷◌, ◌++◌, Result, Ok, Err, refl, sym, ap, ap₂, ◌∙◌, rules, subst, get_or, drop, length, arith}
 use Rattle.std.proofs.Math.Seq.{drop-cons}
 use Rattle.std.proofs.lemmas.List.{length_push, length-drop}
+use Rattle.std.specs.Result.{MatchResult, IsErrAnd}
 use Rattle.std.specs.Vec.Iter.{into_iter_items}
 use Rattle.rationals.specs.Sparse.{Entry}
 use Rattle.rationals.specs.Passes.{Operation, then_walk}
@@ -8,7 +9,9 @@ use Rattle.core_defs.specs.declared.parts.RowDef.{RowDef}
 use Rattle.core_defs.specs.declared.parts.ColumnDef.{ColumnDef}
 use Rattle.scen_defs.specs.declared.program.NodeRow.{NodeRow}
 use Rattle.smps_build.specs.Gathered.{forms_from}
-use Rattle.smps_build.specs.Single.{Interval, interval_walk, entries_from, node_row, rows_from}
+use Rattle.smps_build.specs.declared.fault.BuildFault.{BuildFault}
+use Rattle.smps_build.specs.declared.fault.BuildFault.TheVariants.{Passed}
+use Rattle.smps_build.specs.Single.{Interval, interval_walk, entries_from, node_row, rows_from, BuildFaultOf}
 use Rattle.smps_build.proofs.Gathering.{no_form}
 use Rattle.smps_build.proofs.one_period.node_rows.Goals as goal
 
@@ -39,6 +42,35 @@ one_more cs rs all new n row entries ends forms rest total p read walked e f g h
     let walk : rows_from cs new (suc (length all)) (drop (suc (length all)) rs) ≡ rows_from cs all (length all) (row ∷ drop (suc (length all)) rs) =
     ap (λ (z : List NodeRow). rows_from cs z (suc (length all)) (drop (suc (length all)) rs)) made ∙ ap (λ (w : Result Interval Operation). then_walk w next) walked in
     (rw len (walk ∙ ap (λ (l : List RowDef). rows_from cs all (length all) l) (sym d) ∙ h), rw len others)
+
+-- a row whose interval passes
+one_passes : (cs : List ColumnDef) (rs : List RowDef) (all : List NodeRow) (n : ℕ) (row : RowDef) (p : Operation) (entries : List Entry) (forms rest : List (List Entry)) (total : Result (List NodeRow) Operation)
+    → n ≡ length all → row ≡ get_or rs n row → interval_walk row.kind row.rhs row.range ≡ Err p
+    → forms ≡ entries ∷ rest → forms ≡ forms_from cs (length all) (drop (length all) rs) → rows_from cs all (length all) (drop (length all) rs) ≡ total → total ≡ Err p
+one_passes cs rs all n row p entries forms rest total q read walked f g h =
+    let below : length all < length rs = row_below cs rs (length all) entries forms rest f g in
+    let here : row ≡ get_or rs (length all) row = read ∙ ap (λ (m : ℕ). get_or rs m row) q in
+    let d : drop (length all) rs ≡ row ∷ drop (suc (length all)) rs = drop-cons rs (length all) row below ∙ ap (λ (r : RowDef). r ∷ drop (suc (length all)) rs) (sym here) in
+    let next : Interval → Result (List NodeRow) Operation = λ i. rows_from cs (all ++ node_row cs (length all) i ∷ []) (suc (length all)) (drop (suc (length all)) rs) in
+    sym h ∙ ap (λ (l : List RowDef). rows_from cs all (length all) l) d ∙ ap (λ (w : Result Interval Operation). then_walk w next) walked
+
+-- a call that hands on the operation in which its walk ends
+passed : {X Y : Type 0} (result : Result X BuildFault) (walk : Result Y Operation) (p : Operation) (Q : X → Type 0) → IsErrAnd result (λ e. e ≡ Passed p) → walk ≡ Err p → MatchResult result Q (BuildFaultOf walk)
+passed (Ok x) walk p Q is e = absurd is
+passed (Err fault) walk p Q is e = subst (BuildFaultOf walk) (sym is) e
+
+pub bounds-rows-place : goal.bounds-rows-place
+bounds-rows-place c =
+    let place : c.len-place.result ≡ length c.loop-entries.all.items = search rules in
+    let below = row_below c.args.columns.now c.args.rows.now (length c.loop-entries.all.items) c.in-Some.entries (into_iter_items c.loop-entries.entries-iterator) (into_iter_items c.next.new.self) c.in-Some.ensures.steps.0 c.loop-entries.invariant.3 in
+    omega (arith, place, below)
+
+pub returns-in_err-low : goal.returns-in_err-low
+returns-in_err-low c =
+    let place : c.len-place.result ≡ length c.loop-entries.all.items = search rules in
+    passed _ _ _ _ c.from_residual-in_err-low.ensures.1
+    (one_passes c.args.columns.now c.args.rows.now c.loop-entries.all.items c.len-place.result c.index-rows-place.result c.in_err-low.field-0.0 c.in-Some.entries (into_iter_items c.loop-entries.entries-iterator) (into_iter_items c.next.new.self) (rows_from c.args.columns.now [] 0 c.args.rows.now)
+    place c.index-rows-place.is (sym c.interval.ensures ∙ c.in_err-low.was) c.in-Some.ensures.steps.0 c.loop-entries.invariant.3 c.loop-entries.invariant.2)
 
 pub loop-entries-init : goal.loop-entries-init
 loop-entries-init c = (

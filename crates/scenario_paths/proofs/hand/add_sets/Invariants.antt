@@ -3,7 +3,7 @@ use Rattle.std.proofs.Common.{◌≡◌, ◌≤◌, drop, length}
 use Rattle.smps_words.specs.declared.entry.Entry.{Entry}
 use Rattle.stoch_defs.specs.Stated.{value_set}
 use Rattle.scenario_paths.specs.Paths.{set_first}
-use Rattle.scenario_paths.proofs.hand.with_sets.Given as goal
+use Rattle.scenario_paths.proofs.hand.add_sets.Given as goal
 
 abbrev pub invariant-loop-left : goal.invariant-loop-left
 invariant-loop-left l = record {

@@ -3,8 +3,8 @@ use Rattle.std.proofs.Common.{◌∙◌, ◌+◌, ap, sym, drop}
 use Rattle.stoch_defs.specs.Stated.{value_set}
 use Rattle.scenario_paths.specs.Paths.{set_first}
 use Rattle.scenario_paths.proofs.HandLemmas.{missing_step, there_step}
-use Rattle.scenario_paths.proofs.hand.with_missing.Goals as goal
-use Rattle.scenario_paths.proofs.hand.with_missing.Goals.{in-Some, in-None+in_ok-insert-in-None}
+use Rattle.scenario_paths.proofs.hand.add_missing.Goals as goal
+use Rattle.scenario_paths.proofs.hand.add_missing.Goals.{in-Some, in-None+in_ok-insert-in-None}
 
 pub loop-set-preserved : goal.loop-set-preserved
 loop-set-preserved c = λ e.
