@@ -48,12 +48,17 @@ pub(crate) fn cover(alloc: Global) -> Result<Program, Fail> {
     Ok(read.ok_or("COVER isn't read")?)
 }
 
-/// Appends a value, as node, index and value.
-fn append(values: &mut Values, item: &str) -> Result<(), Fail> {
-    let (place, value) = item.rsplit_once(' ').ok_or("no value")?;
-    let (node, index) = place.split_once(' ').ok_or("no index")?;
+/// A node and an index.
+fn place_of(text: &str) -> Result<(u32, u32), Fail> {
+    let (node, index) = text.split_once(' ').ok_or("no index")?;
     let node = node.parse::<u32>()?;
     let index = index.parse::<u32>()?;
+    Ok((node, index))
+}
+
+/// Appends the value of a place.
+fn append(values: &mut Values, place: &str, value: &str) -> Result<(), Fail> {
+    let (node, index) = place_of(place)?;
     let value = parse(value.as_bytes())?;
     if !values.ends_before(node, index) || value.is_zero() {
         return Err(Fail::from("values out of order"));
@@ -66,8 +71,8 @@ fn append(values: &mut Values, item: &str) -> Result<(), Fail> {
 pub(crate) fn values(alloc: Global, text: &str) -> Result<Values, Fail> {
     let mut values = Values::empty(alloc);
     for item in text.split(',') {
-        if !item.is_empty() {
-            append(&mut values, item)?;
+        if let Some((place, value)) = item.rsplit_once(' ') {
+            append(&mut values, place, value)?;
         }
     }
     Ok(values)
