@@ -21,18 +21,16 @@
 //! - without end below an upper bound: X falls from its bound, 2, at the cost of 3.
 //! - Beale's program: X1 = 3/4, X4 = 1 and X6 = 1, so -3/4 - 1/2; the multipliers of R2 and R3 are -3/2
 //!   and -5/4, worth -5/4.
-ghost use Rattle.std.specs.Prelude.{◌<◌, ◌-◌, ◌^◌, length};
-
+use crate::tests::program;
 use frac128::{Frac, parse};
-use mps_core::read_core;
 use proved_report::{Claim, Open, report};
 use scen_model::{
-    Finding, Place, Program, Report, Values, cost, dual_value, feasible, fits, is_direction,
+    Finding, Halt, Place, Program, Report, Values, cost, dual_value, feasible, fits, is_direction,
     zero_value,
 };
-use smps_build::single;
 use smps_session::session;
 use std::alloc::Global;
+use std::process::Abort;
 use std::test::Fail;
 
 /// Core files with a `#` between them. In front of each stands what is found: OPTIMAL with its cost,
@@ -342,14 +340,11 @@ ENDATA
 /// So many solves, and so many pivots in each, are allowed.
 const BUDGET: u64 = 1000;
 
-/// The program of a core file, and its report.
-fn solved(alloc: Global, text: &[u8]) -> Result<(Program, Report), Fail>
-    requires { length text.now < 2 ^ 32 - 1 }
-{
-    let core = read_core(alloc, text)?;
-    let program = single(alloc, &core)?;
-    let report = session(alloc, &program, BUDGET, BUDGET)?;
-    Ok((program, report))
+/// Whether the policy is feasible and costs this number.
+fn is_policy(alloc: Global, program: &Program, policy: &Values, costs: Frac) -> Result<bool, Halt> {
+    let meets = feasible(alloc, program, policy)?;
+    let found = cost(alloc, program, policy)?;
+    Ok(fits(program, policy, false) && meets && found == costs)
 }
 
 /// Whether the policy is feasible and costs this number, and the multipliers are good and worth it.
@@ -359,12 +354,10 @@ fn are_best(
     policy: &Values,
     dual: &Values,
     best: Frac,
-) -> Result<bool, Fail> {
-    let named = fits(program, policy, false) && fits(program, dual, true);
-    let meets = feasible(alloc, program, policy)?;
-    let costs = cost(alloc, program, policy)?;
+) -> Result<bool, Halt> {
+    let is_met = is_policy(alloc, program, policy, best)?;
     let worth = dual_value(alloc, program, dual)?;
-    Ok(named && meets && costs == best && worth == Some(best))
+    Ok(is_met && fits(program, dual, true) && worth == Some(best))
 }
 
 /// Whether the ray shows by this number, which is above 0, that nothing is feasible.
@@ -373,27 +366,16 @@ fn shows_nothing(
     program: &Program,
     ray: &Values,
     value: Frac,
-) -> Result<bool, Fail> {
-    let named = fits(program, ray, true);
+) -> Result<bool, Halt> {
     let worth = zero_value(alloc, program, ray)?;
-    Ok(named && worth == Some(value) && value.sign() > 0)
+    Ok(fits(program, ray, true) && worth == Some(value) && value.sign() > 0)
 }
 
-/// Whether the policy is feasible and costs the first number, and the direction is one and costs the second.
-fn shows_no_end(
-    alloc: Global,
-    program: &Program,
-    policy: &Values,
-    direction: &Values,
-    upper: Frac,
-    slope: Frac,
-) -> Result<bool, Fail> {
-    let named = fits(program, policy, false) && fits(program, direction, false);
-    let meets = feasible(alloc, program, policy)?;
-    let costs = cost(alloc, program, policy)?;
-    let falls = is_direction(alloc, program, direction)?;
+/// Whether the direction is one and costs this number, which is below 0.
+fn falls(alloc: Global, program: &Program, direction: &Values, slope: Frac) -> Result<bool, Halt> {
+    let goes_on = is_direction(alloc, program, direction)?;
     let moves = cost(alloc, program, direction)?;
-    Ok(named && meets && costs == upper && falls && moves == slope && slope.sign() < 0)
+    Ok(fits(program, direction, false) && goes_on && moves == slope && slope.sign() < 0)
 }
 
 /// Whether a report is OPTIMAL with this cost, and shows it.
@@ -408,7 +390,7 @@ fn is_optimal(
         return Ok(false);
     }
     match (&report.policy, &report.dual) {
-        (Some(policy), Some(dual)) => are_best(alloc, program, policy, dual, best),
+        (Some(policy), Some(dual)) => Ok(are_best(alloc, program, policy, dual, best)?),
         _ => Ok(false),
     }
 }
@@ -430,6 +412,14 @@ fn is_infeasible(
     }
 }
 
+/// The cost of a policy and that of a direction.
+fn two_numbers(numbers: &str) -> Result<(Frac, Frac), Fail> {
+    let (upper, slope) = numbers.split_once(' ').ok_or("one number")?;
+    let upper = parse(upper.as_bytes())?;
+    let slope = parse(slope.as_bytes())?;
+    Ok((upper, slope))
+}
+
 /// Whether a report is UNBOUNDED with a policy and a direction of these costs, and shows it.
 fn is_unbounded(
     alloc: Global,
@@ -437,16 +427,15 @@ fn is_unbounded(
     report: &Report,
     numbers: &str,
 ) -> Result<bool, Fail> {
-    let (upper, slope) = numbers.split_once(' ').ok_or("one number")?;
-    let upper = parse(upper.as_bytes())?;
-    let slope = parse(slope.as_bytes())?;
+    let (upper, slope) = two_numbers(numbers)?;
     if report.upper != Some(upper) || report.extra != Some(slope) {
         return Ok(false);
     }
     match (&report.policy, &report.direction) {
-        (Some(policy), Some(direction)) => shows_no_end(
-            alloc, program, policy, direction, upper, slope,
-        ),
+        (Some(policy), Some(direction)) => {
+            let is_met = is_policy(alloc, program, policy, upper)?;
+            Ok(is_met && falls(alloc, program, direction, slope)?)
+        }
         _ => Ok(false),
     }
 }
@@ -467,18 +456,26 @@ fn is_shown(
     }
 }
 
+/// That nothing is feasible, by a report's ray.
+fn nowhere(ray: Option<Values>) -> Result<Claim, Fail> {
+    let ray = ray.ok_or("no ray")?;
+    Ok(Claim::Nowhere { ray })
+}
+
+/// That the cost falls without end, by a report's policy and direction.
+fn endless(policy: Option<Values>, direction: Option<Values>) -> Result<Claim, Fail> {
+    match (policy, direction) {
+        (Some(policy), Some(direction)) => Ok(Claim::Endless { policy, direction }),
+        (None, _) => Err(Fail::from("no policy")),
+        _ => Err(Fail::from("no direction")),
+    }
+}
+
 /// What a report's lists claim.
 fn claim_of(report: Report) -> Result<Claim, Fail> {
     match report.finding {
-        Finding::Infeasible => {
-            let ray = report.ray.ok_or("no ray")?;
-            Ok(Claim::Nowhere { ray })
-        }
-        Finding::Unbounded => {
-            let policy = report.policy.ok_or("no policy")?;
-            let direction = report.direction.ok_or("no direction")?;
-            Ok(Claim::Endless { policy, direction })
-        }
+        Finding::Infeasible => nowhere(report.ray),
+        Finding::Unbounded => endless(report.policy, report.direction),
         _ => Ok(Claim::Ends {
             policy: report.policy,
             dual: report.dual,
@@ -486,31 +483,51 @@ fn claim_of(report: Report) -> Result<Claim, Fail> {
     }
 }
 
-/// Whether a core file's report is so, and the flat calls show it; and the same of the report of its lists alone.
+/// Whether the report of another's lists alone is so, and the flat calls show it.
+fn is_again_so(
+    alloc: Global,
+    program: &Program,
+    first: Report,
+    expected: &str,
+) -> Result<bool, Fail> {
+    let claim = claim_of(first)?;
+    let again = report(alloc, program, 2, claim, Place::Cost(1), Open::Solves(1), 1)?;
+    is_shown(alloc, program, &again, expected)
+}
+
+/// Whether a program's report is so, and the flat calls show it; and the same of the report of its lists alone.
+fn is_solved_so(alloc: Global, program: &Program, expected: &str) -> Result<bool, Fail> {
+    let first = session(alloc, program, BUDGET, BUDGET)?;
+    let is_first = is_shown(alloc, program, &first, expected)?;
+    let is_again = is_again_so(alloc, program, first, expected)?;
+    Ok(is_first && is_again)
+}
+
+/// Whether the program of a core file is solved so.
 fn agrees(alloc: Global, text: &str, expected: &str) -> Result<bool, Fail> {
     if text.len() > 1000 {
         return Err(Fail::from("a long core file"));
     }
-    let (program, first) = solved(alloc, text.as_bytes())?;
-    let is_first = is_shown(alloc, &program, &first, expected)?;
-    let claim = claim_of(first)?;
-    let again = report(
-        alloc,
-        &program,
-        2,
-        claim,
-        Place::Cost(1),
-        Open::Solves(1),
-        1,
-    )?;
-    Ok(is_first && is_shown(alloc, &program, &again, expected)?)
+    let program = program(alloc, text.as_bytes())?;
+    is_solved_so(alloc, &program, expected)
+}
+
+/// A core file that isn't solved so ends the test, by what is expected and by its text.
+fn expect_core(rt: &impl Abort, is_so: bool, expected: &str, text: &str) {
+    assert!(rt; is_so, "{expected} {text}");
+}
+
+/// A row of `CORES` holds.
+fn is_core_row(rt: &impl Abort, alloc: Global, row: &str) -> Result<(), Fail> {
+    let (expected, text) = row.split_once('\n').ok_or("no core file")?;
+    expect_core(rt, agrees(alloc, text, expected)?, expected, text);
+    Ok(())
 }
 
 #[test]
 fn reports_are_shown_by_the_flat_calls(rt: HostRuntime) -> Result<(), Fail> {
     for row in CORES.split('#') {
-        let (expected, text) = row.split_once('\n').ok_or("no core file")?;
-        assert!(rt; agrees(rt.alloc(), text, expected)?, "{expected} {text}");
+        is_core_row(&rt, rt.alloc(), row)?;
     }
     Ok(())
 }

@@ -1,5 +1,6 @@
 //! Reports of claims of the program on a tree: what its lists show, by hand.
-use crate::tree::{cover, put, values};
+use crate::rows::expect_row;
+use crate::tree::{cover, is_line, values};
 use frac128::{Frac, Passed};
 use proved_report::{Claim, Open, report};
 use rationals::Op;
@@ -36,6 +37,14 @@ const DIRECTIONS: &str = "\
 0 0 2|0 0 -1|solves none none
 ";
 
+/// What the lists of a table claim.
+#[derive(Clone, Copy)]
+enum Table {
+    Ends,
+    Rays,
+    Directions,
+}
+
 /// The values of a column of a table.
 fn listed(alloc: Global, text: &str) -> Result<Option<Values>, Fail> {
     if text == "-" {
@@ -58,11 +67,15 @@ fn word(finding: Finding) -> &'static str {
 
 /// Whether a report has this finding and these ends, with their lists, and the counts of the program.
 fn agrees(alloc: Global, report: &Report, expected: &str) -> Result<bool, Fail> {
-    let mut line = word(report.finding).as_bytes().to_vec(alloc)?;
-    put(alloc, report.lower, &mut line)?;
-    put(alloc, report.upper, &mut line)?;
+    let is_said = is_line(
+        alloc,
+        word(report.finding),
+        report.lower,
+        report.upper,
+        expected,
+    )?;
     Ok(
-        line.as_slice() == expected.as_bytes()
+        is_said
             && report.lower.is_some() == report.dual.is_some()
             && report.upper.is_some() == report.policy.is_some()
             && report.nodes == 3
@@ -70,61 +83,96 @@ fn agrees(alloc: Global, report: &Report, expected: &str) -> Result<bool, Fail> 
     )
 }
 
-fn claimed(alloc: Global, program: &Program, claim: Claim, why: Open) -> Result<Report, Fail> {
-    let report = report(alloc, program, 1, claim, Place::Cost(7), why, 9)?;
-    Ok(report)
-}
-
-/// Whether a row of `ENDS` is so.
-fn ends_so(alloc: Global, cover: &Program, line: &str) -> Result<bool, Fail> {
-    let (first, rest) = line.split_once('|').ok_or("no dual")?;
-    let (second, expected) = rest.split_once('|').ok_or("no answer")?;
-    let policy = listed(alloc, first)?;
-    let dual = listed(alloc, second)?;
-    let report = claimed(alloc, cover, Claim::Ends { policy, dual }, Open::Solves(3))?;
+/// Whether the report of a claim is so.
+fn is_claimed_so(
+    alloc: Global,
+    cover: &Program,
+    claim: Claim,
+    why: Open,
+    expected: &str,
+) -> Result<bool, Fail> {
+    let report = report(alloc, cover, 1, claim, Place::Cost(7), why, 9)?;
     agrees(alloc, &report, expected)
 }
 
-/// Whether a row of `RAYS` is so.
-fn ray_ends_so(alloc: Global, cover: &Program, line: &str) -> Result<bool, Fail> {
-    let (first, expected) = line.split_once('|').ok_or("no answer")?;
-    let ray = values(alloc, first)?;
-    let report = claimed(alloc, cover, Claim::Nowhere { ray }, Open::Solves(3))?;
-    agrees(alloc, &report, expected)
+/// A policy and a dual, each of which may be wanting.
+fn ends(alloc: Global, lists: &str) -> Result<Claim, Fail> {
+    let (policy, dual) = lists.split_once('|').ok_or("no dual")?;
+    let policy = listed(alloc, policy)?;
+    let dual = listed(alloc, dual)?;
+    Ok(Claim::Ends { policy, dual })
 }
 
-/// Whether a row of `DIRECTIONS` is so.
-fn direction_ends_so(alloc: Global, cover: &Program, line: &str) -> Result<bool, Fail> {
-    let (first, rest) = line.split_once('|').ok_or("no direction")?;
-    let (second, expected) = rest.split_once('|').ok_or("no answer")?;
-    let policy = values(alloc, first)?;
-    let direction = values(alloc, second)?;
-    let report = claimed(
-        alloc,
-        cover,
-        Claim::Endless { policy, direction },
-        Open::Solves(3),
-    )?;
-    agrees(alloc, &report, expected)
+/// A policy and a direction.
+fn endless(alloc: Global, lists: &str) -> Result<Claim, Fail> {
+    let (policy, direction) = lists.split_once('|').ok_or("no direction")?;
+    let policy = values(alloc, policy)?;
+    let direction = values(alloc, direction)?;
+    Ok(Claim::Endless { policy, direction })
+}
+
+/// What the lists of a row claim.
+fn claim_of(alloc: Global, table: Table, lists: &str) -> Result<Claim, Fail> {
+    match table {
+        Table::Ends => ends(alloc, lists),
+        Table::Rays => {
+            let ray = values(alloc, lists)?;
+            Ok(Claim::Nowhere { ray })
+        }
+        Table::Directions => endless(alloc, lists),
+    }
+}
+
+/// A row of a table holds.
+fn is_row(
+    rt: &impl Abort,
+    alloc: Global,
+    cover: &Program,
+    table: Table,
+    row: &str,
+) -> Result<(), Fail> {
+    let (lists, expected) = row.rsplit_once('|').ok_or("no answer")?;
+    let claim = claim_of(alloc, table, lists)?;
+    let is_so = is_claimed_so(alloc, cover, claim, Open::Solves(3), expected)?;
+    expect_row(rt, is_so, row);
+    Ok(())
+}
+
+/// The rows of a table hold.
+fn check_table(
+    rt: &impl Abort,
+    alloc: Global,
+    cover: &Program,
+    table: Table,
+    rows: &str,
+) -> Result<(), Fail> {
+    for row in rows.lines() {
+        is_row(rt, alloc, cover, table, row)?;
+    }
+    Ok(())
+}
+
+/// The rows of all tables hold.
+fn check_tables(rt: &impl Abort, alloc: Global, cover: &Program) -> Result<(), Fail> {
+    check_table(rt, alloc, cover, Table::Ends, ENDS)?;
+    check_table(rt, alloc, cover, Table::Rays, RAYS)?;
+    check_table(rt, alloc, cover, Table::Directions, DIRECTIONS)
 }
 
 #[test]
 fn claims_on_a_tree(rt: HostRuntime) -> Result<(), Fail> {
     let cover = cover(rt.alloc())?;
-    for line in ENDS.lines() {
-        assert!(rt; ends_so(rt.alloc(), &cover, line)?, "{line}");
-    }
-    for line in RAYS.lines() {
-        assert!(rt; ray_ends_so(rt.alloc(), &cover, line)?, "{line}");
-    }
-    for line in DIRECTIONS.lines() {
-        assert!(rt; direction_ends_so(rt.alloc(), &cover, line)?, "{line}");
-    }
-    Ok(())
+    check_tables(&rt, rt.alloc(), &cover)
 }
 
-/// What is claimed where the sum of a number with itself is told to pass.
-fn told(alloc: Global, cover: &Program, number: Frac) -> Result<Report, Fail> {
+/// Where the sum of a number with itself is told to pass, the report of no lists is so.
+fn is_told_so(
+    rt: &impl Abort,
+    alloc: Global,
+    cover: &Program,
+    number: Frac,
+    expected: &str,
+) -> Result<(), Fail> {
     let passed = Passed {
         a: number,
         b: number,
@@ -134,27 +182,25 @@ fn told(alloc: Global, cover: &Program, number: Frac) -> Result<Report, Fail> {
         policy: None,
         dual: None,
     };
-    claimed(alloc, cover, none, Open::Passed(Place::Solve(2), passed))
-}
-
-/// An operation that is told is answered so.
-fn is_told_so(
-    rt: &impl Abort,
-    alloc: Global,
-    cover: &Program,
-    number: Frac,
-    expected: &str,
-) -> Result<(), Fail> {
-    let report = told(alloc, cover, number)?;
-    assert!(rt; agrees(alloc, &report, expected)?, "{expected}");
+    let why = Open::Passed(Place::Solve(2), passed);
+    expect_row(
+        rt,
+        is_claimed_so(alloc, cover, none, why, expected)?,
+        expected,
+    );
     Ok(())
 }
 
-/// An operation that is told passes: 1 + 1 doesn't, twice 2^127 - 1 does.
+/// 1 + 1 doesn't pass, twice 2^127 - 1 does.
+fn check_told(rt: &impl Abort, alloc: Global, cover: &Program) -> Result<(), Fail> {
+    let large = Frac::new(i128::MAX, 1).ok_or("too wide")?;
+    is_told_so(rt, alloc, cover, Frac::one(), "solves none none")?;
+    is_told_so(rt, alloc, cover, large, "passed none none")
+}
+
+/// An operation that is told passes.
 #[test]
 fn told_operations_pass(rt: HostRuntime) -> Result<(), Fail> {
     let cover = cover(rt.alloc())?;
-    let large = Frac::new(i128::MAX, 1).ok_or("too wide")?;
-    is_told_so(&rt, rt.alloc(), &cover, Frac::one(), "solves none none")?;
-    is_told_so(&rt, rt.alloc(), &cover, large, "passed none none")
+    check_told(&rt, rt.alloc(), &cover)
 }

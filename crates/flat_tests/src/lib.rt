@@ -7,6 +7,8 @@ mod certificates;
 #[cfg(test)]
 mod claims;
 #[cfg(test)]
+mod rows;
+#[cfg(test)]
 mod tests;
 #[cfg(test)]
 mod tree;

@@ -2,23 +2,31 @@
 //! dual of a grid, beside plain sums of whole numbers.
 ghost use Rattle.std.specs.Prelude.{◌<◌, ◌-◌, ◌^◌, length};
 
+use core_defs::Core;
 use frac128::Frac;
 use mps_core::read_core;
-use scen_model::{Program, Values, cost, dual_value, feasible, is_direction, zero_value};
+use scen_model::{Halt, Program, Values, cost, dual_value, feasible, is_direction, zero_value};
 use smps_build::single;
 use std::alloc::Global;
+use std::process::Abort;
 use std::test::Fail;
 
 const MIX: &[u8] =
     b"NAME MIX\nROWS\n N COST\n L LIM1\n L LIM2\nCOLUMNS\n A COST -3 LIM1 1\n A LIM2 1\n B COST -2 LIM1 1\n B LIM2 3\n\
     RHS\n RHS LIM1 4 LIM2 6\nENDATA\n";
 
-fn program(alloc: Global, text: &[u8]) -> Result<Program, Fail>
+/// The program of a core.
+fn one_period(alloc: Global, core: &Core) -> Result<Program, Fail> {
+    let program = single(alloc, core)?;
+    Ok(program)
+}
+
+/// The program of a core file.
+pub(crate) fn program(alloc: Global, text: &[u8]) -> Result<Program, Fail>
     requires { length text.now < 2 ^ 32 - 1 }
 {
     let core = read_core(alloc, text)?;
-    let program = single(alloc, &core)?;
-    Ok(program)
+    one_period(alloc, &core)
 }
 
 fn put(values: &mut Values, index: u32, number: i64) -> Result<(), Fail> {
@@ -36,48 +44,77 @@ fn pair(alloc: Global, first: i64, second: i64) -> Result<Values, Fail> {
     Ok(values)
 }
 
+/// Whether the calls find a point feasible or not, at this cost, and no direction.
+fn is_point(
+    alloc: Global,
+    mix: &Program,
+    point: &Values,
+    meets: bool,
+    costs: Frac,
+) -> Result<bool, Halt> {
+    Ok(
+        feasible(alloc, mix, point)? == meets
+            && cost(alloc, mix, point)? == costs
+            && !is_direction(alloc, mix, point)?,
+    )
+}
+
 /// Whether the calls answer as the plain sums do at a point.
 fn agrees_at_point(alloc: Global, mix: &Program, a: i8, b: i8) -> Result<bool, Fail> {
     let x = i64::from(a);
     let y = i64::from(b);
     let meets = x >= 0 && y >= 0 && x + y <= 4 && x + 3 * y <= 6;
+    let costs = Frac::from_int(-3 * x - 2 * y);
     let point = pair(alloc, x, y)?;
-    let met = feasible(alloc, mix, &point)?;
-    let costs = cost(alloc, mix, &point)?;
-    let falls = is_direction(alloc, mix, &point)?;
-    Ok(met == meets && costs == Frac::from_int(-3 * x - 2 * y) && !falls)
+    Ok(is_point(alloc, mix, &point, meets, costs)?)
 }
 
-/// Whether the calls answer as the plain sums do at a dual.
+/// Whether the calls give a dual this value where it is good, and the same where it is good with all costs 0.
+fn is_dual(
+    alloc: Global,
+    mix: &Program,
+    dual: &Values,
+    good: bool,
+    zero_good: bool,
+    value: Frac,
+) -> Result<bool, Halt> {
+    let want = if good { Some(value) } else { None };
+    let zero_want = if zero_good { Some(value) } else { None };
+    Ok(dual_value(alloc, mix, dual)? == want && zero_value(alloc, mix, dual)? == zero_want)
+}
+
+/// Whether the calls answer as the plain sums do at a dual, where A and B cost no less than its rows are worth to them.
 fn agrees_at_dual(alloc: Global, mix: &Program, a: i8, b: i8) -> Result<bool, Fail> {
     let y = i64::from(a);
     let z = i64::from(b);
+    let of_a = y + z;
+    let of_b = y + 3 * z;
     let signs = y <= 0 && z <= 0;
-    let good = signs && -3 - y - z >= 0 && -2 - y - 3 * z >= 0;
-    let zero_good = signs && -y - z >= 0 && -y - 3 * z >= 0;
-    let value = Some(Frac::from_int(4 * y + 6 * z));
+    let good = signs && of_a <= -3 && of_b <= -2;
+    let zero_good = signs && of_a <= 0 && of_b <= 0;
+    let value = Frac::from_int(4 * y + 6 * z);
     let dual = pair(alloc, y, z)?;
-    let own = dual_value(alloc, mix, &dual)?;
-    let zero = zero_value(alloc, mix, &dual)?;
-    let want = if good { value } else { None };
-    let zero_want = if zero_good { value } else { None };
-    Ok(own == want && zero == zero_want)
+    Ok(is_dual(alloc, mix, &dual, good, zero_good, value)?)
+}
+
+/// Where the calls don't answer so, the test ends, by the numbers of the point or the dual.
+fn expect_at(rt: &impl Abort, is_so: bool, kind: &str, a: i8, b: i8) {
+    assert!(rt; is_so, "at the {kind} {a} {b}");
+}
+
+/// The calls answer as the plain sums do on the whole grid.
+fn check_grid(rt: &impl Abort, alloc: Global, mix: &Program) -> Result<(), Fail> {
+    for a in -4i8..7 {
+        for b in -3i8..4 {
+            expect_at(rt, agrees_at_point(alloc, mix, a, b)?, "point", a, b);
+            expect_at(rt, agrees_at_dual(alloc, mix, a, b)?, "dual", a, b);
+        }
+    }
+    Ok(())
 }
 
 #[test]
 fn calls_beside_plain_sums(rt: HostRuntime) -> Result<(), Fail> {
     let mix = program(rt.alloc(), MIX)?;
-    for a in -4i8..7 {
-        for b in -3i8..4 {
-            assert!(rt;
-                agrees_at_point(rt.alloc(), &mix, a, b)?,
-                "at the point {a} {b}"
-            );
-            assert!(rt;
-                agrees_at_dual(rt.alloc(), &mix, a, b)?,
-                "at the dual {a} {b}"
-            );
-        }
-    }
-    Ok(())
+    check_grid(&rt, rt.alloc(), &mix)
 }

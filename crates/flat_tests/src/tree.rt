@@ -1,9 +1,10 @@
 //! A program on a tree: X costs 1 and is decided first; then a demand of 2 or 6 is seen, each with probability
 //! 1/2, and Y, which costs 3/2, is decided. X and Y together are at least the demand.
+use crate::rows::expect_row;
 use frac128::{Frac, Memory, parse};
 use sample_programs::{COVER, read_source};
 use scen_model::{
-    Kind, Program, Values, cost, derive, dual_value, feasible, fits, is_direction, zero_value,
+    Halt, Kind, Program, Values, cost, derive, dual_value, feasible, fits, is_direction, zero_value,
 };
 use std::alloc::Global;
 use std::process::Abort;
@@ -47,74 +48,86 @@ pub(crate) fn cover(alloc: Global) -> Result<Program, Fail> {
     Ok(read.ok_or("COVER isn't read")?)
 }
 
+/// A node and an index.
+fn place_of(text: &str) -> Result<(u32, u32), Fail> {
+    let (node, index) = text.split_once(' ').ok_or("no index")?;
+    let node = node.parse::<u32>()?;
+    let index = index.parse::<u32>()?;
+    Ok((node, index))
+}
+
+/// Appends the value of a place.
+fn append(values: &mut Values, place: &str, value: &str) -> Result<(), Fail> {
+    let (node, index) = place_of(place)?;
+    let value = parse(value.as_bytes())?;
+    if !values.ends_before(node, index) || value.is_zero() {
+        return Err(Fail::from("values out of order"));
+    }
+    values.push(node, index, value)?;
+    Ok(())
+}
+
 /// The values of a row of a table.
 pub(crate) fn values(alloc: Global, text: &str) -> Result<Values, Fail> {
     let mut values = Values::empty(alloc);
     for item in text.split(',') {
         if let Some((place, value)) = item.rsplit_once(' ') {
-            let (node, index) = place.split_once(' ').ok_or("no index")?;
-            let node = node.parse::<u32>()?;
-            let index = index.parse::<u32>()?;
-            let value = parse(value.as_bytes())?;
-            if !values.ends_before(node, index) || value.is_zero() {
-                return Err(Fail::from("values out of order"));
-            }
-            values.push(node, index, value)?;
+            append(&mut values, place, value)?;
         }
     }
     Ok(values)
 }
 
 /// Whether a point is feasible where finite ends are 0 and absent bounds are -1 and 1.
-fn stays_feasible(alloc: Global, cover: &Program, point: &Values) -> Result<bool, Fail> {
+fn stays_feasible(alloc: Global, cover: &Program, point: &Values) -> Result<bool, Halt> {
     let recession = derive(alloc, cover, Kind::Recession)?;
-    Ok(feasible(alloc, &recession, point)?)
+    feasible(alloc, &recession, point)
 }
 
-/// Whether a point costs nothing in the run without costs.
-fn is_free(alloc: Global, cover: &Program, point: &Values) -> Result<bool, Fail> {
+/// What a point costs in the run without costs.
+fn cost_without_costs(alloc: Global, cover: &Program, point: &Values) -> Result<Frac, Halt> {
     let free = derive(alloc, cover, Kind::Feasible)?;
-    Ok(cost(alloc, &free, point)?.is_zero())
+    cost(alloc, &free, point)
 }
 
 /// What the calls say of a point that fits.
-fn described(alloc: Global, cover: &Program, point: &Values) -> Result<Vec<u8>, Fail> {
+fn point_line(alloc: Global, meets: bool, costs: Frac, stays: bool) -> Result<Vec<u8>, Memory> {
     let mut line = b"fit ".to_vec(alloc)?;
-    line.extend_from_slice(if feasible(alloc, cover, point)? {
-        b"feasible "
-    } else {
-        b"short "
-    })?;
-    frac128::print(alloc, cost(alloc, cover, point)?, &mut line)?;
-    line.extend_from_slice(if stays_feasible(alloc, cover, point)? {
-        b" yes"
-    } else {
-        b" no"
-    })?;
+    line.extend_from_slice(if meets { b"feasible " } else { b"short " })?;
+    frac128::print(alloc, costs, &mut line)?;
+    line.extend_from_slice(if stays { b" yes" } else { b" no" })?;
     Ok(line)
 }
 
-/// Whether the calls answer so of a point.
+/// Whether the calls say so of a point that fits.
+fn is_described(
+    alloc: Global,
+    cover: &Program,
+    point: &Values,
+    expected: &str,
+) -> Result<bool, Halt> {
+    let meets = feasible(alloc, cover, point)?;
+    let costs = cost(alloc, cover, point)?;
+    let stays = stays_feasible(alloc, cover, point)?;
+    let line = point_line(alloc, meets, costs, stays)?;
+    Ok(line.as_slice() == expected.as_bytes())
+}
+
+/// Whether the calls answer so of a point that fits.
 fn agrees_at_point(
     alloc: Global,
     cover: &Program,
-    text: &str,
+    point: &Values,
     expected: &str,
-) -> Result<bool, Fail> {
-    let point = values(alloc, text)?;
-    if !fits(cover, &point, false) {
-        return Ok(expected == "stray");
-    }
-    let line = described(alloc, cover, &point)?;
-    Ok(
-        line.as_slice() == expected.as_bytes()
-            && is_free(alloc, cover, &point)?
-            && !is_direction(alloc, cover, &point)?,
-    )
+) -> Result<bool, Halt> {
+    let is_so = is_described(alloc, cover, point, expected)?;
+    let free = cost_without_costs(alloc, cover, point)?;
+    let falls = is_direction(alloc, cover, point)?;
+    Ok(is_so && free.is_zero() && !falls)
 }
 
 /// Appends the value of multipliers, behind a blank.
-pub(crate) fn put(alloc: Global, value: Option<Frac>, line: &mut Vec<u8>) -> Result<(), Memory> {
+fn put(alloc: Global, value: Option<Frac>, line: &mut Vec<u8>) -> Result<(), Memory> {
     line.extend_from_slice(b" ")?;
     match value {
         Some(value) => frac128::print(alloc, value, line),
@@ -125,45 +138,98 @@ pub(crate) fn put(alloc: Global, value: Option<Frac>, line: &mut Vec<u8>) -> Res
     }
 }
 
-/// Whether the calls answer so of multipliers.
-fn agrees_at_dual(
+/// A word and two numbers, each of which may be wanting.
+fn line_of(
     alloc: Global,
-    cover: &Program,
-    text: &str,
+    word: &str,
+    first: Option<Frac>,
+    second: Option<Frac>,
+) -> Result<Vec<u8>, Memory> {
+    let mut line = word.as_bytes().to_vec(alloc)?;
+    put(alloc, first, &mut line)?;
+    put(alloc, second, &mut line)?;
+    Ok(line)
+}
+
+/// Whether a word and two numbers, each of which may be wanting, are these.
+pub(crate) fn is_line(
+    alloc: Global,
+    word: &str,
+    first: Option<Frac>,
+    second: Option<Frac>,
     expected: &str,
-) -> Result<bool, Fail> {
-    let dual = values(alloc, text)?;
-    if !fits(cover, &dual, true) {
-        return Ok(expected == "stray");
-    }
-    let mut line = b"fit".to_vec(alloc)?;
-    put(alloc, dual_value(alloc, cover, &dual)?, &mut line)?;
-    put(alloc, zero_value(alloc, cover, &dual)?, &mut line)?;
+) -> Result<bool, Memory> {
+    let line = line_of(alloc, word, first, second)?;
     Ok(line.as_slice() == expected.as_bytes())
 }
 
-/// A row of `POINTS` holds.
-fn is_point_row(rt: &impl Abort, alloc: Global, cover: &Program, row: &str) -> Result<(), Fail> {
+/// Whether the calls answer so of multipliers that fit.
+fn agrees_at_dual(
+    alloc: Global,
+    cover: &Program,
+    dual: &Values,
+    expected: &str,
+) -> Result<bool, Halt> {
+    let own = dual_value(alloc, cover, dual)?;
+    let zero = zero_value(alloc, cover, dual)?;
+    Ok(is_line(alloc, "fit", own, zero, expected)?)
+}
+
+/// Whether the calls answer so of a point, or of multipliers.
+fn agrees(
+    alloc: Global,
+    cover: &Program,
+    values: &Values,
+    is_dual: bool,
+    expected: &str,
+) -> Result<bool, Halt> {
+    if !fits(cover, values, is_dual) {
+        return Ok(expected == "stray");
+    }
+    if is_dual {
+        agrees_at_dual(alloc, cover, values, expected)
+    } else {
+        agrees_at_point(alloc, cover, values, expected)
+    }
+}
+
+/// A row of `POINTS` or of `DUALS` holds.
+fn is_row(
+    rt: &impl Abort,
+    alloc: Global,
+    cover: &Program,
+    is_dual: bool,
+    row: &str,
+) -> Result<(), Fail> {
     let (text, expected) = row.split_once('|').ok_or("no answer")?;
-    assert!(rt; agrees_at_point(alloc, cover, text, expected)?, "{row}");
+    let values = values(alloc, text)?;
+    let is_so = agrees(alloc, cover, &values, is_dual, expected)?;
+    expect_row(rt, is_so, row);
     Ok(())
 }
 
-/// A row of `DUALS` holds.
-fn is_dual_row(rt: &impl Abort, alloc: Global, cover: &Program, row: &str) -> Result<(), Fail> {
-    let (text, expected) = row.split_once('|').ok_or("no answer")?;
-    assert!(rt; agrees_at_dual(alloc, cover, text, expected)?, "{row}");
+/// The rows of a table hold.
+fn check_table(
+    rt: &impl Abort,
+    alloc: Global,
+    cover: &Program,
+    is_dual: bool,
+    rows: &str,
+) -> Result<(), Fail> {
+    for row in rows.lines() {
+        is_row(rt, alloc, cover, is_dual, row)?;
+    }
     Ok(())
+}
+
+/// The rows of both tables hold.
+fn check_tables(rt: &impl Abort, alloc: Global, cover: &Program) -> Result<(), Fail> {
+    check_table(rt, alloc, cover, false, POINTS)?;
+    check_table(rt, alloc, cover, true, DUALS)
 }
 
 #[test]
 fn calls_on_a_tree(rt: HostRuntime) -> Result<(), Fail> {
     let cover = cover(rt.alloc())?;
-    for row in POINTS.lines() {
-        is_point_row(&rt, rt.alloc(), &cover, row)?;
-    }
-    for row in DUALS.lines() {
-        is_dual_row(&rt, rt.alloc(), &cover, row)?;
-    }
-    Ok(())
+    check_tables(&rt, rt.alloc(), &cover)
 }
