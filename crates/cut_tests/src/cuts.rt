@@ -1,5 +1,7 @@
 //! Cuts, their repairs and their assemblies.
-use crate::fixtures::{dear_leaf, is_text, leaf_cut, made, root_cut, single, write};
+use crate::fixtures::{
+    dear_leaf, is_count, is_number, is_text, leaf_cut, made, root_cut, single, write,
+};
 use cut_proof::{Cut, CutFault, NodeDatum, SharedCut, Shift, shifted};
 use dual_assemble::{assemble, ground_cut, join_policy};
 use frac128::{Form, FormFault, Frac, Memory, parse, print};
@@ -33,11 +35,6 @@ fn parts(row: &str) -> Result<(&str, &str, &str), Fail> {
     Ok((first, second, expected))
 }
 
-/// What was found is what the row says.
-fn is_found(rt: &impl Abort, found: &[u8], expected: &str, row: &str) {
-    assert_eq!(rt; found, expected.as_bytes(), "{row}");
-}
-
 fn number(alloc: Global, value: Frac) -> Result<Vec<u8>, Memory> {
     let mut out = Vec::new(alloc);
     print(alloc, value, &mut out)?;
@@ -68,13 +65,18 @@ fn cut_text(alloc: Global, made: &Result<Cut, CutFault>) -> Result<Vec<u8>, Fail
     Ok(text)
 }
 
+/// What is made where the row of node 1 is at least `low`.
+fn made_text(rt: &impl Abort, alloc: Global, low: Frac, multiplier: Frac) -> Result<Vec<u8>, Fail> {
+    cut_text(alloc, &made(rt, alloc, low, multiplier)?)
+}
+
 /// A row about a cut holds.
 fn is_made_so(rt: &impl Abort, alloc: Global, row: &str) -> Result<(), Fail> {
     let (low, multiplier, expected) = parts(row)?;
     let low = parse(low.as_bytes())?;
     let multiplier = parse(multiplier.as_bytes())?;
-    let found = cut_text(alloc, &made(rt, alloc, low, multiplier)?)?;
-    is_found(rt, &found, expected, row);
+    let found = made_text(rt, alloc, low, multiplier)?;
+    is_text(rt, &found, expected, row);
     Ok(())
 }
 
@@ -123,7 +125,7 @@ fn is_repaired_so(rt: &impl Abort, alloc: Global, cut: &SharedCut, row: &str) ->
     let (by, version, expected) = parts(row)?;
     let version = if version == "1" { 1 } else { 2 };
     let found = repaired(rt, alloc, cut, parse(by.as_bytes())?, version)?;
-    is_found(rt, &found, expected, row);
+    is_text(rt, &found, expected, row);
     Ok(())
 }
 
@@ -143,8 +145,8 @@ fn repairs(rt: HostRuntime) -> Result<(), Fail> {
 
 /// The one value is this number at this row or column of node 1.
 fn is_lone(rt: &impl Abort, values: &Values, place: u32, value: Frac) {
-    assert_eq!(rt; values.items().len(), 1);
-    assert_eq!(rt; values.get(1, place as u64), value);
+    is_count(rt, values.items().len() as u64, 1, "the values");
+    is_number(rt, values.get(1, place as u64), value, "the value");
 }
 
 /// The multiplier of the child's row is 3/2, and there is no other.
@@ -157,15 +159,15 @@ fn has_dual(rt: &impl Abort, alloc: Global, cut: &Cut) -> Result<(), Fail> {
 /// After a repair by 4 the root's cut is worth 6 more.
 fn is_raised(rt: &impl Abort, alloc: Global, cut: &SharedCut) -> Result<(), Fail> {
     let new = repaired(rt, alloc, cut, Frac::from_int(4), 1)?;
-    is_text(rt, &new, "10");
+    is_text(rt, &new, "10", "the repair of the root's cut");
     Ok(())
 }
 
 /// The cut of the root is worth 4, and rests on four versions.
 fn is_of_root(rt: &impl Abort, cut: &Cut) {
-    assert_eq!(rt; cut.constant(), Frac::from_int(4));
-    assert_eq!(rt; cut.form().len(), 0);
-    assert_eq!(rt; cut.support().len(), 4);
+    is_number(rt, cut.constant(), Frac::from_int(4), "the constant");
+    is_count(rt, cut.form().len() as u64, 0, "the coefficients");
+    is_count(rt, cut.support().len() as u64, 4, "the support");
 }
 
 /// What holds of the root's cut.
@@ -206,14 +208,15 @@ fn made_by_dual(rt: &impl Abort, alloc: Global) -> Result<SharedCut, Fail> {
 /// The constant is 9, and the coefficient of X is -3/2.
 fn is_described(rt: &impl Abort, alloc: Global, cut: &Cut) -> Result<(), Fail> {
     let text = described(alloc, cut)?;
-    is_text(rt, &text, "9 -3/2");
+    is_text(rt, &text, "9 -3/2", "the ground cut");
     Ok(())
 }
 
 /// At X = 2 the cut is worth 6.
 fn is_worth_six(rt: &impl Abort, alloc: Global, cut: &Cut) -> Result<(), Fail> {
     let trial = single(rt, alloc, 0, Frac::from_int(2))?;
-    assert_eq!(rt; cut.at(&trial)?, Frac::from_int(6));
+    let worth = cut.at(&trial)?;
+    is_number(rt, worth, Frac::from_int(6), "the worth");
     Ok(())
 }
 

@@ -1,7 +1,4 @@
 // A node with a row X + Y, which costs something for each Y, and a root that decides X.
-ghost use Rattle.std.specs.Prelude.{◌≡◌, IfOk};
-ghost use Rattle.cut_defs.specs.Stored.{source_of};
-
 use cut_proof::{ColumnBounds, Cut, CutFault, CutKind, NodeDatum, Record, Share, SharedCut, Used};
 use frac128::{Form, Frac, Memory, parse, print};
 use scen_defs::NodeRow;
@@ -189,7 +186,17 @@ pub fn write(alloc: Global, value: Frac, out: &mut Vec<u8>) -> Result<(), Memory
     print(alloc, value, out)
 }
 
-/// What was found is what was expected.
-pub fn is_text(rt: &impl Abort, found: &[u8], expected: &str) {
-    assert_eq!(rt; found, expected.as_bytes());
+/// A number that was found is the one that was expected.
+pub fn is_number(rt: &impl Abort, found: Frac, expected: Frac, name: &str) {
+    assert_eq!(rt; found, expected, "{name}");
+}
+
+/// As many were found as were expected.
+pub fn is_count(rt: &impl Abort, found: u64, expected: u64, name: &str) {
+    assert_eq!(rt; found, expected, "{name}");
+}
+
+/// What was found is what was expected of a row.
+pub fn is_text(rt: &impl Abort, found: &[u8], expected: &str, row: &str) {
+    assert_eq!(rt; found, expected.as_bytes(), "{row}");
 }

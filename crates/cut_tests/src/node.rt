@@ -90,7 +90,7 @@ fn write_solved(alloc: Global, solved: &Solved, out: &mut Vec<u8>) -> Result<(),
 fn is_told(rt: &impl Abort, alloc: Global, solved: &Solved, expected: &str) -> Result<(), Fail> {
     let mut told = Vec::new(alloc);
     write_solved(alloc, solved, &mut told)?;
-    is_text(rt, &told, expected);
+    is_text(rt, &told, expected, expected);
     Ok(())
 }
 

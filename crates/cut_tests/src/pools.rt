@@ -1,5 +1,5 @@
 //! What a pool of node 1 answers.
-use crate::fixtures::{leaf_cut, single};
+use crate::fixtures::{is_count, is_number, leaf_cut, single};
 use cut_defs::{Part, Shift, Touch};
 use cut_pool::{Copied, Offer, Pool, may_sweep};
 use cut_proof::{Cut, SharedCut};
@@ -41,7 +41,7 @@ fn is_added(rt: &impl Abort, pool: &mut Pool, cut: &SharedCut, trial: &Form) -> 
 /// The answer that a cut isn't needed, where the pool's best is worth `worth`.
 fn is_of_best(rt: &impl Abort, offer: &Offer, worth: i64) -> Result<(), Fail> {
     match offer {
-        Offer::NotNeeded(best) => assert_eq!(rt; *best, Frac::from_int(worth)),
+        Offer::NotNeeded(best) => is_number(rt, *best, Frac::from_int(worth), "the best"),
         _ => return Err(Fail::from("it is needed")),
     }
     Ok(())
@@ -76,8 +76,13 @@ fn is_stale(rt: &impl Abort, pool: &mut Pool, cut: &SharedCut, trial: &Form) -> 
 /// One cut, with this constant, of a pool whose number is 2.
 fn is_one(rt: &impl Abort, held: &Copied, constant: i64) {
     assert_eq!(rt; held.cuts.len(), 1);
-    assert_eq!(rt; held.number, 2);
-    assert_eq!(rt; held.cuts[0].cut().constant(), Frac::from_int(constant));
+    is_count(rt, held.number, 2, "the number");
+    is_number(
+        rt,
+        held.cuts[0].cut().constant(),
+        Frac::from_int(constant),
+        "the constant",
+    );
 }
 
 /// The pool holds one cut, with this constant, and its number is 2.
@@ -101,7 +106,7 @@ fn is_added_once(
 /// The pool of node 1 with a cut that an edit repaired, which raises its row's end by 4.
 fn is_repaired(rt: &impl Abort, alloc: Global, pool: &mut Pool, old: &Cut) -> Result<(), Fail> {
     let repaired = swept(rt, alloc, pool, Frac::from_int(4))?;
-    assert_eq!(rt; repaired, 1);
+    is_count(rt, repaired, 1, "the repaired cuts");
     holds_one(rt, alloc, pool, 15)?;
     assert!(rt; !pool.is_fresh(old));
     Ok(())
@@ -139,9 +144,9 @@ fn is_offered(rt: &impl Abort, alloc: Global, pool: &mut Pool) -> Result<(), Fai
 /// An edit that raises the row's end by 15E37 repairs no cut and leaves none.
 fn is_emptied(rt: &impl Abort, alloc: Global, pool: &mut Pool) -> Result<(), Fail> {
     let repaired = swept(rt, alloc, pool, parse(b"15E37")?)?;
-    assert_eq!(rt; repaired, 0);
+    is_count(rt, repaired, 0, "the repaired cuts");
     let held = pool.read(alloc)?;
-    assert_eq!(rt; held.cuts.len(), 0);
+    is_count(rt, held.cuts.len() as u64, 0, "the cuts that are left");
     Ok(())
 }
 
