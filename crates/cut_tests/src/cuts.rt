@@ -163,46 +163,43 @@ fn is_raised(rt: &impl Abort, alloc: Global, cut: &SharedCut) -> Result<(), Fail
     Ok(())
 }
 
-/// The cut of the root is worth 4, and rests on four versions.
-fn is_of_root(rt: &impl Abort, cut: &Cut) {
+/// The cut of the root is worth 4 and rests on four versions, and what is made of it.
+fn is_of_root(rt: &impl Abort, alloc: Global, shared: &SharedCut) -> Result<(), Fail> {
+    let cut = shared.cut();
     is_number(rt, cut.constant(), Frac::from_int(4), "the constant");
     is_count(rt, cut.form().len() as u64, 0, "the coefficients");
     is_count(rt, cut.support().len() as u64, 4, "the support");
-}
-
-/// What holds of the root's cut.
-fn is_used_cut(rt: &impl Abort, alloc: Global, cut: &SharedCut) -> Result<(), Fail> {
-    is_of_root(rt, cut.cut());
-    has_dual(rt, alloc, cut.cut())?;
-    is_raised(rt, alloc, cut)
+    has_dual(rt, alloc, cut)?;
+    is_raised(rt, alloc, shared)
 }
 
 /// At X = 10 the root's cut is worth 9 and -1/2 times 10.
 #[test]
 fn used_cuts(rt: HostRuntime) -> Result<(), Fail> {
     let cut = root_cut(&rt, rt.alloc())?;
-    is_used_cut(&rt, rt.alloc(), &cut)
+    is_of_root(&rt, rt.alloc(), &cut)
 }
 
 /// The dual 3/4 at node 1.
 fn lone_dual(rt: &impl Abort, alloc: Global) -> Result<Values, Fail> {
     let value = parse(b"3/4")?;
+    assert!(rt; !value.is_zero());
     let mut dual = Values::empty(alloc);
-    assert!(rt; dual.ends_before(1, 0) && !value.is_zero());
+    assert!(rt; dual.ends_before(1, 0));
     dual.push(1, 0, value)?;
     Ok(dual)
 }
 
-/// The cut that a dual makes for a node whose total is 1/2.
-fn ground_cut_of(alloc: Global, datum: &NodeDatum, dual: &Values) -> Result<SharedCut, Fail> {
+/// The cut that the dual 3/4 makes for a node whose total is 1/2.
+fn ground_cut_of(rt: &impl Abort, alloc: Global, datum: &NodeDatum) -> Result<SharedCut, Fail> {
     let total = parse(b"1/2")?;
-    Ok(ground_cut(alloc, datum, total, dual, &[])?)
+    let dual = lone_dual(rt, alloc)?;
+    Ok(ground_cut(alloc, datum, total, &dual, &[])?)
 }
 
 /// The cut that the dual 3/4 makes for node 1.
 fn made_by_dual(rt: &impl Abort, alloc: Global) -> Result<SharedCut, Fail> {
-    let dual = lone_dual(rt, alloc)?;
-    ground_cut_of(alloc, &dear_leaf(rt, alloc, Frac::from_int(6))?, &dual)
+    ground_cut_of(rt, alloc, &dear_leaf(rt, alloc, Frac::from_int(6))?)
 }
 
 /// The constant is 9, and the coefficient of X is -3/2.

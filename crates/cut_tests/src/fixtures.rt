@@ -37,22 +37,6 @@ fn rows(rt: &impl Abort, alloc: Global, row: u32, low: Frac) -> Result<Vec<NodeR
     Ok(rows)
 }
 
-/// The bounds of the one column.
-fn bounds(
-    alloc: Global,
-    column: u32,
-    lower: Frac,
-    upper: Option<Frac>,
-) -> Result<Vec<ColumnBounds>, Memory> {
-    let mut bounds = Vec::new(alloc);
-    bounds.push(ColumnBounds {
-        column,
-        lower: Some(lower),
-        upper,
-    })?;
-    Ok(bounds)
-}
-
 /// The one child, which is certain.
 fn only_child(alloc: Global) -> Result<Vec<Share>, Memory> {
     let mut shares = Vec::new(alloc);
@@ -63,17 +47,19 @@ fn only_child(alloc: Global) -> Result<Vec<Share>, Memory> {
     Ok(shares)
 }
 
-/// Node 1 with these rows, whose own column Y has this cost, and is at least 0 and at most `upper`.
-fn leaf_with(
+/// The node whose number is that of its one own column, with this cost of the column.
+fn datum(
     rt: &impl Abort,
     alloc: Global,
-    rows: Vec<NodeRow>,
     cost: Frac,
-    upper: Option<Frac>,
+    own: ColumnBounds,
+    rows: Vec<NodeRow>,
+    shares: Vec<Share>,
 ) -> Result<NodeDatum, Fail> {
-    let bounds = bounds(alloc, 1, Frac::zero(), upper)?;
-    let cost = single(rt, alloc, 1, cost)?;
-    let datum = NodeDatum::try_new(1, 0, 0, cost, rows, bounds, Vec::new(alloc));
+    let mut bounds = Vec::new(alloc);
+    bounds.push(own)?;
+    let cost = single(rt, alloc, own.column as u64, cost)?;
+    let datum = NodeDatum::try_new(own.column, 0, 0, cost, rows, bounds, shares);
     Ok(datum.ok_or("no datum")?)
 }
 
@@ -86,7 +72,13 @@ pub fn leaf(
     cost: Frac,
     upper: Option<Frac>,
 ) -> Result<NodeDatum, Fail> {
-    leaf_with(rt, alloc, rows(rt, alloc, row, low)?, cost, upper)
+    let rows = rows(rt, alloc, row, low)?;
+    let own = ColumnBounds {
+        column: 1,
+        lower: Some(Frac::zero()),
+        upper,
+    };
+    datum(rt, alloc, cost, own, rows, Vec::new(alloc))
 }
 
 /// Node 1, whose row 0 is at least `low`, and whose column costs 3/2.
@@ -103,10 +95,19 @@ pub fn root(
     upper: i64,
 ) -> Result<NodeDatum, Fail> {
     let shares = only_child(alloc)?;
-    let bounds = bounds(alloc, 0, Frac::from_int(lower), Some(Frac::from_int(upper)))?;
-    let cost = single(rt, alloc, 0, Frac::from_int(cost))?;
-    let datum = NodeDatum::try_new(0, 0, 0, cost, Vec::new(alloc), bounds, shares);
-    Ok(datum.ok_or("no datum")?)
+    let own = ColumnBounds {
+        column: 0,
+        lower: Some(Frac::from_int(lower)),
+        upper: Some(Frac::from_int(upper)),
+    };
+    datum(
+        rt,
+        alloc,
+        Frac::from_int(cost),
+        own,
+        Vec::new(alloc),
+        shares,
+    )
 }
 
 /// The record of node 1 with this multiplier of its row.

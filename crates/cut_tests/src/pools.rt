@@ -92,17 +92,6 @@ fn holds_one(rt: &impl Abort, alloc: Global, pool: &Pool, constant: i64) -> Resu
     Ok(())
 }
 
-/// Offers a cut twice: it is added once.
-fn is_added_once(
-    rt: &impl Abort,
-    pool: &mut Pool,
-    cut: &SharedCut,
-    trial: &Form,
-) -> Result<(), Fail> {
-    is_added(rt, pool, cut, trial)?;
-    is_not_needed(rt, pool, cut, trial, 6)
-}
-
 /// The pool of node 1 with a cut that an edit repaired, which raises its row's end by 4.
 fn is_repaired(rt: &impl Abort, alloc: Global, pool: &mut Pool, old: &Cut) -> Result<(), Fail> {
     let repaired = swept(rt, alloc, pool, Frac::from_int(4))?;
@@ -112,7 +101,7 @@ fn is_repaired(rt: &impl Abort, alloc: Global, pool: &mut Pool, old: &Cut) -> Re
     Ok(())
 }
 
-/// What the cut is to a pool at the trial.
+/// What the cut is to an empty pool: offered twice it is added once.
 fn grows_old(
     rt: &impl Abort,
     alloc: Global,
@@ -120,7 +109,8 @@ fn grows_old(
     cut: &SharedCut,
     trial: &Form,
 ) -> Result<(), Fail> {
-    is_added_once(rt, pool, cut, trial)?;
+    is_added(rt, pool, cut, trial)?;
+    is_not_needed(rt, pool, cut, trial, 6)?;
     is_repaired(rt, alloc, pool, cut.cut())?;
     is_stale(rt, pool, cut, trial)
 }
