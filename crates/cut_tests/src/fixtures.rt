@@ -1,9 +1,6 @@
-// A node with the row X + Y, which costs 3/2 for each Y, and a root that decides X, which costs 1 each.
-ghost use Rattle.std.specs.Prelude.{◌≡◌, IfOk};
-ghost use Rattle.cut_defs.specs.Stored.{source_of};
-
-use cut_proof::{ColumnBounds, Cut, CutKind, NodeDatum, Record, Share, SharedCut, Used};
-use frac128::{Form, Frac, Memory, parse};
+// A node with a row X + Y, which costs something for each Y, and a root that decides X.
+use cut_proof::{ColumnBounds, Cut, CutFault, CutKind, NodeDatum, Record, Share, SharedCut, Used};
+use frac128::{Form, Frac, Memory, parse, print};
 use scen_defs::NodeRow;
 use std::alloc::Global;
 use std::process::Abort;
@@ -17,58 +14,104 @@ pub fn single(rt: &impl Abort, alloc: Global, column: u64, value: Frac) -> Resul
     Ok(form)
 }
 
-/// X + Y, at least `low`.
-fn row(rt: &impl Abort, alloc: Global, low: Frac) -> Result<NodeRow, Memory> {
+/// X + Y.
+fn sum(rt: &impl Abort, alloc: Global) -> Result<Form, Memory> {
     let one = Frac::one();
     assert!(rt; !one.is_zero());
     let mut entries = Form::empty(alloc);
     entries.push(0, one)?;
     entries.push(1, one)?;
-    Ok(NodeRow {
-        row: 0,
+    Ok(entries)
+}
+
+/// X + Y, at least `low`.
+fn rows(rt: &impl Abort, alloc: Global, row: u32, low: Frac) -> Result<Vec<NodeRow>, Memory> {
+    let entries = sum(rt, alloc)?;
+    let mut rows = Vec::new(alloc);
+    rows.push(NodeRow {
+        row,
         entries,
         low: Some(low),
         high: None,
-    })
+    })?;
+    Ok(rows)
 }
 
-/// Node 1, whose row is at least `low`. Its own column Y is at least 0.
-pub fn leaf(rt: &impl Abort, alloc: Global, low: Frac) -> Result<NodeDatum, Fail> {
-    let cost = single(rt, alloc, 1, parse(b"3/2")?)?;
-    let rows = vec![in alloc; row(rt, alloc, low)?]?;
-    let bounds = vec![in alloc;
-        ColumnBounds {
-            column: 1,
-            lower: Some(Frac::zero()),
-            upper: None,
-        },
-    ]?;
-    let datum = NodeDatum::try_new(1, 0, 0, cost, rows, bounds, Vec::new(alloc));
+/// The one child, which is certain.
+fn only_child(alloc: Global) -> Result<Vec<Share>, Memory> {
+    let mut shares = Vec::new(alloc);
+    shares.push(Share {
+        child: 1,
+        share: Frac::one(),
+    })?;
+    Ok(shares)
+}
+
+/// The node whose number is that of its one own column, with this cost of the column.
+fn datum(
+    rt: &impl Abort,
+    alloc: Global,
+    cost: Frac,
+    own: ColumnBounds,
+    rows: Vec<NodeRow>,
+    shares: Vec<Share>,
+) -> Result<NodeDatum, Fail> {
+    let mut bounds = Vec::new(alloc);
+    bounds.push(own)?;
+    let cost = single(rt, alloc, own.column as u64, cost)?;
+    let datum = NodeDatum::try_new(own.column, 0, 0, cost, rows, bounds, shares);
     Ok(datum.ok_or("no datum")?)
 }
 
-/// Node 0, whose column X is between 0 and 10, and whose one child is node 1.
-pub fn root(rt: &impl Abort, alloc: Global) -> Result<NodeDatum, Fail> {
-    let cost = single(rt, alloc, 0, Frac::one())?;
-    let bounds = vec![in alloc;
-        ColumnBounds {
-            column: 0,
-            lower: Some(Frac::zero()),
-            upper: Some(Frac::from_int(10)),
-        },
-    ]?;
-    let shares = vec![in alloc;
-        Share {
-            child: 1,
-            share: Frac::one(),
-        },
-    ]?;
-    let datum = NodeDatum::try_new(0, 0, 0, cost, Vec::new(alloc), bounds, shares);
-    Ok(datum.ok_or("no datum")?)
+/// Node 1, whose row is at least `low`. Its own column Y has this cost, and is at least 0 and at most `upper`.
+pub fn leaf(
+    rt: &impl Abort,
+    alloc: Global,
+    row: u32,
+    low: Frac,
+    cost: Frac,
+    upper: Option<Frac>,
+) -> Result<NodeDatum, Fail> {
+    let rows = rows(rt, alloc, row, low)?;
+    let own = ColumnBounds {
+        column: 1,
+        lower: Some(Frac::zero()),
+        upper,
+    };
+    datum(rt, alloc, cost, own, rows, Vec::new(alloc))
+}
+
+/// Node 1, whose row 0 is at least `low`, and whose column costs 3/2.
+pub fn dear_leaf(rt: &impl Abort, alloc: Global, low: Frac) -> Result<NodeDatum, Fail> {
+    leaf(rt, alloc, 0, low, parse(b"3/2")?, None)
+}
+
+/// Node 0, whose column X has this cost and these bounds, and whose one child is node 1.
+pub fn root(
+    rt: &impl Abort,
+    alloc: Global,
+    cost: i64,
+    lower: i64,
+    upper: i64,
+) -> Result<NodeDatum, Fail> {
+    let shares = only_child(alloc)?;
+    let own = ColumnBounds {
+        column: 0,
+        lower: Some(Frac::from_int(lower)),
+        upper: Some(Frac::from_int(upper)),
+    };
+    datum(
+        rt,
+        alloc,
+        Frac::from_int(cost),
+        own,
+        Vec::new(alloc),
+        shares,
+    )
 }
 
 /// The record of node 1 with this multiplier of its row.
-pub fn record(rt: &impl Abort, alloc: Global, multiplier: Frac) -> Result<Record, Memory> {
+fn record(rt: &impl Abort, alloc: Global, multiplier: Frac) -> Result<Record, Memory> {
     Ok(Record {
         node: 1,
         kind: CutKind::Bound,
@@ -79,29 +122,82 @@ pub fn record(rt: &impl Abort, alloc: Global, multiplier: Frac) -> Result<Record
     })
 }
 
-/// The Bound cut of node 1 at 3/2, where its row is at least 6.
-pub fn leaf_cut(rt: &impl Abort, alloc: Global) -> Result<SharedCut, Fail> {
-    let datum = leaf(rt, alloc, Frac::from_int(6))?;
-    let cut = Cut::of(alloc, record(rt, alloc, parse(b"3/2")?)?, &datum)?;
-    Ok(SharedCut::new(alloc, cut)?)
+/// The Bound cut of a leaf with this multiplier of its row, or why there is none.
+fn cut_of(
+    rt: &impl Abort,
+    alloc: Global,
+    datum: &NodeDatum,
+    multiplier: Frac,
+) -> Result<Result<Cut, CutFault>, Fail> {
+    Ok(Cut::of(alloc, record(rt, alloc, multiplier)?, datum))
 }
 
-/// The Bound cut of node 0 that uses a cut of node 1.
-pub fn root_cut(rt: &impl Abort, alloc: Global, used: SharedCut) -> Result<SharedCut, Fail> {
-    let datum = root(rt, alloc)?;
-    let source = Record {
+/// The Bound cut of node 1 where its row is at least `low`, or why there is none.
+pub fn made(
+    rt: &impl Abort,
+    alloc: Global,
+    low: Frac,
+    multiplier: Frac,
+) -> Result<Result<Cut, CutFault>, Fail> {
+    cut_of(rt, alloc, &dear_leaf(rt, alloc, low)?, multiplier)
+}
+
+/// A cut that is made.
+fn shared(alloc: Global, made: Result<Cut, CutFault>) -> Result<SharedCut, Fail> {
+    Ok(SharedCut::new(alloc, made?)?)
+}
+
+/// The Bound cut of node 1 at 3/2, where its row is at least 6.
+pub fn leaf_cut(rt: &impl Abort, alloc: Global) -> Result<SharedCut, Fail> {
+    let multiplier = parse(b"3/2")?;
+    shared(alloc, made(rt, alloc, Frac::from_int(6), multiplier)?)
+}
+
+/// The record of node 0 that uses this cut.
+fn root_record(alloc: Global, cut: SharedCut) -> Result<Record, Memory> {
+    let mut used = Vec::new(alloc);
+    used.push(Used {
+        weight: Frac::one(),
+        cut,
+    })?;
+    Ok(Record {
         node: 0,
         kind: CutKind::Bound,
         rows_version: 0,
         costs_version: 0,
         multipliers: Form::empty(alloc),
-        used: vec![in alloc;
-            Used {
-                weight: Frac::one(),
-                cut: used,
-            },
-        ]?,
-    };
-    let cut = Cut::of(alloc, source, &datum)?;
-    Ok(SharedCut::new(alloc, cut)?)
+        used,
+    })
+}
+
+/// The Bound cut of this root that uses the cut of node 1.
+fn root_cut_of(rt: &impl Abort, alloc: Global, datum: &NodeDatum) -> Result<SharedCut, Fail> {
+    let record = root_record(alloc, leaf_cut(rt, alloc)?)?;
+    shared(alloc, Cut::of(alloc, record, datum))
+}
+
+/// The Bound cut that uses the cut of node 1, of node 0 whose column X costs 1 and is between 0 and 10.
+pub fn root_cut(rt: &impl Abort, alloc: Global) -> Result<SharedCut, Fail> {
+    root_cut_of(rt, alloc, &root(rt, alloc, 1, 0, 10)?)
+}
+
+/// Appends a number behind a blank.
+pub fn write(alloc: Global, value: Frac, out: &mut Vec<u8>) -> Result<(), Memory> {
+    out.extend_from_slice(b" ")?;
+    print(alloc, value, out)
+}
+
+/// A number that was found is the one that was expected.
+pub fn is_number(rt: &impl Abort, found: Frac, expected: Frac, name: &str) {
+    assert_eq!(rt; found, expected, "{name}");
+}
+
+/// As many were found as were expected.
+pub fn is_count(rt: &impl Abort, found: u64, expected: u64, name: &str) {
+    assert_eq!(rt; found, expected, "{name}");
+}
+
+/// What was found is what was expected of a row.
+pub fn is_text(rt: &impl Abort, found: &[u8], expected: &str, row: &str) {
+    assert_eq!(rt; found, expected.as_bytes(), "{row}");
 }

@@ -1,86 +1,46 @@
 //! A node with one child, worked by hand: the child's column y costs 1, and x + y is at least 5.
-ghost use Rattle.std.specs.Prelude.{◌≡◌, ◌<◌, ◌^◌, length};
-
-use cut_defs::{ColumnBounds, Share};
-use cut_proof::{ChildCuts, NodeDatum, SharedCut, push_nonzero};
-use frac128::{Form, Frac, Memory, print};
+use crate::fixtures::{is_text, leaf, root, single, write};
+use cut_proof::{ChildCuts, SharedCut};
+use frac128::{Form, Frac, Memory};
 use node_lp::{Solved, Task, fits, solve_node};
-use scen_defs::{Kind, NodeRow};
+use scen_defs::Kind;
 use std::alloc::Global;
 use std::process::Abort;
 use std::test::Fail;
 
-/// The form with these numbers in columns 0, 1 and so on.
-fn form(alloc: Global, values: &[i64]) -> Result<Form, Memory> {
-    let mut form = Form::empty(alloc);
-    for (column, value) in values.iter().enumerate() {
-        push_nonzero(&mut form, column as u64, Frac::from_int(*value))?;
-    }
-    Ok(form)
-}
-
-/// A column with two bounds.
-fn bounded(
-    alloc: Global,
-    column: u32,
-    lower: i64,
-    upper: i64,
-) -> Result<Vec<ColumnBounds>, Memory> {
-    let mut bounds = Vec::new(alloc);
-    bounds.push(ColumnBounds {
-        column,
-        lower: Some(Frac::from_int(lower)),
-        upper: Some(Frac::from_int(upper)),
-    })?;
-    Ok(bounds)
-}
-
-/// Node 1: y lies between 0 and `upper`.
-fn child(alloc: Global, upper: i64) -> Result<NodeDatum, Fail> {
-    let mut rows = Vec::new(alloc);
-    rows.push(NodeRow {
-        row: 1,
-        entries: form(alloc, &[1, 1])?,
-        low: Some(Frac::from_int(5)),
-        high: None,
-    })?;
-    let bounds = bounded(alloc, 1, 0, upper)?;
-    let cost = form(alloc, &[0, 1])?;
-    let datum = NodeDatum::try_new(1, 0, 0, cost, rows, bounds, Vec::new(alloc));
-    Ok(datum.ok_or("no datum")?)
-}
-
-/// Node 0: x lies between 1 and 4 and costs 2; its child is certain.
-fn root(alloc: Global) -> Result<NodeDatum, Fail> {
-    let mut shares = Vec::new(alloc);
-    shares.push(Share {
-        child: 1,
-        share: Frac::one(),
-    })?;
-    let bounds = bounded(alloc, 0, 1, 4)?;
-    let cost = form(alloc, &[2])?;
-    let datum = NodeDatum::try_new(0, 0, 0, cost, Vec::new(alloc), bounds, shares);
-    Ok(datum.ok_or("no datum")?)
-}
-
 /// Solves a node's program.
-fn solved(
-    rt: &impl Abort,
-    alloc: Global,
-    kind: Kind,
-    datum: NodeDatum,
-    trial: &[i64],
-    children: Vec<ChildCuts>,
-) -> Result<Solved, Fail> {
+fn solved(rt: &impl Abort, alloc: Global, task: &Task) -> Result<Solved, Fail> {
+    assert!(rt; fits(task));
+    Ok(solve_node(alloc, task)?)
+}
+
+/// The solve of node 1 at x = 2, where y lies between 0 and `upper`.
+fn child_solved(rt: &impl Abort, alloc: Global, upper: i64) -> Result<Solved, Fail> {
+    let trial = single(rt, alloc, 0, Frac::from_int(2))?;
+    let upper = Some(Frac::from_int(upper));
+    let datum = leaf(rt, alloc, 1, Frac::from_int(5), Frac::one(), upper)?;
+    let task = Task {
+        kind: Kind::Cost,
+        datum,
+        trial,
+        children: Vec::new(alloc),
+        pivots: 100,
+    };
+    solved(rt, alloc, &task)
+}
+
+/// The solve of node 0 in a run of this kind: x lies between 1 and 4 and costs 2; its child is certain.
+fn root_solved(rt: &impl Abort, alloc: Global, kind: Kind) -> Result<Solved, Fail> {
+    let datum = root(rt, alloc, 2, 1, 4)?;
+    let children = children(rt, alloc)?;
     let task = Task {
         kind,
         datum,
-        trial: form(alloc, trial)?,
+        trial: Form::empty(alloc),
         children,
         pivots: 100,
     };
-    assert!(rt; fits(&task));
-    Ok(solve_node(alloc, &task)?)
+    solved(rt, alloc, &task)
 }
 
 /// The cut that is told.
@@ -96,12 +56,6 @@ fn cut_of(solved: Solved) -> Option<SharedCut> {
     }
 }
 
-/// Appends a number behind a blank.
-fn write(alloc: Global, value: Frac, out: &mut Vec<u8>) -> Result<(), Memory> {
-    out.extend_from_slice(b" ")?;
-    print(alloc, value, out)
-}
-
 /// Appends a form over two columns.
 fn write_form(alloc: Global, form: &Form, out: &mut Vec<u8>) -> Result<(), Memory> {
     write(alloc, form.get(0), out)?;
@@ -115,22 +69,29 @@ fn write_cut(alloc: Global, cut: &SharedCut, out: &mut Vec<u8>) -> Result<(), Me
     write_form(alloc, cut.cut().form(), out)
 }
 
-/// What is told, as a text.
-fn text(alloc: Global, solved: &Solved) -> Result<Vec<u8>, Memory> {
-    let mut out = Vec::new(alloc);
+/// Appends what is told of a solve.
+fn write_solved(alloc: Global, solved: &Solved, out: &mut Vec<u8>) -> Result<(), Memory> {
     match solved {
         Solved::Point { point, value, cut } => {
             out.extend_from_slice(b"point")?;
-            write_form(alloc, point, &mut out)?;
-            write(alloc, *value, &mut out)?;
+            write_form(alloc, point, out)?;
+            write(alloc, *value, out)?;
             if let Some(cut) = cut {
-                write_cut(alloc, cut, &mut out)?;
+                write_cut(alloc, cut, out)?;
             }
         }
-        Solved::NoPoint { cut } => write_cut(alloc, cut, &mut out)?,
+        Solved::NoPoint { cut } => write_cut(alloc, cut, out)?,
         _ => out.extend_from_slice(b"another end")?,
     }
-    Ok(out)
+    Ok(())
+}
+
+/// What is told of a solve.
+fn is_told(rt: &impl Abort, alloc: Global, solved: &Solved, expected: &str) -> Result<(), Fail> {
+    let mut told = Vec::new(alloc);
+    write_solved(alloc, solved, &mut told)?;
+    is_text(rt, &told, expected, expected);
+    Ok(())
 }
 
 /// The cut that node 1 makes at x = 2 where y is at most `upper`, after a look at what is told of its solve.
@@ -140,25 +101,16 @@ fn child_cut(
     upper: i64,
     expected: &str,
 ) -> Result<SharedCut, Fail> {
-    let child = child(alloc, upper)?;
-    let found = solved(rt, alloc, Kind::Cost, child, &[2], Vec::new(alloc))?;
+    let found = child_solved(rt, alloc, upper)?;
     is_told(rt, alloc, &found, expected)?;
     Ok(cut_of(found).ok_or("no cut")?)
 }
 
-/// What is told of a solve.
-fn is_told(rt: &impl Abort, alloc: Global, solved: &Solved, expected: &str) -> Result<(), Fail> {
-    let told = text(alloc, solved)?;
-    assert_eq!(rt; told.as_slice(), expected.as_bytes());
-    Ok(())
-}
-
-/// The children of node 0: the cuts that node 1 makes at x = 2, where y is at most 10 and where it is at most 1.
-fn children(rt: &impl Abort, alloc: Global) -> Result<Vec<ChildCuts>, Fail> {
-    let mut cuts = Vec::new(alloc);
+/// Puts the cuts that node 1 makes at x = 2 last, where y is at most 10 and where it is at most 1.
+fn push_child_cuts(rt: &impl Abort, alloc: Global, cuts: &mut Vec<SharedCut>) -> Result<(), Fail> {
     cuts.push(child_cut(rt, alloc, 10, "point 0 3 3 cut 5 -1 0")?)?;
     cuts.push(child_cut(rt, alloc, 1, " cut 4 -1 0")?)?;
-    Ok(one_child(alloc, cuts)?)
+    Ok(())
 }
 
 /// The cuts of node 1.
@@ -168,10 +120,16 @@ fn one_child(alloc: Global, cuts: Vec<SharedCut>) -> Result<Vec<ChildCuts>, Memo
     Ok(children)
 }
 
+/// The children of node 0, with both cuts.
+fn children(rt: &impl Abort, alloc: Global) -> Result<Vec<ChildCuts>, Fail> {
+    let mut cuts = Vec::new(alloc);
+    push_child_cuts(rt, alloc, &mut cuts)?;
+    Ok(one_child(alloc, cuts)?)
+}
+
 /// What is told of the solve of node 0 in a run of this kind.
 fn root_is_told(rt: &impl Abort, alloc: Global, kind: Kind, expected: &str) -> Result<(), Fail> {
-    let children = children(rt, alloc)?;
-    let found = solved(rt, alloc, kind, root(alloc)?, &[], children)?;
+    let found = root_solved(rt, alloc, kind)?;
     is_told(rt, alloc, &found, expected)
 }
 

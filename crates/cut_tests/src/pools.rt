@@ -1,16 +1,16 @@
 //! What a pool of node 1 answers.
-use crate::fixtures::{leaf_cut, single};
+use crate::fixtures::{is_count, is_number, leaf_cut, single};
 use cut_defs::{Part, Shift, Touch};
-use cut_pool::{Offer, Pool, may_sweep};
+use cut_pool::{Copied, Offer, Pool, may_sweep};
 use cut_proof::{Cut, SharedCut};
 use frac128::{Form, Frac, parse};
 use std::alloc::Global;
 use std::process::Abort;
 use std::test::Fail;
 
-fn offered(rt: &impl Abort, pool: &mut Pool, cut: SharedCut, trial: &Form) -> Result<Offer, Fail> {
+fn offered(rt: &impl Abort, pool: &mut Pool, cut: &SharedCut, trial: &Form) -> Result<Offer, Fail> {
     assert!(rt; cut.cut().node() == pool.node() && pool.number() < u64::MAX);
-    Ok(pool.offer(cut, trial)?)
+    Ok(pool.offer(cut.share()?, trial)?)
 }
 
 /// Sweeps the first edit of the rows of node 1, which raises its end; how many cuts are repaired.
@@ -32,9 +32,18 @@ fn swept(rt: &impl Abort, alloc: Global, pool: &mut Pool, by: Frac) -> Result<u6
 }
 
 /// The cut is added.
-fn is_added(rt: &impl Abort, pool: &mut Pool, cut: SharedCut, trial: &Form) -> Result<(), Fail> {
+fn is_added(rt: &impl Abort, pool: &mut Pool, cut: &SharedCut, trial: &Form) -> Result<(), Fail> {
     let offer = offered(rt, pool, cut, trial)?;
     assert!(rt; matches!(&offer, Offer::Added));
+    Ok(())
+}
+
+/// The answer that a cut isn't needed, where the pool's best is worth `worth`.
+fn is_of_best(rt: &impl Abort, offer: &Offer, worth: i64) -> Result<(), Fail> {
+    match offer {
+        Offer::NotNeeded(best) => is_number(rt, *best, Frac::from_int(worth), "the best"),
+        _ => return Err(Fail::from("it is needed")),
+    }
     Ok(())
 }
 
@@ -42,19 +51,16 @@ fn is_added(rt: &impl Abort, pool: &mut Pool, cut: SharedCut, trial: &Form) -> R
 fn is_not_needed(
     rt: &impl Abort,
     pool: &mut Pool,
-    cut: SharedCut,
+    cut: &SharedCut,
     trial: &Form,
     worth: i64,
 ) -> Result<(), Fail> {
-    match offered(rt, pool, cut, trial)? {
-        Offer::NotNeeded(best) => assert_eq!(rt; best, Frac::from_int(worth)),
-        _ => return Err(Fail::from("it is needed")),
-    }
-    Ok(())
+    let offer = offered(rt, pool, cut, trial)?;
+    is_of_best(rt, &offer, worth)
 }
 
 /// The cut rests on node 1 before its first edit.
-fn is_stale(rt: &impl Abort, pool: &mut Pool, cut: SharedCut, trial: &Form) -> Result<(), Fail> {
+fn is_stale(rt: &impl Abort, pool: &mut Pool, cut: &SharedCut, trial: &Form) -> Result<(), Fail> {
     match offered(rt, pool, cut, trial)? {
         Offer::Stale {
             node,
@@ -67,54 +73,77 @@ fn is_stale(rt: &impl Abort, pool: &mut Pool, cut: SharedCut, trial: &Form) -> R
     Ok(())
 }
 
+/// One cut, with this constant, of a pool whose number is 2.
+fn is_one(rt: &impl Abort, held: &Copied, constant: i64) {
+    assert_eq!(rt; held.cuts.len(), 1);
+    is_count(rt, held.number, 2, "the number");
+    is_number(
+        rt,
+        held.cuts[0].cut().constant(),
+        Frac::from_int(constant),
+        "the constant",
+    );
+}
+
 /// The pool holds one cut, with this constant, and its number is 2.
 fn holds_one(rt: &impl Abort, alloc: Global, pool: &Pool, constant: i64) -> Result<(), Fail> {
     let held = pool.read(alloc)?;
-    assert_eq!(rt; held.cuts.len(), 1);
-    assert_eq!(rt; held.number, 2);
-    assert_eq!(rt; held.cuts[0].cut().constant(), Frac::from_int(constant));
+    is_one(rt, &held, constant);
     Ok(())
-}
-
-/// Offers a cut twice: it is added once.
-fn is_added_once(
-    rt: &impl Abort,
-    pool: &mut Pool,
-    cut: &SharedCut,
-    trial: &Form,
-) -> Result<(), Fail> {
-    is_added(rt, pool, cut.share()?, trial)?;
-    is_not_needed(rt, pool, cut.share()?, trial, 6)
 }
 
 /// The pool of node 1 with a cut that an edit repaired, which raises its row's end by 4.
 fn is_repaired(rt: &impl Abort, alloc: Global, pool: &mut Pool, old: &Cut) -> Result<(), Fail> {
-    assert_eq!(rt; swept(rt, alloc, pool, Frac::from_int(4))?, 1);
+    let repaired = swept(rt, alloc, pool, Frac::from_int(4))?;
+    is_count(rt, repaired, 1, "the repaired cuts");
     holds_one(rt, alloc, pool, 15)?;
     assert!(rt; !pool.is_fresh(old));
     Ok(())
 }
 
+/// What the cut is to an empty pool: offered twice it is added once.
+fn grows_old(
+    rt: &impl Abort,
+    alloc: Global,
+    pool: &mut Pool,
+    cut: &SharedCut,
+    trial: &Form,
+) -> Result<(), Fail> {
+    is_added(rt, pool, cut, trial)?;
+    is_not_needed(rt, pool, cut, trial, 6)?;
+    is_repaired(rt, alloc, pool, cut.cut())?;
+    is_stale(rt, pool, cut, trial)
+}
+
 /// A cut is added once, repaired where an edit raises its row's end by 4, and too old afterwards.
 #[test]
 fn offers_and_sweeps(rt: HostRuntime) -> Result<(), Fail> {
-    let mut pool = Pool::empty(rt.alloc(), 1);
-    let cut = leaf_cut(&rt, rt.alloc())?;
     let trial = single(&rt, rt.alloc(), 0, Frac::from_int(2))?;
-    is_added_once(&rt, &mut pool, &cut, &trial)?;
-    is_repaired(&rt, rt.alloc(), &mut pool, cut.cut())?;
-    is_stale(&rt, &mut pool, cut, &trial)
+    let cut = leaf_cut(&rt, rt.alloc())?;
+    let mut pool = Pool::empty(rt.alloc(), 1);
+    grows_old(&rt, rt.alloc(), &mut pool, &cut, &trial)
+}
+
+/// Offers the cut of node 1 where every column before it is 0.
+fn is_offered(rt: &impl Abort, alloc: Global, pool: &mut Pool) -> Result<(), Fail> {
+    let cut = leaf_cut(rt, alloc)?;
+    offered(rt, pool, &cut, &Form::empty(alloc))?;
+    Ok(())
+}
+
+/// An edit that raises the row's end by 15E37 repairs no cut and leaves none.
+fn is_emptied(rt: &impl Abort, alloc: Global, pool: &mut Pool) -> Result<(), Fail> {
+    let repaired = swept(rt, alloc, pool, parse(b"15E37")?)?;
+    is_count(rt, repaired, 0, "the repaired cuts");
+    let held = pool.read(alloc)?;
+    is_count(rt, held.cuts.len() as u64, 0, "the cuts that are left");
+    Ok(())
 }
 
 /// Where the repair's product doesn't fit, the cut goes.
 #[test]
 fn a_cut_goes(rt: HostRuntime) -> Result<(), Fail> {
-    let alloc = rt.alloc();
-    let mut pool = Pool::empty(alloc, 1);
-    let cut = leaf_cut(&rt, alloc)?;
-    let trial = Form::empty(alloc);
-    offered(&rt, &mut pool, cut, &trial)?;
-    assert_eq!(rt; swept(&rt, alloc, &mut pool, parse(b"15E37")?)?, 0);
-    assert_eq!(rt; pool.read(alloc)?.cuts.len(), 0);
-    Ok(())
+    let mut pool = Pool::empty(rt.alloc(), 1);
+    is_offered(&rt, rt.alloc(), &mut pool)?;
+    is_emptied(&rt, rt.alloc(), &mut pool)
 }

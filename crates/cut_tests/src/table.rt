@@ -1,6 +1,6 @@
 //! A tree of three nodes, by hand.
 use pass_table::{Reading, Table, are_within};
-use std::alloc::Global;
+use std::alloc::{AllocError, Global};
 use std::process::Abort;
 use std::test::Fail;
 
@@ -43,42 +43,56 @@ fn read(first: u64, second: u64) -> [Reading; 2] {
     ]
 }
 
-fn answers(table: &Table) -> (bool, bool) {
-    (table.is_closed(), table.is_complete())
+/// A worker begins this node, or none.
+fn begins(rt: &impl Abort, table: &mut Table, worker: u32, node: Option<u32>, step: &str) {
+    assert_eq!(rt; begin(table, worker), node, "{step}");
+}
+
+/// Whether the run is closed, and whether it is complete.
+fn answers(rt: &impl Abort, table: &Table, expected: (bool, bool), step: &str) {
+    assert_eq!(rt;
+        (table.is_closed(), table.is_complete()),
+        expected,
+        "{step}"
+    );
 }
 
 /// The root and its children once each: with an offer of node 1 added, the run is complete and isn't closed.
 fn first_round(rt: &impl Abort, table: &mut Table) {
-    assert_eq!(rt; begin(table, 0), Some(0));
-    assert_eq!(rt; begin(table, 1), None);
+    begins(rt, table, 0, Some(0), "the root");
+    begins(rt, table, 1, None, "nothing beside the root");
     commit(table, 0, &[0, 0, 0], &read(0, 0), true);
-    assert_eq!(rt; begin(table, 0), Some(1));
-    assert_eq!(rt; begin(table, 1), Some(2));
+    begins(rt, table, 0, Some(1), "node 1");
+    begins(rt, table, 1, Some(2), "node 2");
     commit(table, 0, &[0, 0, 0], &[], true);
     raise(table, 1);
-    assert_eq!(rt; answers(table), (false, false));
+    answers(rt, table, (false, false), "node 2 is in flight");
     commit(table, 1, &[0, 1, 0], &[], true);
-    assert_eq!(rt; answers(table), (false, true));
+    answers(rt, table, (false, true), "each node once");
 }
 
 /// The root again: its children are stale, and solved again they leave the run closed.
 fn second_round(rt: &impl Abort, table: &mut Table) {
-    assert_eq!(rt; begin(table, 1), Some(0));
+    begins(rt, table, 1, Some(0), "the root again");
     commit(table, 1, &[0, 1, 0], &read(1, 0), true);
-    assert_eq!(rt; answers(table), (false, false));
-    assert_eq!(rt; begin(table, 0), Some(1));
-    assert_eq!(rt; begin(table, 1), Some(2));
+    answers(rt, table, (false, false), "the root twice");
+    begins(rt, table, 0, Some(1), "node 1 again");
+    begins(rt, table, 1, Some(2), "node 2 again");
     commit(table, 1, &[0, 1, 0], &[], true);
     commit(table, 0, &[0, 1, 0], &[], true);
-    assert_eq!(rt; answers(table), (true, true));
-    assert_eq!(rt; begin(table, 0), None);
+    answers(rt, table, (true, true), "each node twice");
+    begins(rt, table, 0, None, "nothing more");
+}
+
+/// The table of a root with two children, for two workers.
+fn start(alloc: Global) -> Result<Table, AllocError> {
+    let parents = vec![in alloc; 0u32; 3]?;
+    Table::start(alloc, parents, 2)
 }
 
 #[test]
 fn three_nodes(rt: HostRuntime) -> Result<(), Fail> {
-    let alloc = rt.alloc();
-    let parents = vec![in alloc; 0u32; 3]?;
-    let mut table = Table::start(alloc, parents, 2)?;
+    let mut table = start(rt.alloc())?;
     first_round(&rt, &mut table);
     second_round(&rt, &mut table);
     Ok(())

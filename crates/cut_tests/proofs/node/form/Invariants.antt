@@ -1,5 +1,0 @@
-use Rattle.rationals.specs.Forms.{EndsBelow}
-use Rattle.cut_tests.proofs.node.form.Given as goal
-
-abbrev pub invariant-loop-column : goal.invariant-loop-column
-invariant-loop-column l = EndsBelow l.column l.form
