@@ -55,13 +55,18 @@ fn add_sample(
     add_file(alloc, files, "S", sample.stoch.as_bytes())
 }
 
-/// Adds the files of pieces with a line that has a bar between them: each a file, or the name of a sample.
+/// Adds a file, or the files of the sample with this name.
+fn add_given(alloc: Global, files: &mut Vec<(String, Vec<u8>)>, piece: &str) -> Result<(), Memory> {
+    match named(piece) {
+        Some(sample) => add_sample(alloc, files, sample),
+        None => add_piece(alloc, files, piece),
+    }
+}
+
+/// Adds the files of pieces with a line that has a bar between them.
 fn add_files(alloc: Global, files: &mut Vec<(String, Vec<u8>)>, given: &str) -> Result<(), Memory> {
     for piece in given.split("\n|\n") {
-        match named(piece) {
-            Some(sample) => add_sample(alloc, files, sample)?,
-            None => add_piece(alloc, files, piece)?,
-        }
+        add_given(alloc, files, piece)?;
     }
     Ok(())
 }
@@ -75,26 +80,41 @@ pub fn files_of(alloc: Global, given: Option<&str>) -> Result<Vec<(String, Vec<u
     Ok(files)
 }
 
-/// A run that is stated so: its words, a bar and its status, and behind another bar the call at which the sink fails; then its files, each
-/// a line with its name and then its text, or the name of a sample, whose files are C, T and S; and what it writes. Between them stands a
-/// line with a bar. Of two files with a name the first one counts.
-pub fn case_of(text: &str) -> Option<Case<'_>> {
-    let (head, parts) = text.split_once('\n')?;
-    let (words, status) = head.split_once('|')?;
-    let (status, closed) = match status.split_once('|') {
+/// The number of the status, and the call at which the sink fails.
+fn end_of(status: &str) -> (&str, u64) {
+    match status.split_once('|') {
         Some((status, "1")) => (status, 1),
         Some((status, _)) => (status, 2),
         None => (status, 0),
-    };
-    let (files, output) = match parts.rsplit_once("\n|\n") {
+    }
+}
+
+/// The files and the output.
+fn parts_of(parts: &str) -> (Option<&str>, &str) {
+    match parts.rsplit_once("\n|\n") {
         Some((files, output)) => (Some(files), output),
         None => (None, parts),
-    };
-    Some(Case {
+    }
+}
+
+/// A run with these words, its end and its parts.
+fn case_with<'a>(words: &'a str, end: &'a str, parts: &'a str) -> Case<'a> {
+    let (status, closed) = end_of(end);
+    let (files, output) = parts_of(parts);
+    Case {
         words,
         status,
         closed,
         files,
         output,
-    })
+    }
+}
+
+/// A run that is stated so: its words, a bar and its status, and behind another bar the call at which the sink fails; then its files, each
+/// a line with its name and then its text, or the name of a sample, whose files are C, T and S; and what it writes. Between them stands a
+/// line with a bar. Of two files with a name the first one counts.
+pub fn case_of(text: &str) -> Option<Case<'_>> {
+    let (head, parts) = text.split_once('\n')?;
+    let (words, end) = head.split_once('|')?;
+    Some(case_with(words, end, parts))
 }

@@ -401,6 +401,11 @@ fn is_status(rt: &impl Abort, alloc: Global, status: Status, wanted: &str) -> Re
     Ok(())
 }
 
+/// An output is the one that is wanted.
+fn is_output(rt: &impl Abort, written: &[u8], wanted: &[u8]) {
+    assert_eq!(rt; written, wanted);
+}
+
 /// A case ends and writes as it states. `Memory` is want of memory, after which the output is a prefix of what it is to be.
 fn is_as_stated(
     rt: &impl Abort,
@@ -414,7 +419,7 @@ fn is_as_stated(
         return Err(Memory);
     }
     is_status(rt, alloc, status, case.status)?;
-    assert_eq!(rt; written, case.output.as_bytes());
+    is_output(rt, written, case.output.as_bytes());
     Ok(())
 }
 
