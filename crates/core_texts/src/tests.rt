@@ -1,6 +1,8 @@
 //! Texts and what reading them gives. A table has texts with a `#` between them; the first line of each is what reading it
 //! gives: the core, or the line at fault and the cause. A table is one text, since each member of an array is a step of the
 //! proof.
+ghost use Rattle.std.specs.Prelude.{◌<◌, ◌-◌, ◌^◌, length};
+
 mod core_line;
 mod cores;
 mod fields;
@@ -42,21 +44,28 @@ fn push_given(
     }
 }
 
+/// Reads a text.
+fn push_outcome(alloc: Global, text: &[u8], line: &mut Vec<u8>) -> Result<(), Memory>
+    requires { length text.now < 2 ^ 32 - 1 }
+{
+    push_given(alloc, &read_core(alloc, text), line)
+}
+
 /// Reads a text, which isn't long.
-fn push_outcome(
+fn push_read(
     rt: &impl Abort,
     alloc: Global,
     text: &[u8],
     line: &mut Vec<u8>,
 ) -> Result<(), Memory> {
     assert!(rt; text.len() < 8_000_000, "a long text");
-    push_given(alloc, &read_core(alloc, text), line)
+    push_outcome(alloc, text, line)
 }
 
 /// Whether reading a text gives this.
 fn is_outcome(rt: &impl Abort, alloc: Global, wanted: &str, text: &[u8]) -> Result<bool, Memory> {
     let mut line = Vec::new(alloc);
-    push_outcome(rt, alloc, text, &mut line)?;
+    push_read(rt, alloc, text, &mut line)?;
     Ok(line.as_slice() == wanted.as_bytes())
 }
 
@@ -234,7 +243,7 @@ fn is_too_large(
 /// The most constraints, columns and entries that there may be are read; a run would take long.
 fn largest_is_read(rt: &impl Abort, alloc: Global) -> Result<(), Memory> {
     let mut line = Vec::new(alloc);
-    push_outcome(
+    push_read(
         rt,
         alloc,
         large(alloc, 4000, 4000, 100_000)?.as_bytes(),
