@@ -3,14 +3,16 @@
 mod beale;
 mod programs;
 
+use crate::case::add_file;
+use crate::running::{ended, fails_at};
 use beale::{BEALE, ORDERS};
+use frac128::Memory;
 use programs::PROGRAMS;
-use smps_cli::{Status, run};
-use smps_io::{MemoryShelf, MemorySink, NeverFails, Shelf, Sink};
-use std::alloc::{AllocError, Global};
+use smps_cli::Status;
+use smps_io::{MemoryShelf, MemorySink, NeverFails};
+use std::alloc::Global;
 use std::process::Abort;
 use std::rt::Runtime;
-use std::test::Fail;
 
 /// Runs with a `#` between them. The first line of each has the words, how the shelf and the sink are,
 /// and the status; the file F follows, and behind it the whole output.
@@ -298,7 +300,7 @@ ROWS
 ";
 
 /// What a run is over, and what it comes to.
-#[derive(Drop)]
+#[derive(Clone, Copy)]
 struct Case {
     words: &'static str,
     faults: &'static str,
@@ -322,140 +324,137 @@ fn case_of(row: &'static str) -> Option<Case> {
     })
 }
 
-fn words(alloc: Global, text: &str) -> Result<Vec<String>, AllocError> {
-    let mut words = Vec::new(alloc);
-    if !text.is_empty() {
-        for word in text.split(' ') {
-            words.push(String::from_str(alloc, word)?)?;
-        }
+/// The call of this kind that fails; 0 where none does.
+fn failing(faults: &str, kind: &str) -> u64 {
+    match faults.split_once('=') {
+        Some((call, number)) if call == kind => number.parse::<u64>().unwrap_or(0),
+        _ => 0,
     }
-    Ok(words)
 }
 
-/// The call of this kind that fails, if any.
-fn failing(alloc: Global, faults: &str, kind: &str) -> Result<Vec<u64>, AllocError> {
-    let mut calls = Vec::new(alloc);
-    if let Some((call, number)) = faults.split_once('=') {
-        if let (true, Ok(number)) = (call == kind, number.parse::<u64>()) {
-            calls.push(number)?;
-        }
+/// 2^23 line feeds, as many bytes as a file may have, and some more.
+fn long_file(alloc: Global, more: &[u8]) -> Result<Vec<u8>, Memory> {
+    let mut bytes = vec![in alloc; b'\n'; 8_388_608]?;
+    bytes.extend_from_slice(more)?;
+    Ok(bytes)
+}
+
+/// The bytes of a file of the table.
+fn file_bytes(alloc: Global, file: &str) -> Result<Vec<u8>, Memory> {
+    if let Some((_, more)) = file.split_once('@') {
+        return long_file(alloc, more.as_bytes());
     }
-    Ok(calls)
+    match file.split_once('~') {
+        Some((before, after)) => Ok(format!(in alloc; "{before}{BEALE}{after}")?.into_bytes()),
+        None => Ok(file.as_bytes().to_vec(alloc)?),
+    }
 }
 
 /// A shelf's files: F alone.
-fn file(alloc: Global, bytes: Vec<u8>) -> Result<Vec<(String, Vec<u8>)>, AllocError> {
+fn files_of(alloc: Global, file: &str) -> Result<Vec<(String, Vec<u8>)>, Memory> {
     let mut files = Vec::new(alloc);
-    files.push((String::from_str(alloc, "F")?, bytes))?;
+    add_file(alloc, &mut files, "F", &file_bytes(alloc, file)?)?;
     Ok(files)
 }
 
-/// How a case ends over a shelf and a sink.
-fn ended(
+/// How a case ends over a shelf that never fails.
+fn ended_surely(
     rt: &impl Runtime,
     alloc: Global,
     case: &Case,
-    shelf: &mut impl Shelf,
-    sink: &mut impl Sink,
-) -> Result<Status, AllocError> {
-    let words = words(alloc, case.words)?;
-    Ok(run(rt, alloc, &words, shelf, sink))
+    sink: &mut MemorySink,
+) -> Result<Status, Memory> {
+    let mut shelf = NeverFails::new(alloc, files_of(alloc, case.file)?);
+    ended(rt, alloc, case.words, &mut shelf, sink)
 }
 
-/// How a case ends over the shelf that it names.
+/// How a case ends over a shelf that has F alone, and may fail.
 fn ended_on_shelf(
     rt: &impl Runtime,
     alloc: Global,
     case: &Case,
-    files: Vec<(String, Vec<u8>)>,
-    sink: &mut impl Sink,
-) -> Result<Status, AllocError> {
+    sink: &mut MemorySink,
+) -> Result<Status, Memory> {
+    let fails = fails_at(alloc, failing(case.faults, "fetch"))?;
+    let mut shelf = MemoryShelf::new(alloc, files_of(alloc, case.file)?, fails);
+    ended(rt, alloc, case.words, &mut shelf, sink)
+}
+
+/// How a case ends over the shelf that it names.
+fn case_ended(
+    rt: &impl Runtime,
+    alloc: Global,
+    case: &Case,
+    sink: &mut MemorySink,
+) -> Result<Status, Memory> {
     if case.faults == "sure" {
-        ended(rt, alloc, case, &mut NeverFails::new(alloc, files), sink)
+        ended_surely(rt, alloc, case, sink)
     } else {
-        let fails = failing(alloc, case.faults, "fetch")?;
-        let mut shelf = MemoryShelf::new(alloc, files, fails);
-        ended(rt, alloc, case, &mut shelf, sink)
+        ended_on_shelf(rt, alloc, case, sink)
     }
 }
 
-/// A case ends and writes as it states.
+/// A status is written so.
+fn is_status(rt: &impl Abort, alloc: Global, status: Status, wanted: &str) -> Result<(), Memory> {
+    let text = format!(in alloc; "{status:?}")?;
+    assert_eq!(rt; text.as_str(), wanted);
+    Ok(())
+}
+
+/// An output is the one that is wanted.
+fn is_output(rt: &impl Abort, written: &[u8], wanted: &[u8]) {
+    assert_eq!(rt; written, wanted);
+}
+
+/// A case ends and writes as it states. `Memory` is want of memory, after which the output is a prefix of what it is to be.
 fn is_as_stated(
     rt: &impl Abort,
     alloc: Global,
     case: &Case,
     status: Status,
     written: &[u8],
-) -> Result<(), AllocError> {
-    let text = format!(in alloc; "{status:?}")?;
-    assert_eq!(rt; text.as_str(), case.status);
-    assert_eq!(rt; written, case.output.as_bytes());
+) -> Result<(), Memory> {
+    if status == Status::Memory {
+        assert!(rt; case.output.as_bytes().starts_with(written));
+        return Err(Memory);
+    }
+    is_status(rt, alloc, status, case.status)?;
+    is_output(rt, written, case.output.as_bytes());
     Ok(())
 }
 
-/// Runs a case with these bytes as the file F. `AllocError` is want of memory, after which the output is a
-/// prefix of what it is to be.
-fn check(
-    rt: &(impl Runtime + Abort),
-    alloc: Global,
-    case: &Case,
-    bytes: Vec<u8>,
-) -> Result<(), AllocError> {
-    let mut sink = MemorySink::new(alloc, 7, failing(alloc, case.faults, "put")?);
-    let status = ended_on_shelf(rt, alloc, case, file(alloc, bytes)?, &mut sink)?;
-    if status == Status::Memory {
-        assert!(rt; case.output.as_bytes().starts_with(sink.bytes()));
-        return Err(AllocError);
-    }
+/// Runs a case.
+fn check(rt: &(impl Runtime + Abort), alloc: Global, case: &Case) -> Result<(), Memory> {
+    let mut sink = MemorySink::new(alloc, 7, fails_at(alloc, failing(case.faults, "put"))?);
+    let status = case_ended(rt, alloc, case, &mut sink)?;
     is_as_stated(rt, alloc, case, status, sink.bytes())
 }
 
-/// 2^23 line feeds, as many bytes as a file may have, and some more.
-fn long_file(alloc: Global, more: &[u8]) -> Result<Vec<u8>, AllocError> {
-    let mut bytes = b"\n".to_vec(alloc)?;
-    for _ in 0..23 {
-        let half = bytes.to_vec(alloc)?;
-        bytes.extend_from_slice(&half)?;
+/// Runs a row of the table. Whether memory is wanting.
+fn is_wanting(rt: &(impl Runtime + Abort), alloc: Global, row: &'static str) -> bool {
+    match case_of(row) {
+        Some(case) => check(rt, alloc, &case).is_err(),
+        None => panic!(rt; "a row without its parts"),
     }
-    bytes.extend_from_slice(more)?;
-    Ok(bytes)
 }
 
-/// The bytes of a file of the table.
-fn file_bytes(alloc: Global, file: &str) -> Result<Vec<u8>, AllocError> {
-    if let Some((_, more)) = file.split_once('@') {
-        return long_file(alloc, more.as_bytes());
-    }
-    match file.split_once('~') {
-        Some((before, after)) => {
-            let mut bytes = before.as_bytes().to_vec(alloc)?;
-            bytes.extend_from_slice(BEALE.as_bytes())?;
-            bytes.extend_from_slice(after.as_bytes())?;
-            Ok(bytes)
+/// Runs the rows of a table. For how many memory is wanting.
+fn wanting_in(rt: &(impl Runtime + Abort), alloc: Global, table: &'static str) -> u64 {
+    let mut wanting = 0u64;
+    for row in table.split('#') {
+        if is_wanting(rt, alloc, row) {
+            wanting = wanting.saturating_add(1);
         }
-        None => file.as_bytes().to_vec(alloc),
     }
-}
-
-/// Runs a row of the table.
-fn checked_row(rt: &(impl Runtime + Abort), alloc: Global, case: &Case) -> Result<(), AllocError> {
-    let bytes = file_bytes(alloc, case.file)?;
-    check(rt, alloc, case, bytes)
+    wanting
 }
 
 #[test]
-fn runs_end_as_worked_by_hand(rt: HostRuntime) -> Result<(), Fail> {
+fn runs_end_as_worked_by_hand(rt: HostRuntime) {
     let mut wanting = 0u64;
     for table in [RUNS, PROGRAMS, ORDERS] {
-        for row in table.split('#') {
-            let case = case_of(row).ok_or("a row without its parts")?;
-            match checked_row(&rt, rt.alloc(), &case) {
-                Ok(()) => {}
-                Err(AllocError) => wanting = wanting.saturating_add(1),
-            }
-        }
+        wanting = wanting.saturating_add(wanting_in(&rt, rt.alloc(), table));
     }
     // the one allocation that a run of the tests may have fail
     assert!(rt; wanting <= 1);
-    Ok(())
 }

@@ -1,32 +1,24 @@
 //! Runs them.
-use crate::case::{Case, case_of};
+use crate::case::{Case, case_of, files_of};
 use frac128::Memory;
 use smps_cli::{Status, run};
-use smps_io::{MemoryShelf, MemorySink};
+use smps_io::{MemoryShelf, MemorySink, Shelf};
 use std::alloc::Global;
 use std::rt::Runtime;
 
-/// The words of a line.
+/// The words of a line, with a space between them.
 fn words_of(alloc: Global, line: &str) -> Result<Vec<String>, Memory> {
     let mut words = Vec::new(alloc);
-    for word in line.split_whitespace() {
-        words.push(String::from_str(alloc, word)?)?;
+    if !line.is_empty() {
+        for word in line.split(' ') {
+            words.push(String::from_str(alloc, word)?)?;
+        }
     }
     Ok(words)
 }
 
-/// The files of a shelf.
-fn files_of(alloc: Global, files: &[(&str, String)]) -> Result<Vec<(String, Vec<u8>)>, Memory> {
-    let mut all = Vec::new(alloc);
-    for (name, text) in files {
-        let bytes = text.as_bytes().to_vec(alloc)?;
-        all.push((String::from_str(alloc, name)?, bytes))?;
-    }
-    Ok(all)
-}
-
-/// The call at which a sink fails.
-fn closed_at(alloc: Global, call: u64) -> Result<Vec<u64>, Memory> {
+/// The call at which a shelf or a sink fails; none where this is 0.
+pub fn fails_at(alloc: Global, call: u64) -> Result<Vec<u64>, Memory> {
     let mut fails = Vec::new(alloc);
     if call > 0 {
         fails.push(call)?;
@@ -34,23 +26,26 @@ fn closed_at(alloc: Global, call: u64) -> Result<Vec<u64>, Memory> {
     Ok(fails)
 }
 
-/// How a run ends, and what it writes, over a shelf of these files, which fails where it doesn't hold a name, and a sink that fails at a
-/// call, or never where that is 0.
-pub fn written<R: Runtime>(
-    rt: &R,
+/// How a run with these words ends over a shelf and a sink.
+pub fn ended(
+    rt: &impl Runtime,
     alloc: Global,
     words: &str,
-    files: &[(&str, String)],
-    closed: u64,
-) -> Result<(Status, Vec<u8>), Memory> {
-    let words = words_of(alloc, words)?;
-    let mut shelf = MemoryShelf::new(alloc, files_of(alloc, files)?, Vec::new(alloc));
-    let mut sink = MemorySink::new(alloc, 1_000_000, closed_at(alloc, closed)?);
-    let status = run(rt, alloc, &words, &mut shelf, &mut sink);
-    if status == Status::Memory {
-        return Err(Memory);
-    }
-    Ok((status, sink.bytes().to_vec(alloc)?))
+    shelf: &mut impl Shelf,
+    sink: &mut MemorySink,
+) -> Result<Status, Memory> {
+    Ok(run(rt, alloc, &words_of(alloc, words)?, shelf, sink))
+}
+
+/// How a run of a case ends over a sink and a shelf of its files, which fails where it doesn't hold a name.
+fn ended_on_shelf(
+    rt: &impl Runtime,
+    alloc: Global,
+    case: &Case<'_>,
+    sink: &mut MemorySink,
+) -> Result<Status, Memory> {
+    let mut shelf = MemoryShelf::new(alloc, files_of(alloc, case.files)?, Vec::new(alloc));
+    ended(rt, alloc, case.words, &mut shelf, sink)
 }
 
 /// Whether the output has the lines in their order.
@@ -66,26 +61,39 @@ fn has_lines(output: &str, lines: &str) -> bool {
 }
 
 /// Whether an output is the one that is wanted.
-fn is_wanted(alloc: Global, output: &str, wanted: &str) -> Result<bool, Memory> {
+fn is_wanted(output: &[u8], wanted: &str) -> bool {
     if wanted.is_empty() {
-        return Ok(output.is_empty());
+        return output.is_empty();
     }
-    if let Some(("", lines)) = wanted.split_once("some\n") {
-        return Ok(has_lines(output, lines));
+    match wanted.split_once("some\n") {
+        Some(("", lines)) => match str::from_utf8(output) {
+            Ok(output) => has_lines(output, lines),
+            Err(_) => false,
+        },
+        _ => output.strip_suffix(b"\n") == Some(wanted.as_bytes()),
     }
-    let whole = format!(in alloc; "{wanted}\n")?;
-    Ok(output == whole.as_str())
+}
+
+/// Whether a run ends and writes as its case states.
+fn is_as_stated(case: &Case<'_>, status: Status, written: &[u8]) -> Result<bool, Memory> {
+    if status == Status::Memory {
+        return Err(Memory);
+    }
+    let number = case.status.parse::<u8>().ok();
+    Ok(number == Some(status.number()) && is_wanted(written, case.output))
+}
+
+/// Whether a case ends as it is stated.
+fn case_ends_so(rt: &impl Runtime, alloc: Global, case: &Case<'_>) -> Result<bool, Memory> {
+    let mut sink = MemorySink::new(alloc, 1_000_000, fails_at(alloc, case.closed)?);
+    let status = ended_on_shelf(rt, alloc, case, &mut sink)?;
+    is_as_stated(case, status, sink.bytes())
 }
 
 /// Whether a run ends as it is stated; not so where nothing is stated.
-pub fn ends_so<R: Runtime>(rt: &R, alloc: Global, text: &str) -> Result<bool, Memory> {
-    let Some(case) = case_of(alloc, text)? else {
-        return Ok(false);
-    };
-    let (status, bytes) = written(rt, alloc, case.words, &case.files, case.closed)?;
-    let number = format!(in alloc; "{}", status.number())?;
-    let Ok(output) = String::from_utf8(bytes) else {
-        return Ok(false);
-    };
-    Ok(is_wanted(alloc, output.as_str(), case.output)? && number.as_str() == case.status)
+pub fn ends_so(rt: &impl Runtime, alloc: Global, text: &str) -> Result<bool, Memory> {
+    match case_of(text) {
+        Some(case) => case_ends_so(rt, alloc, &case),
+        None => Ok(false),
+    }
 }

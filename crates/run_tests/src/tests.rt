@@ -10,20 +10,38 @@ mod trees;
 
 use crate::running::ends_so;
 use checks::CHECKS;
+use frac128::Memory;
 use makes::MAKES;
 use programs::PROGRAMS;
 use refused::REFUSED;
 use shows::SHOWS;
 use solves::SOLVES;
+use std::alloc::Global;
+use std::process::Abort;
+use std::rt::Runtime;
 use std::test::Fail;
 use trees::TREES;
 
-#[test]
-fn runs_end_as_worked_by_hand(rt: HostRuntime) -> Result<(), Fail> {
-    for table in [TREES, PROGRAMS, SOLVES, REFUSED, SHOWS, CHECKS, MAKES] {
-        for row in table.split("\n#") {
-            assert!(rt; ends_so(&rt, rt.alloc(), row)?, "{row}");
-        }
+fn row_ends_so(rt: &(impl Runtime + Abort), alloc: Global, row: &str) -> Result<(), Memory> {
+    assert!(rt; ends_so(rt, alloc, row)?, "{row}");
+    Ok(())
+}
+
+fn rows_end_so(rt: &(impl Runtime + Abort), alloc: Global, table: &str) -> Result<(), Memory> {
+    for row in table.split("\n#") {
+        row_ends_so(rt, alloc, row)?;
     }
     Ok(())
+}
+
+fn tables_end_so(rt: &(impl Runtime + Abort), alloc: Global) -> Result<(), Memory> {
+    for table in [TREES, PROGRAMS, SOLVES, REFUSED, SHOWS, CHECKS, MAKES] {
+        rows_end_so(rt, alloc, table)?;
+    }
+    Ok(())
+}
+
+#[test]
+fn runs_end_as_worked_by_hand(rt: HostRuntime) -> Result<(), Fail> {
+    Ok(tables_end_so(&rt, rt.alloc())?)
 }

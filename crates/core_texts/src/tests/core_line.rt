@@ -1,67 +1,85 @@
 //! A core as one line.
-use core_defs::Core;
-use frac128::{Frac, print};
+use core_defs::{ColumnDef, Core, RowDef};
+use frac128::{Form, Frac, Memory, print};
 use std::alloc::Global;
-use std::test::Fail;
 
-fn push_number(alloc: Global, line: &mut Vec<u8>, word: &[u8], value: Frac) -> Result<(), Fail> {
+/// A word and what follows it.
+fn push_words(line: &mut Vec<u8>, word: &[u8], next: &[u8]) -> Result<(), Memory> {
     line.extend_from_slice(word)?;
-    print(alloc, value, line)?;
+    line.extend_from_slice(next)?;
     Ok(())
 }
 
-fn push_bound(alloc: Global, line: &mut Vec<u8>, bound: Option<Frac>) -> Result<(), Fail> {
+fn push_number(alloc: Global, line: &mut Vec<u8>, word: &[u8], value: Frac) -> Result<(), Memory> {
+    line.extend_from_slice(word)?;
+    print(alloc, value, line)
+}
+
+fn push_bound(
+    alloc: Global,
+    line: &mut Vec<u8>,
+    word: &[u8],
+    bound: Option<Frac>,
+) -> Result<(), Memory> {
     match bound {
-        Some(value) => push_number(alloc, line, b"", value),
-        None => Ok(line.extend_from_slice(b"none")?),
+        Some(value) => push_number(alloc, line, word, value),
+        None => push_words(line, word, b"none"),
     }
 }
 
-/// The rows of a core, one after another.
-fn push_rows(alloc: Global, core: &Core, line: &mut Vec<u8>) -> Result<(), Fail> {
-    for row in &core.rows {
-        line.extend_from_slice(b"; ")?;
-        line.extend_from_slice(row.name.as_bytes())?;
-        let kind = row.kind;
-        let kind = format!(in alloc; " {kind:?}")?;
-        line.extend_from_slice(kind.as_bytes())?;
-        push_number(alloc, line, b" ", row.rhs)?;
-        if let Some(range) = row.range {
-            push_number(alloc, line, b" range ", range)?;
-        }
+fn push_row(alloc: Global, row: &RowDef, line: &mut Vec<u8>) -> Result<(), Memory> {
+    let kind = row.kind;
+    push_words(line, b"; ", row.name.as_bytes())?;
+    push_number(
+        alloc,
+        line,
+        format!(in alloc; " {kind:?} ")?.as_bytes(),
+        row.rhs,
+    )?;
+    match row.range {
+        Some(range) => push_number(alloc, line, b" range ", range),
+        None => Ok(()),
+    }
+}
+
+/// The entries of a column, one after another.
+fn push_entries(alloc: Global, entries: &Form, line: &mut Vec<u8>) -> Result<(), Memory> {
+    for term in entries.terms() {
+        push_number(
+            alloc,
+            line,
+            format!(in alloc; " {}:", term.column)?.as_bytes(),
+            term.value,
+        )?;
     }
     Ok(())
 }
 
-/// The columns of a core, one after another.
-fn push_columns(alloc: Global, core: &Core, line: &mut Vec<u8>) -> Result<(), Fail> {
+fn push_column(alloc: Global, column: &ColumnDef, line: &mut Vec<u8>) -> Result<(), Memory> {
+    push_words(line, b"; ", column.name.as_bytes())?;
+    push_number(alloc, line, b" ", column.cost)?;
+    push_entries(alloc, &column.entries, line)?;
+    push_bound(alloc, line, b" in ", column.lower)?;
+    push_bound(alloc, line, b"..", column.upper)
+}
+
+/// The rows and columns of a core, one after another.
+fn push_parts(alloc: Global, core: &Core, line: &mut Vec<u8>) -> Result<(), Memory> {
+    for row in &core.rows {
+        push_row(alloc, row, line)?;
+    }
     for column in &core.columns {
-        line.extend_from_slice(b"; ")?;
-        line.extend_from_slice(column.name.as_bytes())?;
-        push_number(alloc, line, b" ", column.cost)?;
-        for term in column.entries.terms() {
-            let row = format!(in alloc; " {}:", term.column)?;
-            push_number(alloc, line, row.as_bytes(), term.value)?;
-        }
-        line.extend_from_slice(b" in ")?;
-        push_bound(alloc, line, column.lower)?;
-        line.extend_from_slice(b"..")?;
-        push_bound(alloc, line, column.upper)?;
+        push_column(alloc, column, line)?;
     }
     Ok(())
 }
 
 /// The core as one line.
-pub(super) fn core_line(alloc: Global, core: &Core) -> Result<Vec<u8>, Fail> {
-    let mut line = Vec::new(alloc);
+pub(super) fn push_core(alloc: Global, core: &Core, line: &mut Vec<u8>) -> Result<(), Memory> {
     line.extend_from_slice(core.objective.as_bytes())?;
     for name in &core.skipped {
-        line.extend_from_slice(b"; skips ")?;
-        line.extend_from_slice(name.as_bytes())?;
+        push_words(line, b"; skips ", name.as_bytes())?;
     }
-    line.extend_from_slice(b"; set ")?;
-    line.extend_from_slice(core.rhs_set.as_bytes())?;
-    push_rows(alloc, core, &mut line)?;
-    push_columns(alloc, core, &mut line)?;
-    Ok(line)
+    push_words(line, b"; set ", core.rhs_set.as_bytes())?;
+    push_parts(alloc, core, line)
 }

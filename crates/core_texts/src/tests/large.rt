@@ -1,37 +1,50 @@
 //! Cores as large as they may be, or larger by one.
-use std::alloc::Global;
-use std::test::Fail;
+use std::alloc::{AllocError, Global};
+use std::fmt::Write;
 
 /// A core of so many constraints, columns and entries, 25 entries a column or as many as are left for the last one.
-pub(super) fn large(alloc: Global, rows: u32, columns: u32, entries: u32) -> Result<Vec<u8>, Fail> {
-    let mut text = b"ROWS\n N C\n".to_vec(alloc)?;
+pub(super) fn large(
+    alloc: Global,
+    rows: u32,
+    columns: u32,
+    entries: u32,
+) -> Result<String, AllocError> {
+    let mut text = String::from_str(alloc, "ROWS\n N C\n")?;
+    push_rows(rows, &mut text)?;
+    push_columns(columns, entries, &mut text)?;
+    Ok(text)
+}
+
+/// The lines of the constraints.
+fn push_rows(rows: u32, text: &mut String) -> Result<(), AllocError> {
     for row in 0..rows {
-        let line = format!(in alloc; " L r{row}\n")?;
-        text.extend_from_slice(line.as_bytes())?;
+        write!(text, " L r{row}\n")?;
     }
-    text.extend_from_slice(b"COLUMNS\n")?;
+    Ok(())
+}
+
+/// The section of the columns, and the end.
+fn push_columns(columns: u32, entries: u32, text: &mut String) -> Result<(), AllocError> {
+    text.push_str("COLUMNS\n")?;
     let mut left = entries;
     for column in 0..columns {
-        let line = format!(in alloc; " x{column} C 1\n")?;
-        text.extend_from_slice(line.as_bytes())?;
         let count = if column < columns - 1 {
             left.min(25)
         } else {
             left
         };
         left -= count;
-        push_entries(alloc, column, count, &mut text)?;
+        push_column(column, count, text)?;
     }
-    text.extend_from_slice(b"ENDATA\n")?;
-    Ok(text)
+    text.push_str("ENDATA\n")
 }
 
-/// Lines with the entries of a column, of different rows.
-fn push_entries(alloc: Global, column: u32, count: u32, text: &mut Vec<u8>) -> Result<(), Fail> {
+/// The lines of a column, with its entries in different rows.
+fn push_column(column: u32, count: u32, text: &mut String) -> Result<(), AllocError> {
+    write!(text, " x{column} C 1\n")?;
     for entry in 0..count {
         let row = column.wrapping_mul(25).wrapping_add(entry) % 4000;
-        let line = format!(in alloc; " x{column} r{row} 1\n")?;
-        text.extend_from_slice(line.as_bytes())?;
+        write!(text, " x{column} r{row} 1\n")?;
     }
     Ok(())
 }
