@@ -6,6 +6,8 @@ mod cuts;
 #[cfg(test)]
 mod fixtures;
 #[cfg(test)]
+mod guesses;
+#[cfg(test)]
 mod node;
 #[cfg(test)]
 mod pools;

@@ -11,7 +11,7 @@ use std::test::Fail;
 /// Solves a node's program.
 fn solved(rt: &impl Abort, alloc: Global, task: &Task) -> Result<Solved, Fail> {
     assert!(rt; fits(task));
-    Ok(solve_node(alloc, task)?)
+    Ok(solve_node(alloc, task, None)?)
 }
 
 /// The solve of node 1 at x = 2, where y lies between 0 and `upper`.
@@ -87,7 +87,12 @@ fn write_solved(alloc: Global, solved: &Solved, out: &mut Vec<u8>) -> Result<(),
 }
 
 /// What is told of a solve.
-fn is_told(rt: &impl Abort, alloc: Global, solved: &Solved, expected: &str) -> Result<(), Fail> {
+pub fn is_told(
+    rt: &impl Abort,
+    alloc: Global,
+    solved: &Solved,
+    expected: &str,
+) -> Result<(), Fail> {
     let mut told = Vec::new(alloc);
     write_solved(alloc, solved, &mut told)?;
     is_text(rt, &told, expected, expected);
@@ -121,7 +126,7 @@ fn one_child(alloc: Global, cuts: Vec<SharedCut>) -> Result<Vec<ChildCuts>, Memo
 }
 
 /// The children of node 0, with both cuts.
-fn children(rt: &impl Abort, alloc: Global) -> Result<Vec<ChildCuts>, Fail> {
+pub fn children(rt: &impl Abort, alloc: Global) -> Result<Vec<ChildCuts>, Fail> {
     let mut cuts = Vec::new(alloc);
     push_child_cuts(rt, alloc, &mut cuts)?;
     Ok(one_child(alloc, cuts)?)

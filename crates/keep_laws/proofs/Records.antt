@@ -46,13 +46,17 @@ use Rattle.edit_defs.proofs.Lists.{each-append, passes-within}
 use Rattle.dual_assemble.specs.Ground.{quotients_from, uses_of_children, ground_source, ground_walk}
 use Rattle.cut_proof.specs.declared.child.ChildCuts.{ChildCuts}
 use Rattle.node_lp.specs.declared.task.Task.{Task}
+use Rattle.node_lp.specs.declared.found.Found.{Found}
+use Rattle.node_lp.specs.declared.found.Found.TheVariants as found
 use Rattle.node_lp.specs.declared.solved.Solved.{Solved}
 use Rattle.node_lp.specs.declared.solved.Solved.TheVariants as solved
 use Rattle.node_lp.specs.Weighed.{Weighed}
 use Rattle.node_lp.specs.Problem.{Problem, IsProblem, is_priced, problem_of}
 use Rattle.node_lp.specs.Points.{weights_of}
 use Rattle.node_lp.specs.Stored.{stored_uses}
-use Rattle.node_lp.specs.Told.{stored_cuts, record_of, cut_made, with_cut, told, node_solved}
+use Rattle.node_lp.specs.Told.{stored_cuts, record_of, cut_made, with_cut, told, told_of}
+use Rattle.node_lp.specs.Tested.{IsTestable, HasOrigin, IsToldOf}
+use Rattle.node_lp.specs.Tested.HasOrigin.{by_test, by_path}
 use Rattle.node_lp.specs.Walk.{node_parts, rows_walk, standard_seen, point_from, cost_walk, multipliers_from, best_walk, nowhere_walk, end_walk, path_walk, solve_walk, found_in}
 use Rattle.node_lp.proofs.EndLemmas.{ends_put, BeforeRows, rows_begin, rows_next}
 use Rattle.run_data.specs.declared.versions.Version.{Version}
@@ -196,13 +200,30 @@ module _ (Has : Source → Type 0) where
   used_records (Use_stored w c uses) h = (h.0, used_records uses h.1)
 
   -- ---- where it holds of the cuts about the children, it holds of the cut that a solve gives
-  pub solved_records : (t : Task) → IsProblem (problem_of t) → ((kind : CutKind) (m : Weighed) → IsForm m.rows → Has (record_of t.datum kind m))
-      → Each (λ (c : ChildCuts). Each (EachRecord Has) c.cuts.items) t.children.items → IfSome (cut_given (node_solved t)) (EachRecord Has)
-  solved_records t fits own h = found_told (EachRecord Has) (problem_of t) fits.rows_rise t.datum (is_priced t.kind)
-      (stored_cuts (is_priced t.kind) t.children.items)
-      (λ kind m f cut e. made_records t.datum (record_of t.datum kind m)
-      (stored_uses m.weights (stored_cuts (is_priced t.kind) t.children.items)) cut (own kind m f) (used_records _ (uses_have (EachRecord Has) t m h)) e)
-      t.pivots
+  pub solved_records : (t : Task) (all : Solved) → IsProblem (problem_of t) → IsToldOf t all → ((kind : CutKind) (m : Weighed) → IsForm m.rows → Has (record_of t.datum kind m))
+      → Each (λ (c : ChildCuts). Each (EachRecord Has) c.cuts.items) t.children.items → IfSome (cut_given all) (EachRecord Has)
+  solved_records t all fits told own h = subst (λ (s : Solved). IfSome (cut_given s) (EachRecord Has)) (sym told.told) (go told.origin told.comes)
+    where
+      made_of : (kind : CutKind) (m : Weighed) → IsForm m.rows → (cut : Stored)
+          → cut_made t.datum kind (stored_cuts (is_priced t.kind) t.children.items) m ≡ Ok (Some cut) → EachRecord Has cut
+      made_of kind m f cut e = made_records t.datum (record_of t.datum kind m)
+          (stored_uses m.weights (stored_cuts (is_priced t.kind) t.children.items)) cut (own kind m f) (used_records _ (uses_have (EachRecord Has) t m h)) e
+
+      kept : (f : Found) → IsTestable f → IfSome (cut_given (told_of t f)) (EachRecord Has)
+      kept (found.Point x v m) k = point_told (EachRecord Has) (problem_of t) fits.rows_rise t.datum (is_priced t.kind)
+          (stored_cuts (is_priced t.kind) t.children.items) made_of (is_priced t.kind) x v m k.1
+      kept (found.NoPoint m) k = told_with (EachRecord Has) (problem_of t) fits.rows_rise t.datum (is_priced t.kind)
+          (stored_cuts (is_priced t.kind) t.children.items) made_of solved.NoPoint (λ c k. k)
+          (cut_made t.datum cut_kind.Ray (stored_cuts (is_priced t.kind) t.children.items) m) (made_of cut_kind.Ray m k)
+      kept found.Loose k = absurd k
+      kept found.PivotsEnded k = absurd k
+      kept (found.Passed o) k = absurd k
+
+      go : (f : Found) → HasOrigin (problem_of t) t.pivots f → IfSome (cut_given (told_of t f)) (EachRecord Has)
+      go f (by_test k) = kept f k
+      go f (by_path e) = subst (λ (f : Found). IfSome (cut_given (told_of t f)) (EachRecord Has)) (sym e)
+          (found_told (EachRecord Has) (problem_of t) fits.rows_rise t.datum (is_priced t.kind)
+          (stored_cuts (is_priced t.kind) t.children.items) made_of t.pivots)
 
   -- ---- the cuts that a run begins with
   snoc_records : (uses : StoredUses) (w : ℚ) (cut : Stored) → EachUsed Has uses → EachRecord Has cut → EachUsed Has (snoc uses w cut)

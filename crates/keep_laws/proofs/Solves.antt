@@ -14,7 +14,7 @@ use Rattle.cut_banks.specs.declared.banks.Banks.{Banks}
 use Rattle.cut_banks.specs.Banks.{pools_of}
 use Rattle.cut_proof.specs.declared.child.ChildCuts.{ChildCuts}
 use Rattle.node_lp.specs.Weighed.{Weighed}
-use Rattle.node_lp.specs.Told.{record_of, node_solved}
+use Rattle.node_lp.specs.Told.{record_of}
 use Rattle.run_data.specs.declared.versions.Version.{Version}
 use Rattle.run_data.specs.Frames.{children_in}
 use Rattle.pass_core.specs.Explained.{cut_given}
@@ -44,10 +44,10 @@ cut_now p versions n None a h = tt
 cut_now p versions n (Some cut) a h = record { node = a; records = h }
 
 pub solves_give_cuts : SolvesGiveCuts
-solves_give_cuts p s n most task i live framed is_task fits answer kept =
-    cut_now p s.versions n (cut_given (node_solved task))
-    (answer_about task n (node_solved task) (ap (λ (d : Datum). d.node) is_task.datum) answer)
-    (solved_records (IsUpToDate p s.versions) task fits own children)
+solves_give_cuts p s n most task all i live framed is_task fits told answer kept =
+    cut_now p s.versions n (cut_given all)
+    (answer_about task n all (ap (λ (d : Datum). d.node) is_task.datum) answer)
+    (solved_records (IsUpToDate p s.versions) task all fits told own children)
   where
     own : (kind : CutKind) (m : Weighed) → IsForm m.rows → IsUpToDate p s.versions (record_of task.datum kind m)
     own kind m form = subst (λ (d : Datum). IsUpToDate p s.versions (record_of d kind m)) (sym is_task.datum)

@@ -16,7 +16,8 @@ use Rattle.edit_defs.specs.Applies.{Applies}
 use Rattle.edit_defs.specs.Shifts.{HasWidths}
 use Rattle.node_lp.specs.declared.task.Task.{Task}
 use Rattle.node_lp.specs.Problem.{IsProblem, problem_of}
-use Rattle.node_lp.specs.Told.{node_solved}
+use Rattle.node_lp.specs.declared.solved.Solved.{Solved}
+use Rattle.node_lp.specs.Tested.{IsToldOf}
 use Rattle.node_lp.specs.Answers.{IsAnswer}
 use Rattle.run_data.specs.declared.versions.Version.{Version}
 use Rattle.run_data.specs.Counts.{version_of}
@@ -37,9 +38,9 @@ NothingIsStale = (p : Program) (versions : List Version) (most n m : ℕ) (pool 
 
 -- the cut that a solve of a live node gives is up to date, where those of its task are
 abbrev pub SolvesGiveCuts : Type 0
-SolvesGiveCuts = (p : Program) (s : State) (n most : ℕ) (task : Task) → IsProgram p → Lives p n → s.frame ≡ frame_of p
-    → IsTaskOf p s n task → IsProblem (problem_of task) → IsAnswer task (node_solved task) → BanksAreKept p s.versions most s.banks
-    → IfSome (cut_given (node_solved task)) (IsCutNow p s.versions n)
+SolvesGiveCuts = (p : Program) (s : State) (n most : ℕ) (task : Task) (all : Solved) → IsProgram p → Lives p n → s.frame ≡ frame_of p
+    → IsTaskOf p s n task → IsProblem (problem_of task) → IsToldOf task all → IsAnswer task all → BanksAreKept p s.versions most s.banks
+    → IfSome (cut_given all) (IsCutNow p s.versions n)
 
 -- so the pools to which it is offered stay so
 abbrev pub OffersKeepCuts : Type 0

@@ -32,7 +32,11 @@ fn push_taken(all: &mut Vec<SharedCut>, priced: bool, cuts: &[SharedCut]) -> Res
 }
 
 /// The cuts that the program takes, child by child.
-fn taken_cuts(alloc: Global, priced: bool, children: &[ChildCuts]) -> Result<Vec<SharedCut>, Memory>
+pub(crate) fn taken_cuts(
+    alloc: Global,
+    priced: bool,
+    children: &[ChildCuts],
+) -> Result<Vec<SharedCut>, Memory>
     ensures { IfOk result (λ all. all.items ≡ stored_cuts priced children.now) }
 {
     let mut all = Vec::new(alloc);
@@ -43,7 +47,7 @@ fn taken_cuts(alloc: Global, priced: bool, children: &[ChildCuts]) -> Result<Vec
 }
 
 /// The first number, 0 where there is none.
-fn first(values: &[Frac]) -> Frac
+pub(crate) fn first(values: &[Frac]) -> Frac
     ensures { result ≡ first values.now }
 {
     if values.is_empty() {
@@ -79,6 +83,35 @@ fn used(alloc: Global, weights: &[Frac], cuts: &[SharedCut]) -> Result<Vec<Used>
     Ok(used)
 }
 
+/// The cut of a kind that the multipliers, and the weights of these cuts, make.
+pub(crate) fn cut_with(
+    alloc: Global,
+    task: &Task,
+    kind: CutKind,
+    multipliers: Multipliers,
+    cuts: &[SharedCut],
+) -> Result<SharedCut, CutFault>
+    requires { cuts.now ≡ stored_cuts (is_priced task.now.kind) task.now.children.items }
+    ensures walk { Makes (cut_made task.now.datum kind (stored_cuts (is_priced task.now.kind) task.now.children.items) multipliers) result }
+    ensures made { let uses = stored_uses multipliers.weights (stored_cuts (is_priced task.now.kind) task.now.children.items) in
+        MayBeMade task.now.datum (record_of task.now.datum kind multipliers) uses → IfOk result (λ cut.
+        IsMadeFrom task.now.datum (record_of task.now.datum kind multipliers) uses (constant_of cut) (form_of cut)) }
+{
+    let used = used(alloc, &multipliers.weights, cuts)?;
+    let datum = &task.datum;
+    let record = Record {
+        node: datum.node(),
+        kind,
+        rows_version: datum.rows_version(),
+        costs_version: datum.costs_version(),
+        multipliers: multipliers.rows,
+        used,
+    };
+    let cut = Cut::of(alloc, record, datum)?;
+    let shared = SharedCut::new(alloc, cut)?;
+    Ok(shared)
+}
+
 /// The cut of a kind that the multipliers and weights make.
 pub(crate) fn cut_of(
     alloc: Global,
@@ -92,17 +125,5 @@ pub(crate) fn cut_of(
         IsMadeFrom task.now.datum (record_of task.now.datum kind multipliers) uses (constant_of cut) (form_of cut)) }
 {
     let cuts = taken_cuts(alloc, is_priced(task.kind), &task.children)?;
-    let used = used(alloc, &multipliers.weights, &cuts)?;
-    let datum = &task.datum;
-    let record = Record {
-        node: datum.node(),
-        kind,
-        rows_version: datum.rows_version(),
-        costs_version: datum.costs_version(),
-        multipliers: multipliers.rows,
-        used,
-    };
-    let cut = Cut::of(alloc, record, datum)?;
-    let shared = SharedCut::new(alloc, cut)?;
-    Ok(shared)
+    cut_with(alloc, task, kind, multipliers, &cuts)
 }

@@ -5,11 +5,11 @@ use std::marker::Model;
 
 /// Multipliers of a node's rows, and weights of the cuts about its children. Contracts see them as lists.
 #[derive(Drop)]
-pub(crate) struct Multipliers {
+pub struct Multipliers {
     /// By the number of the row.
-    pub(crate) rows: Form,
+    pub rows: Form,
     /// One for each cut that the node's program takes, child by child.
-    pub(crate) weights: Vec<Frac>,
+    pub weights: Vec<Frac>,
 }
 
 impl Model for Multipliers {
@@ -24,7 +24,7 @@ impl Model for Multipliers {
 
 /// What is found at a node.
 #[derive(Drop)]
-pub(crate) enum Found {
+pub enum Found {
     /// The values of the own columns, what they cost with the children's costs, and the multipliers that show that
     /// nothing is cheaper.
     Point(Form, Frac, Multipliers),

@@ -1,18 +1,21 @@
 //! The solve of a node's program.
-ghost use Rattle.std.specs.Prelude.{◌≡◌, IfOk};
+ghost use Rattle.std.specs.Prelude.{◌≡◌, IfOk, IfSome};
 ghost use Rattle.node_lp.specs.Problem.{IsProblem, problem_of};
 ghost use Rattle.node_lp.specs.declared.found.Found.TheVariants as found;
 ghost use Rattle.node_lp.specs.Shows.{IsSound};
 ghost use Rattle.node_lp.specs.Answers.{IsAnswer};
 ghost use Rattle.node_lp.specs.Told.{told_of, node_solved};
+ghost use Rattle.node_lp.specs.Tested.{IsToldOf};
 ghost use Rattle.node_lp.specs.ToldFaults.{StoppedInCut};
 ghost use Rattle.node_lp.specs.Walk.{found_in};
 
 use crate::cutting::cut_of;
 use crate::found::{Found, Multipliers};
+use crate::guess::Guess;
 use crate::solve::{find, is_priced};
 use crate::solved::Solved;
 use crate::task::Task;
+use crate::tested::tested;
 use cut_defs::CutKind;
 use cut_proof::CutFault;
 use frac128::{Form, Frac, Memory};
@@ -76,7 +79,7 @@ fn without_point(alloc: Global, task: &Task, multipliers: Multipliers) -> Result
     }
 }
 
-/// Solves a node's program in at most `pivots` pivots.
+/// Solves a node's program by its path, in at most `pivots` pivots.
 ///
 /// New columns, which are at least 0, stand for the own columns in order: a column with a lower bound is that
 /// bound and a new column; else one with an upper bound is that bound less a new column; else it is the
@@ -95,7 +98,7 @@ fn without_point(alloc: Global, task: &Task, multipliers: Multipliers) -> Result
 /// the own rows; it uses, child by child and in their order, the cuts whose weight isn't 0. It is a Bound cut where
 /// there is a point, but none is made in a Feasible run, and a Ray cut where there is none. The first of all these
 /// operations that passes 128 bits is told, and whether it is one of the cut's.
-pub fn solve_node(alloc: Global, task: &Task) -> Result<Solved, Memory>
+fn path_solved(alloc: Global, task: &Task) -> Result<Solved, Memory>
     requires { IsProblem (problem_of task.now) }
     ensures exact { IfOk result (λ all. all ≡ node_solved task.now) }
     ensures sound { IfOk result (λ _. IsSound (problem_of task.now) (found_in (problem_of task.now) task.now.pivots)) }
@@ -112,5 +115,29 @@ pub fn solve_node(alloc: Global, task: &Task) -> Result<Solved, Memory>
             in_cut: false,
             passed,
         }),
+    }
+}
+
+/// What is told of a guess that stands its test.
+fn guess_solved(alloc: Global, task: &Task, guess: Option<Guess>) -> Result<Option<Solved>, Memory>
+    requires { IsProblem (problem_of task.now) }
+    ensures told { IfOk result (λ all. IfSome all (IsToldOf task.now)) }
+    ensures answer { IfOk result (λ all. IfSome all (IsAnswer task.now)) }
+{
+    match guess {
+        Some(guess) => tested(alloc, task, guess),
+        None => Ok(None),
+    }
+}
+
+/// Solves a node's program: by a guess, where there is one and it stands its test; else by the path, in at most `pivots` pivots.
+pub fn solve_node(alloc: Global, task: &Task, guess: Option<Guess>) -> Result<Solved, Memory>
+    requires { IsProblem (problem_of task.now) }
+    ensures told { IfOk result (IsToldOf task.now) }
+    ensures answer { IfOk result (IsAnswer task.now) }
+{
+    match guess_solved(alloc, task, guess)? {
+        Some(solved) => Ok(solved),
+        None => path_solved(alloc, task),
     }
 }

@@ -25,7 +25,7 @@ use Rattle.cut_banks.specs.Pools.{may_change, may_take, pool_if}
 use Rattle.dual_assemble.specs.Values.{assembled}
 use Rattle.node_lp.specs.declared.task.Task.{Task}
 use Rattle.node_lp.specs.declared.solved.Solved.TheVariants as solved
-use Rattle.node_lp.specs.Told.{node_solved}
+use Rattle.node_lp.specs.Tested.{IsToldOf}
 use Rattle.proved_report.specs.declared.open.Open.{Open}
 use Rattle.proved_report.specs.declared.open.Open.TheVariants as reason
 use Rattle.run_data.specs.Frames.{Frame}
@@ -261,13 +261,13 @@ module _ (p : Program) (tree : Tree) where
 
 -- ---- what a solve gives
 pub point_gives : (p : Program) (frame : Frame) (tree : Tree) (pivots : ℕ) (t : Task) (x : List Entry) (value : ℚ) (cut : Option Stored)
-    → IsTask p frame tree pivots t → node_solved t ≡ solved.Point x value cut → IfSome cut (GivesCut p frame tree pivots t.trial)
+    → IsTask p frame tree pivots t → IsToldOf t (solved.Point x value cut) → IfSome cut (GivesCut p frame tree pivots t.trial)
 point_gives p frame tree pivots t x value None k e = tt
-point_gives p frame tree pivots t x value (Some cut) k e = record { task = t; is_task = k; at_trial = refl; given = ap cut_given e }
+point_gives p frame tree pivots t x value (Some cut) k e = record { task = t; is_task = k; at_trial = refl; all = solved.Point x value (Some cut); comes = e; given = refl }
 
 pub point_finds : (p : Program) (frame : Frame) (tree : Tree) (pivots : ℕ) (t : Task) (x : List Entry) (value : ℚ) (cut : Option Stored)
-    → IsTask p frame tree pivots t → node_solved t ≡ solved.Point x value cut → FindsPoint p frame tree pivots x
-point_finds p frame tree pivots t x value cut k e = record { task = t; is_task = k; found = ap point_found e }
+    → IsTask p frame tree pivots t → IsToldOf t (solved.Point x value cut) → FindsPoint p frame tree pivots x
+point_finds p frame tree pivots t x value cut k e = record { task = t; is_task = k; all = solved.Point x value cut; comes = e; found = refl }
 
 -- ---- an operation of a solve
 pub at_place : (p : Program) (frame : Frame) (tree : Tree) (pivots k : ℕ) (in_cut : Bool) (o : Operation) → ComesOfSolve p frame tree pivots (solved.Passed in_cut o)

@@ -3,6 +3,7 @@ use Rattle.std.proofs.Common.{◌≡◌, ℕ, zero, suc, ◌+◌, ◌-◌, ◌^�
 use Rattle.std.specs.Option.{option_map, option_to_list}
 use Rattle.std.proofs.Math.ListN.{length-set}
 use Rattle.std.proofs.lemmas.List.{length-map, get_or-set_same, get_or-set_other}
+use Rattle.rationals.specs.Passes.{Operation}
 use Rattle.rationals.specs.Rational.{ℚ, zero_ℚ, ◌<ℚ◌}
 use Rattle.rationals.specs.Forms.{is_zero}
 use Rattle.rationals.specs.Sparse.{Entry}
@@ -53,8 +54,10 @@ use Rattle.node_lp.specs.declared.solved.Solved.{Solved}
 use Rattle.node_lp.specs.declared.solved.Solved.TheVariants as solved
 use Rattle.node_lp.specs.Problem.{is_priced, is_taken, problem_of}
 use Rattle.node_lp.specs.Stored.{stored_uses}
-use Rattle.node_lp.specs.Told.{stored_of, stored_cuts, told, node_solved}
-use Rattle.node_lp.specs.Walk.{found_in}
+use Rattle.node_lp.specs.Told.{stored_of, stored_cuts, cut_made, with_cut, told, told_of}
+use Rattle.node_lp.specs.Tested.{IsToldOf}
+use Rattle.node_lp.specs.declared.found.Found.{Found}
+use Rattle.node_lp.specs.declared.found.Found.TheVariants as found
 use Rattle.node_lp.specs.Answers.{IsCutOf, IsAnswer}
 use Rattle.node_lp.specs.Weighed.{Weighed}
 use Rattle.scen_tree.specs.Trees.{Tree, position_of, is_below, children_of}
@@ -224,13 +227,25 @@ children_below kind p versions n b i right l =
 
 -- ---- the cut of a solve
 -- a solve gives a Bound cut only where the children are priced
-told_priced : (t : Task) (x : List Entry) (v : ℚ) (c : Stored) → node_solved t ≡ solved.Point x v (Some c) → is_priced t.kind ≡ true
-told_priced t x v c e = go (is_priced t.kind) refl e
+told_priced : (t : Task) (f : Found) (x : List Entry) (v : ℚ) (c : Stored) → told_of t f ≡ solved.Point x v (Some c) → is_priced t.kind ≡ true
+told_priced t f x v c e = go f (is_priced t.kind) refl e
   where
-    go : (priced : Bool) → is_priced t.kind ≡ priced → told t.datum priced (stored_cuts priced t.children.items) (found_in (problem_of t) t.pivots) ≡ solved.Point x v (Some c)
+    no_cut : (x' : List Entry) (v' : ℚ) → solved.Point x' v' None ≡ solved.Point x v (Some c) → ⊥
+    no_cut x' v' e = cc
+
+    no_point : (w : Result (Option Stored) Operation) → with_cut solved.NoPoint w ≡ solved.Point x v (Some c) → ⊥
+    no_point (Ok (Some cut)) e = cc
+    no_point (Ok None) e = cc
+    no_point (Err o) e = cc
+
+    go : (f : Found) (priced : Bool) → is_priced t.kind ≡ priced → told t.datum priced (stored_cuts priced t.children.items) f ≡ solved.Point x v (Some c)
         → is_priced t.kind ≡ true
-    go true q e = q
-    go false q e = absurd (grind (arith, e))
+    go f true q e = q
+    go (found.Point x' v' m) false q e = absurd (no_cut x' v' e)
+    go (found.NoPoint m) false q e = absurd (no_point (cut_made t.datum Ray (stored_cuts false t.children.items) m) e)
+    go found.Loose false q e = absurd (cc)
+    go found.PivotsEnded false q e = absurd (cc)
+    go (found.Passed o) false q e = absurd (cc)
 
 module _ (p : Program) (s : State) (n : ℕ) (t : Task) (b : BankBooks) (i : IsProgram p) (l : Lives p n) (right : AreBooksOf p s.versions b) (task : IsTaskOf p s n t)
     (cuts : Each (λ (c : ChildCuts). Each (IsMadeFor (run_book s.kind b)) c.cuts.items) t.children.items) where
@@ -252,10 +267,10 @@ module _ (p : Program) (s : State) (n : ℕ) (t : Task) (b : BankBooks) (i : IsP
             (uses_made book (source_of cut).node t.datum (uses_of cut) stand h.children (subst (UsesHave (IsMadeFor book)) (sym h.uses) (uses_have (IsMadeFor book) t m cuts)));
       }
 
-  pub answer_made : (all : Solved) → node_solved t ≡ all → IsAnswer t all → IfSome (cut_given all) (IsMadeAbout (run_book s.kind b) n)
+  pub answer_made : (all : Solved) → IsToldOf t all → IsAnswer t all → IfSome (cut_given all) (IsMadeAbout (run_book s.kind b) n)
   answer_made (solved.Point x v (Some c)) e a =
       cut_is_made Bound a.m c
-      (λ q. sym (ap is_priced task.kind) ∙ told_priced t x v c e)
+      (λ q. sym (ap is_priced task.kind) ∙ told_priced t e.origin x v c (sym e.told))
       a.has_cut.cut_of
   answer_made (solved.Point x v None) e a = tt
   answer_made (solved.NoPoint c) e a = cut_is_made Ray a.m c (λ q. absurd (let no : Ray ≡ Bound = q in cc)) a.cut_of

@@ -7,7 +7,7 @@ use Rattle.scen_tree.specs.Trees.{Tree, tree_walk}
 use Rattle.node_lp.specs.declared.task.Task.{Task}
 use Rattle.node_lp.specs.declared.solved.Solved.{Solved}
 use Rattle.node_lp.specs.Problem.{IsProblem, problem_of}
-use Rattle.node_lp.specs.Told.{node_solved}
+use Rattle.node_lp.specs.Tested.{IsToldOf}
 use Rattle.node_lp.specs.Answers.{IsAnswer}
 use Rattle.run_data.specs.Frames.{frame_of}
 use Rattle.pass_table.specs.declared.table.Table.{Table}
@@ -44,7 +44,7 @@ by_tree p tree s n trial all walk = record {
 pub solved_by : (p : Program) (tree : Tree) (s : State) (counts : Counts) (m : Machine) (n : ℕ) (i : IsProgram p)
     (walk : tree_walk p ≡ Ok tree) (frame : s.frame ≡ frame_of p) (b : IsBegunBy p (record s { counts = counts }) m n)
     (t : Task) (all : Solved) (new : State) {X E : Type 0} (r : Result X E)
-    → counts ≡ with_commit s.counts → IsTaskOf p s n t → IsProblem (problem_of t) → PointsStand p s.lasts.nodes.items → all ≡ node_solved t
+    → counts ≡ with_commit s.counts → IsTaskOf p s n t → IsProblem (problem_of t) → PointsStand p s.lasts.nodes.items → IsToldOf t all
     → IsAnswer t all
     → OnOk r (EndsSolve (EndsBy t.trial all) (record s { counts = counts }) new (read_machine p (record s { counts = counts }) m n i frame b)
     (begun_flight p (record s { counts = counts }) m n i frame b)) → OnOk r (KeepsPoints p (record s { counts = counts }) new)
@@ -66,21 +66,20 @@ solved_by p tree s counts m n i walk frame b t all new r raised task problem sta
       task = t;
       is_task = task;
       fits = problem;
-      ends = solve_ends p counted m n i frame b (EndsBy t.trial (node_solved t)) new (told_ends t.trial (node_solved t) all counted new rm bf (sym exact) e);
+      all = all;
+      told = exact;
+      ends = solve_ends p counted m n i frame b (EndsBy t.trial all) new e;
       points = k stand;
-      reasons = subst (λ (c : Counts). GainsReasons (IsOfSolve c.all s.budget.solves (node_solved t)
-          (node_halts p s n t.trial (node_solved t))) (record s { counts = c }) new) raised
-          (subst (λ (x : Solved). GainsReasons (IsOfSolve counts.all s.budget.solves x (node_halts p s n t.trial x)) counted new) exact
-          (stuck_wider halts (node_halts p s n t.trial all) counts.all s.budget.solves all counted new (by_tree p tree s n t.trial all walk) g));
+      reasons = subst (λ (c : Counts). GainsReasons (IsOfSolve c.all s.budget.solves all
+          (node_halts p s n t.trial all)) (record s { counts = c }) new) raised
+          (stuck_wider halts (node_halts p s n t.trial all) counts.all s.budget.solves all counted new (by_tree p tree s n t.trial all walk) g);
       stays = record { kind = y.kind; frame = y.frame; budget = y.budget; versions = y.versions };
-      answer = subst (IsAnswer t) exact answer;
+      answer = answer;
       leaves = λ other w stop.
           let same : tree ≡ other = let both = sym walk ∙ w in cc in
-          subst (λ (x : Tree). LeavesBy p x n t.trial (node_solved t) s new) same
-          (leaves_before p tree n t.trial (node_solved t) s counts s.table s.is_begun new
-          (left_by p tree n t.trial (node_solved t) all counted new (sym exact) (l stop)));
-      anyhow = anyhow_before n t.trial (node_solved t) s counts s.table s.is_begun new
-          (subst (λ (x : Solved). LeavesAnyhow n t.trial x counted new) exact a);
+          subst (λ (x : Tree). LeavesBy p x n t.trial all s new) same
+          (leaves_before p tree n t.trial all s counts s.table s.is_begun new (l stop));
+      anyhow = anyhow_before n t.trial all s counts s.table s.is_begun new a;
     }) ends points reasons stays leaves anyhow
 
 -- the task is the same where the table changes
@@ -92,14 +91,16 @@ solves_before p s table m n new h = record {
   task = h.task;
   is_task = task_before p s table n h.task h.is_task;
   fits = h.fits;
+  all = h.all;
+  told = h.told;
   ends = h.ends;
   points = h.points;
   reasons = record { counts = h.reasons.counts; stop = h.reasons.stop; lasting = h.reasons.lasting };
   stays = record { kind = h.stays.kind; frame = h.stays.frame; budget = h.stays.budget; versions = h.stays.versions };
   answer = h.answer;
   leaves = λ tree walk stop.
-      leaves_before p tree n h.task.trial (node_solved h.task) s s.counts table s.is_begun new (h.leaves tree walk stop);
-  anyhow = anyhow_before n h.task.trial (node_solved h.task) s s.counts table s.is_begun new h.anyhow;
+      leaves_before p tree n h.task.trial h.all s s.counts table s.is_begun new (h.leaves tree walk stop);
+  anyhow = anyhow_before n h.task.trial h.all s s.counts table s.is_begun new h.anyhow;
 }
 
 -- a turn as a step
@@ -114,10 +115,12 @@ step_solved p old s m n new e ready h = solves s.lasts n ready (record {
   task = h.task;
   is_task = task_ready p old s n h.task e h.is_task;
   fits = h.fits;
+  all = h.all;
+  told = h.told;
   ends = h.ends;
   points = h.points;
   reasons =
-      let all = node_solved h.task in
+      let all = h.all in
       let k = subst (λ (x : State). GainsReasons (IsOfSolve (with_commit x.counts).all x.budget.solves all
       (node_halts p x n h.task.trial all))
       (record x { counts = with_commit x.counts }) new) e h.reasons in
@@ -125,6 +128,6 @@ step_solved p old s m n new e ready h = solves s.lasts n ready (record {
   stays = let k = subst (λ (x : State). StaysInRun x new) e h.stays in
       record { kind = k.kind; frame = k.frame; budget = k.budget; versions = k.versions };
   answer = h.answer;
-  leaves = λ tree walk stop. leaves_ready p tree n h.task.trial (node_solved h.task) old s new e (h.leaves tree walk stop);
-  anyhow = anyhow_ready n h.task.trial (node_solved h.task) old s new e h.anyhow;
+  leaves = λ tree walk stop. leaves_ready p tree n h.task.trial h.all old s new e (h.leaves tree walk stop);
+  anyhow = anyhow_ready n h.task.trial h.all old s new e h.anyhow;
 })

@@ -24,7 +24,7 @@ use Rattle.node_lp.specs.declared.task.Task.{Task}
 use Rattle.node_lp.specs.declared.solved.Solved.{Solved}
 use Rattle.node_lp.specs.declared.solved.Solved.TheVariants as solved
 use Rattle.node_lp.specs.Problem.{IsProblem, problem_of}
-use Rattle.node_lp.specs.Told.{node_solved}
+use Rattle.node_lp.specs.Tested.{IsToldOf}
 use Rattle.proved_report.specs.declared.open.Open.{Open}
 use Rattle.proved_report.specs.declared.open.Open.TheVariants as reason
 use Rattle.run_data.specs.Frames.{Frame}
@@ -55,7 +55,7 @@ pub record IsTask (p : Program) (frame : Frame) (tree : Tree) (pivots : ℕ) (t 
 pub record ComesOfSolve (p : Program) (frame : Frame) (tree : Tree) (pivots : ℕ) (all : Solved) : Type 0 where
   pub task : Task
   pub is_task : IsTask p frame tree pivots task
-  pub comes : node_solved task ≡ all
+  pub comes : IsToldOf task all
 
 -- the cut that a solve gives, where it gives one
 abbrev pub cut_given : Solved → Option Stored
@@ -71,7 +71,9 @@ pub record GivesCut (p : Program) (frame : Frame) (tree : Tree) (pivots : ℕ) (
   pub task : Task
   pub is_task : IsTask p frame tree pivots task
   pub at_trial : task.trial ≡ trial
-  pub given : cut_given (node_solved task) ≡ Some cut
+  pub all : Solved
+  pub comes : IsToldOf task all
+  pub given : cut_given all ≡ Some cut
 
 -- a solve of the program of a live node gives this cut, at some values of the columns before it
 abbrev pub IsCutOfSolve : Program → Frame → Tree → ℕ → Stored → Type 0
@@ -90,7 +92,9 @@ point_found solved.NotGood = None
 pub record FindsPoint (p : Program) (frame : Frame) (tree : Tree) (pivots : ℕ) (point : List Entry) : Type 0 where
   pub task : Task
   pub is_task : IsTask p frame tree pivots task
-  pub found : point_found (node_solved task) ≡ Some point
+  pub all : Solved
+  pub comes : IsToldOf task all
+  pub found : point_found all ≡ Some point
 
 -- such solves found the points of the last solves
 abbrev pub PointsAreFound : Program → Frame → Tree → ℕ → List (Option Last) → Type 0

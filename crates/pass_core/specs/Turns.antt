@@ -25,7 +25,7 @@ use Rattle.node_lp.specs.declared.task.Task.{Task}
 use Rattle.node_lp.specs.declared.solved.Solved.{Solved}
 use Rattle.node_lp.specs.declared.solved.Solved.TheVariants as solved
 use Rattle.node_lp.specs.Problem.{IsProblem, problem_of}
-use Rattle.node_lp.specs.Told.{node_solved}
+use Rattle.node_lp.specs.Tested.{IsToldOf}
 use Rattle.node_lp.specs.Answers.{IsAnswer}
 use Rattle.pass_table.specs.Machine.{Flight, Machine, IsClosed, MayBegin, dropped}
 use Rattle.proved_report.specs.declared.open.Open.{Open}
@@ -184,15 +184,18 @@ pub record SolvesNode (p : Program) (old : State) (m : Machine) (n : ℕ) (new :
   pub task : Task
   pub is_task : IsTaskOf p old n task
   pub fits : IsProblem (problem_of task)
-  pub ends : EndsBegun (EndsBy task.trial (node_solved task)) p m n new
+  -- what is told of it
+  pub all : Solved
+  pub told : IsToldOf task all
+  pub ends : EndsBegun (EndsBy task.trial all) p m n new
   pub points : PointsStand p new.lasts.nodes.items
   pub reasons : let counts : Counts = with_commit old.counts in
-      GainsReasons (IsOfSolve counts.all old.budget.solves (node_solved task) (node_halts p old n task.trial (node_solved task)))
+      GainsReasons (IsOfSolve counts.all old.budget.solves all (node_halts p old n task.trial all))
       (record old { counts = counts }) new
   pub stays : StaysInRun old new
-  pub answer : IsAnswer task (node_solved task)
-  pub leaves : (tree : Tree) → tree_walk p ≡ Ok tree → new.stop ≡ None → LeavesBy p tree n task.trial (node_solved task) old new
-  pub anyhow : LeavesAnyhow n task.trial (node_solved task) old new
+  pub answer : IsAnswer task all
+  pub leaves : (tree : Tree) → tree_walk p ≡ Ok tree → new.stop ≡ None → LeavesBy p tree n task.trial all old new
+  pub anyhow : LeavesAnyhow n task.trial all old new
 
 -- ---- steps
 -- the last solves of a run, for which there are places once something was done

@@ -6,7 +6,7 @@ ghost use Rattle.scen_defs.specs.Program.{content, node_at, Program as ProgramOf
 ghost use Rattle.scen_tree.specs.Trees.{Tree as TreeOf};
 ghost use Rattle.cut_defs.specs.Stored.{source_of, IsMadeFor};
 ghost use Rattle.node_lp.specs.declared.solved.Solved.{Solved as SolvedOf};
-ghost use Rattle.node_lp.specs.Told.{node_solved};
+ghost use Rattle.node_lp.specs.Tested.{IsToldOf};
 ghost use Rattle.cut_banks.specs.Banks.{pools_of};
 ghost use Rattle.pass_core.specs.Reasons.{AreBehind, PassesAtCost, pool_halts, cut_halts, point_halts, cost_halts, solve_halts};
 ghost use Rattle.pass_core.specs.Reasons.{IsOfSolve, GainsReasons};
@@ -58,7 +58,7 @@ impl State {
         solved: Solved,
     ) -> Result<(), Memory>
         ensures explained { IsTask (content program.now) self.old.frame tree.now self.old.budget.pivots begun.now.task
-            → node_solved begun.now.task ≡ solved → OnOk result (KeepsExplained (content program.now) tree.now self.old self.new) }
+            → IsToldOf begun.now.task solved → OnOk result (KeepsExplained (content program.now) tree.now self.old self.new) }
         ensures tabled { (m : Machine) (f : Flight) → IsSolving self.old m f begun.now.readings.items
             → ((k : ℕ) → m.number k ≡ pool_number self.old k) → f.node ≡ node → IsAbout node solved
             → OnOk result (EndsSolve (EndsBy begun.now.task.trial solved) self.old self.new m f) }

@@ -240,7 +240,7 @@ impl State {
             self.left_stuck();
             return Ok(());
         }
-        let solved = solve_node(alloc, &begun.task)?;
+        let solved = solve_node(alloc, &begun.task, None)?;
         self.counts.raise();
         self.commit(alloc, program, tree, node, &begun, solved)
     }

@@ -9,7 +9,6 @@ use Rattle.cut_defs.specs.Data.{IsRight}
 use Rattle.edit_defs.specs.Data.{view_in, book}
 use Rattle.edit_defs.proofs.Books.{node-right}
 use Rattle.edit_defs.proofs.Programs.{edits_keep_programs}
-use Rattle.node_lp.specs.Told.{node_solved}
 use Rattle.pass_table.specs.Machine.{Machine, opened}
 use Rattle.run_data.specs.Frames.{frame_of}
 use Rattle.run_data.specs.declared.versions.Version.{Version}
@@ -138,12 +137,12 @@ module _ (p : Program) (most : ℕ) (i : IsProgram p) (tree : Tree) (t : tree_wa
       runs : runs_before new.kind ≡ runs_before old.kind
       runs = ap runs_before solve.stays.kind
 
-      given : IfSome (cut_given (node_solved solve.task)) (IsCutNow p old.versions n)
-      given = solves_give_cuts p (record old { lasts = lasts }) n h.count solve.task i (solve_lives p old new lasts m n table solve) h.frame
-          solve.is_task solve.fits solve.answer h.kept
+      given : IfSome (cut_given solve.all) (IsCutNow p old.versions n)
+      given = solves_give_cuts p (record old { lasts = lasts }) n h.count solve.task solve.all i (solve_lives p old new lasts m n table solve) h.frame
+          solve.is_task solve.fits solve.told solve.answer h.kept
 
       go : (new.banks ≡ old.banks)
-          ⊎ (new.banks ≡ offered_banks old.kind n (cut_given (node_solved solve.task)) solve.task.trial old.banks) → HoldsPools old new h.count
+          ⊎ (new.banks ≡ offered_banks old.kind n (cut_given solve.all) solve.task.trial old.banks) → HoldsPools old new h.count
       go (inl e) = record {
         now = h.count;
         kept = subst (BanksAreKept p old.versions h.count) (sym e) h.kept;
@@ -152,7 +151,7 @@ module _ (p : Program) (most : ℕ) (i : IsProgram p) (tree : Tree) (t : tree_wa
       go (inr e) = record {
         now = h.count + 1;
         kept = subst (BanksAreKept p old.versions (h.count + 1)) (sym e)
-            (offers_keep_cuts p old.versions old.kind n h.count (cut_given (node_solved solve.task)) old.banks given h.kept solve.task.trial);
+            (offers_keep_cuts p old.versions old.kind n h.count (cut_given solve.all) old.banks given h.kept solve.task.trial);
         few = λ small. (omega (arith, small, all), omega (arith, small, all, runs));
       }
 

@@ -11,7 +11,6 @@ use Rattle.cut_banks.specs.Banks.{pools_of}
 use Rattle.cut_banks.specs.Pools.{numbers_of}
 use Rattle.node_lp.specs.declared.solved.Solved.{Solved}
 use Rattle.node_lp.specs.declared.solved.Solved.TheVariants as solved
-use Rattle.node_lp.specs.Told.{node_solved}
 use Rattle.one_worker.specs.Turn.{first_flight, read_by_each, read_each}
 use Rattle.one_worker.proofs.Turning.{turn_reads}
 use Rattle.pass_table.specs.Machine.{Machine, IsOpen, IsClosed, IsComplete, begun as begun_by, opened}
@@ -187,7 +186,7 @@ module _ (p : Program) (tree : Tree) (i : IsProgram p) (few : length p.nodes < n
       by (is_open o gets halts) =
           let stop : new.stop ≡ None = not_stuck new old.budget.solves clear (halts before) in
           run_opens old new m h table closed stop (run stop) (puts tree t stop) opens
-  stepped old new m told h table (solves lasts n ready solve) before clear = by (node_solved solve.task) solve.anyhow.halts solve.ends.way
+  stepped old new m told h table (solves lasts n ready solve) before clear = by solve.all solve.anyhow.halts solve.ends.way
     where
       r : IsReadyState p tree old lasts m
       r = ready_stands p tree old lasts m i few h.frame table (h.stands m table) h.long ready

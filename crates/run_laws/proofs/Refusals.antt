@@ -32,7 +32,7 @@ never_refuses p s m lasts n new cut r small table open_yet solve given refuses =
 
     now : IsCutNow p s.versions n cut
     now = subst (λ o. IfSome o (IsCutNow p s.versions n)) given
-        (solves_give_cuts p (record s { lasts = lasts }) n held.count solve.task r.program live held.frame solve.is_task solve.fits solve.answer held.kept)
+        (solves_give_cuts p (record s { lasts = lasts }) n held.count solve.task solve.all r.program live held.frame solve.is_task solve.fits solve.told solve.answer held.kept)
 
     few : held.count < 18446744073709551615
     few = omega (arith, held.few (omega (arith, small)), small, at_most_two s.kind)

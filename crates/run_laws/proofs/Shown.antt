@@ -21,7 +21,6 @@ use Rattle.fit_laws.proofs.Points.{policies_fit}
 use Rattle.node_lp.specs.declared.solved.Solved.{Solved}
 use Rattle.node_lp.specs.declared.solved.Solved.TheVariants as solved
 use Rattle.node_lp.specs.Answers.{value_at_trial, IsAnswer, RayAnswer}
-use Rattle.node_lp.specs.Told.{node_solved}
 use Rattle.pass_table.specs.Machine.{Machine, opened}
 use Rattle.pass_table.specs.Marks.{nothing}
 use Rattle.run_data.specs.declared.versions.Version.{Version}
@@ -169,9 +168,9 @@ module _ (p : Program) (tree : Tree) (i : IsProgram p) (few : length p.nodes < n
     given_forms None h = tt
     given_forms (Some cut) h = forms_of p old.versions cut h.records
 
-    told_forms : IfSome (cut_given (node_solved solve.task)) HasForms
-    told_forms = given_forms (cut_given (node_solved solve.task)) (solves_give_cuts p (record old { lasts = lasts }) n held.count solve.task i live held.frame
-        solve.is_task solve.fits solve.answer held.kept)
+    told_forms : IfSome (cut_given solve.all) HasForms
+    told_forms = given_forms (cut_given solve.all) (solves_give_cuts p (record old { lasts = lasts }) n held.count solve.task solve.all i live held.frame
+        solve.is_task solve.fits solve.told solve.answer held.kept)
 
     stands : StandsBy p tree (known_of new) solve.ends.machine
     stands = standing.stands solve.ends.machine solve.ends.tabled
@@ -252,7 +251,7 @@ module _ (p : Program) (tree : Tree) (i : IsProgram p) (few : length p.nodes < n
             (record { upper = h.ends.upper; direction = h.ends.direction; lower = h.ends.lower; nowhere = h.ends.nowhere; root = tt });
       }
   step_shows old new m told h held standing table (solves lasts n ready solve) stop clear =
-      solve_shows old new lasts m n (ready_live p old lasts ready h.lasts) h.ends held standing table solve (node_solved solve.task)
+      solve_shows old new lasts m n (ready_live p old lasts ready h.lasts) h.ends held standing table solve solve.all
       (told_forms old new lasts m n (ready_live p old lasts ready h.lasts) h.ends held standing table solve) solve.answer solve.anyhow.halts
       (λ stop. solve.leaves tree t stop) stop clear
 

@@ -25,7 +25,6 @@ use Rattle.node_lp.specs.declared.task.Task.{Task}
 use Rattle.node_lp.specs.declared.solved.Solved.{Solved}
 use Rattle.node_lp.specs.declared.solved.Solved.TheVariants as solved
 use Rattle.node_lp.specs.Problem.{IsProblem, problem_of, is_priced}
-use Rattle.node_lp.specs.Told.{node_solved}
 use Rattle.node_lp.specs.Answers.{value_at_trial, HasCut, PointAnswer, RayAnswer, IsAnswer}
 use Rattle.pass_table.specs.Machine.{Machine, begun, IsLive, HasPoint, IsGood, IsComplete}
 use Rattle.one_worker.specs.Turn.{AreChildren, first_flight, read_by_each, read_each}
@@ -514,7 +513,7 @@ pub solve_stands : (p : Program) (tree : Tree) → IsProgram p → tree_walk p �
     → old.frame ≡ frame_of p → IsTabledBy p old m → length old.lasts.nodes.items ≡ length p.nodes → StandsBy p tree (known_of old) m
     → SolvesNode p old m n new → new.stop ≡ None → StandsBehind p tree new
 solve_stands p tree i t old new m n frame table long stands solves none =
-    go (node_solved solves.task) solves.answer (solves.leaves tree t none) solves.ends.way
+    go solves.all solves.answer (solves.leaves tree t none) solves.ends.way
   where
     live : Lives p n
     live = subst (Lives p) solves.ends.node (sym (table.machine.live solves.ends.turn.node) ∙ solves.ends.turn.next.may.live)

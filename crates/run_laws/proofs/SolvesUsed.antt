@@ -9,7 +9,7 @@ use Rattle.edit_defs.specs.Data.{view_in}
 use Rattle.node_lp.specs.declared.solved.Solved.{Solved}
 use Rattle.node_lp.specs.declared.solved.Solved.TheVariants as solved
 use Rattle.node_lp.specs.Problem.{is_priced}
-use Rattle.node_lp.specs.Told.{node_solved}
+use Rattle.node_lp.specs.Tested.{IsToldOf}
 use Rattle.node_lp.specs.Answers.{LooseAnswer, IsAnswer}
 use Rattle.run_data.specs.Frames.{frame_of}
 use Rattle.pass_core.specs.Explained.{cut_given}
@@ -23,7 +23,7 @@ use Rattle.run_laws.proofs.FirstCutsMade.{has_least}
 use Rattle.run_laws.proofs.Refusals.{never_refuses}
 
 pub solves_are_used : SolvesAreUsed
-solves_are_used p s m lasts n new r small table open_yet solve stuck = go (node_solved solve.task) refl solve.answer stuck
+solves_are_used p s m lasts n new r small table open_yet solve stuck = go solve.all refl solve.answer stuck
   where
     stands : StandsBy p r.tree (known_of s) m
     stands = (run_stands p s r (unstopped s open_yet)).stands m table
@@ -51,15 +51,15 @@ solves_are_used p s m lasts n new r small table open_yet solve stuck = go (node_
         (first (λ q. let z : run_kind.Cost ≡ run_kind.Feasible = sym e ∙ q in absurd (cc))) solve.is_task solve.fits (ap is_priced e) a
 
     -- its cut isn't refused, where it gives one
-    taken : (j : ℕ) → n ≡ j → (cut : Option Stored) → cut_given (node_solved solve.task) ≡ cut
+    taken : (j : ℕ) → n ≡ j → (cut : Option Stored) → cut_given solve.all ≡ cut
         → RefusesCut s.kind s.banks j solve.task.trial cut → ⊥
     taken zero e cut given h = h
     taken (suc j) e None given h = h
     taken (suc j) e (Some cut) given h = never_refuses p s m lasts n new cut r small table open_yet solve given
         (subst (λ k. RefusesCut s.kind s.banks k solve.task.trial (Some cut)) (sym e) h)
 
-    go : (all : Solved) → node_solved solve.task ≡ all → IsAnswer solve.task all → IsStuck s.kind s.banks n solve.task.trial all → ⊥
-    go (solved.Point x value cut) e a (inl (o, passes)) = points_join solve.task x value cut o solve.fits e passes
+    go : (all : Solved) → solve.all ≡ all → IsAnswer solve.task all → IsStuck s.kind s.banks n solve.task.trial all → ⊥
+    go (solved.Point x value cut) e a (inl (o, passes)) = points_join solve.task x value cut o solve.fits (subst (IsToldOf solve.task) e solve.told) passes
     go (solved.Point x value cut) e a (inr h) = taken n refl cut (ap cut_given e) h
     go (solved.NoPoint cut) e a h = taken n refl (Some cut) (ap cut_given e) h
     go solved.Loose e a h = loose s.kind refl a

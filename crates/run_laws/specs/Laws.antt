@@ -6,7 +6,6 @@ use Rattle.pass_table.specs.Machine.{Machine, IsClosed, MayBegin}
 use Rattle.run_ends.specs.declared.settled.Settled.TheVariants.{Optimal}
 use Rattle.pass_core.specs.declared.state.State.{State}
 use Rattle.cut_defs.specs.Stored.{Stored}
-use Rattle.node_lp.specs.Told.{node_solved}
 use Rattle.run_ends.specs.declared.last.Lasts.{Lasts}
 use Rattle.pass_core.specs.Explained.{cut_given}
 use Rattle.pass_core.specs.Reasons.{RefusesCut}
@@ -38,5 +37,5 @@ EndsAreSettled = (p : Program) (s : State) (m : Machine) → IsRunTo p s → IsT
 abbrev pub NeverRefuses : Type 0
 NeverRefuses = (p : Program) (s : State) (m : Machine) (lasts : Lasts) (n : ℕ) (new : State) (cut : Stored) → (run : IsRunTo p s)
     → NumbersSuffice p s run → IsTabledBy p s m → settled_in s ≡ None
-    → (solve : SolvesNode p (record s { lasts = lasts }) m n new) → cut_given (node_solved solve.task) ≡ Some cut
+    → (solve : SolvesNode p (record s { lasts = lasts }) m n new) → cut_given solve.all ≡ Some cut
     → RefusesCut s.kind s.banks n solve.task.trial (Some cut) → ⊥

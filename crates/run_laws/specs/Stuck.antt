@@ -3,7 +3,6 @@ use Rattle.std.specs.Prelude.{◌≡◌, ℕ, Some, None, Ok}
 use Rattle.scen_defs.specs.Program.{Program}
 use Rattle.scen_defs.specs.declared.report.Kind.TheVariants.{Cost}
 use Rattle.scen_tree.specs.Trees.{Tree, tree_walk}
-use Rattle.node_lp.specs.Told.{node_solved}
 use Rattle.pass_table.specs.Machine.{Machine, IsClosed}
 use Rattle.proved_report.specs.declared.open.Open.TheVariants.{Solves}
 use Rattle.run_ends.specs.declared.last.Lasts.{Lasts}
@@ -19,7 +18,7 @@ abbrev pub SolvesAreUsed : Type 0
 SolvesAreUsed = (p : Program) (s : State) (m : Machine) (lasts : Lasts) (n : ℕ) (new : State) → (run : IsRunTo p s)
     → NumbersSuffice p s run → IsTabledBy p s m → settled_in s ≡ None
     → (solve : SolvesNode p (record s { lasts = lasts }) m n new)
-    → IsStuck s.kind s.banks n solve.task.trial (node_solved solve.task) → ⊥
+    → IsStuck s.kind s.banks n solve.task.trial solve.all → ⊥
 
 -- nor before the run behind a closed one opens
 abbrev pub OpeningsAreMade : Type 0

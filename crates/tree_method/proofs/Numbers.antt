@@ -7,7 +7,6 @@ use Rattle.scen_defs.specs.declared.report.Place.TheVariants.{Solve, Cut, Cost, 
 use Rattle.node_lp.specs.declared.task.Task.{Task}
 use Rattle.node_lp.specs.declared.solved.Solved.{Solved}
 use Rattle.node_lp.specs.declared.solved.Solved.TheVariants as solved
-use Rattle.node_lp.specs.Told.{node_solved}
 use Rattle.proved_report.specs.declared.open.Open.{Open}
 use Rattle.proved_report.specs.declared.open.Open.TheVariants.{Solves, Pivots, Passed}
 use Rattle.run_ends.specs.declared.last.Lasts.{Lasts}
@@ -114,14 +113,14 @@ module _ (p : Program) (old : State) where
   })
 
   -- a reason is told of the solve of this task
-  abbrev IsOfThis : State → Lasts → ℕ → Task → Open → Type 0
-  IsOfThis mid lasts n task = IsOfSolve (with_commit mid.counts).all mid.budget.solves (node_solved task)
-      (node_halts p (record mid { lasts = lasts }) n task.trial (node_solved task))
+  abbrev IsOfThis : State → Lasts → ℕ → Task → Solved → Open → Type 0
+  IsOfThis mid lasts n task all = IsOfSolve (with_commit mid.counts).all mid.budget.solves all
+      (node_halts p (record mid { lasts = lasts }) n task.trial all)
 
   -- the last solve
   module _ (mid : State) (m : Machine) (lasts : Lasts) (n : ℕ) (new : State) (before : SolvesNodes p old mid) (ready : AreReady mid lasts)
       (node : SolvesNode p (record mid { lasts = lasts }) m n new) where
-    abbrev here : (k : ℕ) (all : Solved) → k ≡ (with_commit mid.counts).all → node_solved node.task ≡ all → HasSolve p k all old new
+    abbrev here : (k : ℕ) (all : Solved) → k ≡ (with_commit mid.counts).all → node.all ≡ all → HasSolve p k all old new
     here k all e c = record {
       mid = mid;
       machine = m;
@@ -137,16 +136,16 @@ module _ (p : Program) (old : State) where
     }
 
     place_here : (o : Operation) (place : Place)
-        → IsAtSolve (with_commit mid.counts).all (node_solved node.task)
-        (node_halts p (record mid { lasts = lasts }) n node.task.trial (node_solved node.task)) o place → ArisesAt p old new o place
+        → IsAtSolve (with_commit mid.counts).all node.all
+        (node_halts p (record mid { lasts = lasts }) n node.task.trial node.all) o place → ArisesAt p old new o place
     place_here o (Solve k) h = here k (solved.Passed false o) h.0 h.1
-    place_here o (Cut k) h = record { all = node_solved node.task; solve = here k (node_solved node.task) h.0 refl; passes = h.1 }
-    place_here o (Cost k) h = record { all = node_solved node.task; solve = here k (node_solved node.task) h.0 refl; passes = h.1 }
+    place_here o (Cut k) h = record { all = node.all; solve = here k node.all h.0 refl; passes = h.1 }
+    place_here o (Cost k) h = record { all = node.all; solve = here k node.all h.0 refl; passes = h.1 }
     place_here o Ground h = absurd h
     place_here o Dual h = h
     place_here o Check h = h
 
-    at_solve : (why : Open) → IsOfThis mid lasts n node.task why → Arises p old new why
+    at_solve : (why : Open) → IsOfThis mid lasts n node.task node.all why → Arises p old new why
     at_solve (Solves k) h = tt
     at_solve (Pivots k) h = here k solved.PivotsEnded h.0 h.1
     at_solve (Passed place o) h = place_here o place h
@@ -170,7 +169,7 @@ module _ (p : Program) (old : State) where
                 inr (at_opening why mid new m before tabled closed (opens_run closed earlier opens points reasons run first left) i)
           ]
       go b (solves lasts n ready node) =
-          elim (gained (IsOfThis mid lasts n node.task) (record mid { lasts = lasts; counts = with_commit mid.counts }) new why node.reasons h) [
+          elim (gained (IsOfThis mid lasts n node.task node.all) (record mid { lasts = lasts; counts = with_commit mid.counts }) new why node.reasons h) [
             | inl x ↦ kept (rest x)
             | inr i ↦ inr (at_solve mid m lasts n new before ready node why i)
           ]
@@ -193,7 +192,7 @@ module _ (p : Program) (old : State) where
       go : (b : Bool) → MakesStep p mid m new b → IsLasting why
       go b (begins_none rests points reasons ready) = by (λ w. ⊥) (reasons.lasting why e)
       go b (opens_run closed earlier opens points reasons run first left) = by (IsBeforeRun p mid) (reasons.lasting why e)
-      go b (solves lasts n ready node) = by (IsOfThis mid lasts n node.task) (node.reasons.lasting why e)
+      go b (solves lasts n ready node) = by (IsOfThis mid lasts n node.task node.all) (node.reasons.lasting why e)
 
   -- what lasts for a run is told of a cut or of a cost
   still_lasts : (new : State) → SolvesNodes p old new → ((why : Open) → old.lasting ≡ Some why → IsLasting why) → (why : Open) → new.lasting ≡ Some why

@@ -8,7 +8,6 @@ use Rattle.scen_defs.specs.declared.report.Place.TheVariants.{Cost}
 use Rattle.scen_tree.specs.Trees.{Tree, tree_walk}
 use Rattle.node_lp.specs.declared.solved.Solved.{Solved}
 use Rattle.node_lp.specs.declared.solved.Solved.TheVariants.{PivotsEnded, Passed as PassedIn}
-use Rattle.node_lp.specs.Told.{node_solved}
 use Rattle.proved_report.specs.declared.open.Open.{Open}
 use Rattle.proved_report.specs.declared.open.Open.TheVariants.{Solves, Pivots, Passed}
 use Rattle.run_data.specs.Frames.{frame_of}
@@ -173,7 +172,7 @@ pub record HasSolve (p : Program) (k : ℕ) (all : Solved) (old new : State) : T
   pub ready : AreReady mid lasts
   pub solve : SolvesNode p (record mid { lasts = lasts }) machine node next
   pub number : (with_commit mid.counts).all ≡ k
-  pub comes : node_solved solve.task ≡ all
+  pub comes : solve.all ≡ all
   pub behind : SolvesNodes p next new
 
 -- an operation of the cut of one of these solves passes, which has number k: where the solve makes it, or in the answer of its pool

@@ -3,6 +3,7 @@ use Rattle.std.proofs.Common.{◌≡◌, Result, Err, subst}
 use Rattle.rationals.specs.Passes.{Operation}
 use Rattle.proved_report.specs.Open.{IsPassing}
 use Rattle.claim_laws.proofs.Passing.{EndsIn, IsWide}
+use Rattle.node_lp.specs.declared.solved.Solved.TheVariants as solved
 use Rattle.walk_laws.specs.Ends.{WalksEndPassing}
 use Rattle.walk_laws.proofs.Cuts.{OfferWide, ground_ends, offer_ends}
 use Rattle.walk_laws.proofs.Nodes.{TellsWell, tells_well}
@@ -13,7 +14,7 @@ of_end w o h e = record { holds = subst (EndsIn IsWide) e h }
 
 pub walks_end_passing : WalksEndPassing
 walks_end_passing = record {
-  solve = λ t in_cut o e. record { holds = subst (TellsWell t.datum.bounds) e (tells_well t) };
+  solve = λ t in_cut o e. record { holds = tells_well t (solved.Passed in_cut o) e };
   offer = λ pool cut trial o e. record { holds = subst OfferWide e (offer_ends pool cut trial) };
   cost = λ nodes totals lasts o e. of_end _ o (joined_ends nodes totals lasts) e;
   assembly = λ cut o e. of_end _ o (assembled_ends cut) e;

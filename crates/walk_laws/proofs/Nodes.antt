@@ -1,23 +1,24 @@
 -- The solve of a node ends in no operation but one that passes 128 bits; and the values of a point that it finds fit.
 use Rattle.std.proofs.Common.{ℕ, zero, suc, Bool, true, false, List, [], ◌∷◌, ◌++◌, Option, Some, None, Result, Ok, Err, length}
-use Rattle.std.proofs.Common.{take, drop, ◌≡◌, refl}
+use Rattle.std.proofs.Common.{take, drop, ◌≡◌, ◌||◌, eqb, refl, sym, subst}
 use Rattle.rationals.specs.declared.Op.{Op}
 use Rattle.rationals.specs.declared.Op.TheVariants.{Add, Sub}
 use Rattle.rationals.specs.Rational.{ℚ, zero_ℚ}
 use Rattle.rationals.specs.Order.{same}
 use Rattle.rationals.specs.Forms.{put}
 use Rattle.rationals.specs.Sparse.{Entry, coefficient}
-use Rattle.rationals.specs.Passes.{Operation, then_walk}
+use Rattle.rationals.specs.Passes.{Operation, then_walk, IsNarrow}
 use Rattle.rationals.specs.Totals.{sum_from}
 use Rattle.rationals.specs.Choices.{pick}
 use Rattle.smps_words.specs.declared.row_kind.RowKind.{RowKind}
 use Rattle.smps_words.specs.declared.row_kind.RowKind.TheVariants.{Less, Greater, Equal}
 use Rattle.scen_defs.specs.Lists.{Each}
 use Rattle.scen_defs.specs.declared.program.NodeRow.{NodeRow}
+use Rattle.scen_defs.proofs.SumLaws.{each-both}
 use Rattle.cut_defs.specs.declared.datum.ColumnBounds.{ColumnBounds}
 use Rattle.cut_defs.specs.declared.datum.Share.{Share}
 use Rattle.cut_defs.specs.declared.kinds.CutKind.TheVariants.{Bound, Ray}
-use Rattle.cut_defs.specs.Data.{Datum}
+use Rattle.cut_defs.specs.Data.{Datum, is_own}
 use Rattle.cut_defs.specs.Stored.{Stored}
 use Rattle.lp_defs.specs.Walks.{Walk}
 use Rattle.lp_defs.specs.Program as lp
@@ -30,7 +31,7 @@ use Rattle.interval_form.specs.declared.part.Part.{Part}
 use Rattle.interval_form.specs.declared.part.Part.TheVariants.{Above, Below, Free}
 use Rattle.interval_form.specs.declared.part.Vector.TheVariants.{Point}
 use Rattle.interval_form.specs.Parts.{part_of, part_at, behind, value_walk}
-use Rattle.interval_form.specs.Own.{own_form, other_form}
+use Rattle.interval_form.specs.Own.{own_form, other_form, place_from}
 use Rattle.interval_form.specs.Spans.{shift_at, limit_count}
 use Rattle.interval_form.specs.Rows.{terms_walk, right_walk, push_walk, ends_walk, own_limits_from, bound_walk, bound_limits_from}
 use Rattle.node_lp.specs.declared.task.Task.{Task}
@@ -42,7 +43,12 @@ use Rattle.node_lp.specs.Walk.{cuts_from, node_parts, rows_walk, standard_seen, 
 use Rattle.node_lp.specs.Walk.{multipliers_from, best_walk, nowhere_walk, end_walk, path_walk, solve_walk, found_in}
 use Rattle.node_lp.specs.Points.{weights_of}
 use Rattle.node_lp.specs.Weighed.{Weighed}
-use Rattle.node_lp.specs.Told.{record_of, cut_made, with_cut, stored_cuts, told, node_solved}
+use Rattle.node_lp.specs.Told.{record_of, cut_made, with_cut, stored_cuts, told, told_of}
+use Rattle.node_lp.specs.declared.found.Found.{Found}
+use Rattle.node_lp.specs.declared.found.Found.TheVariants as found
+use Rattle.node_lp.specs.Shows.{IsSound}
+use Rattle.node_lp.specs.Tested.{IsTestable, HasOrigin, IsToldOf}
+use Rattle.node_lp.specs.Tested.HasOrigin.{by_test, by_path}
 use Rattle.node_lp.specs.Stored.{stored_uses}
 use Rattle.claim_laws.proofs.Passing.{EndsIn, IsWide, then_ends, pick_ends, walk_ends, step_ends}
 use Rattle.walk_laws.proofs.Paths.{SolutionWide, solution_ends}
@@ -215,5 +221,32 @@ module _ (d : Datum) (priced : Bool) (cuts : List Stored) (p : Problem) where
       (λ limits _. end_comes limits (standard_seen p limits) (solution (standard_seen p limits) pivots)
       (solution_ends (standard_seen p limits) pivots)))
 
-pub tells_well : (t : Task) → TellsWell t.datum.bounds (node_solved t)
-tells_well t = told_well t.datum (is_priced t.kind) (stored_cuts (is_priced t.kind) t.children.items) (problem_of t) t.pivots
+-- what is tested tells well too
+own_placed : (k : ℕ) (bs : List ColumnBounds) (j : ℕ) → is_own bs j ≡ true → place_from k bs j ≡ None → ⊥
+own_placed k [] j h e = absurd (cc)
+own_placed k (b ∷ bs) j h e = go (eqb b.column j) h e (own_placed (suc k) bs j)
+  where
+    go : (t : Bool) → (t || is_own bs j) ≡ true → pick t (Some k) (place_from (suc k) bs j) ≡ None
+        → (is_own bs j ≡ true → place_from (suc k) bs j ≡ None → ⊥) → ⊥
+    go true h e rest = absurd (cc)
+    go false h e rest = rest h e
+
+kept_well : (t : Task) (f : Found) → IsTestable f → IsSound (problem_of t) f → TellsWell t.datum.bounds (told_of t f)
+kept_well t (found.Point x v m) k s =
+    point_told t.datum (is_priced t.kind) (stored_cuts (is_priced t.kind) t.children.items) (problem_of t) (is_priced t.kind) x v m
+    (each-both (λ (e : Entry) (own : is_own t.datum.bounds e.column ≡ true) (fits : IsNarrow e.value).
+    record { own = own_placed 0 t.datum.bounds e.column own; fits = fits }) x s.places.0.own k.0)
+kept_well t (found.NoPoint m) k s =
+    with_cut_ends t.datum.bounds solved.NoPoint (cut_made t.datum Ray (stored_cuts (is_priced t.kind) t.children.items) m) (λ c. tt)
+    (made_ends t.datum (record_of t.datum Ray m) (stored_uses m.weights (stored_cuts (is_priced t.kind) t.children.items)))
+kept_well t found.Loose k s = absurd k
+kept_well t found.PivotsEnded k s = absurd k
+kept_well t (found.Passed o) k s = absurd k
+
+pub tells_well : (t : Task) (all : Solved) → IsToldOf t all → TellsWell t.datum.bounds all
+tells_well t all h = subst (TellsWell t.datum.bounds) (sym h.told) (go h.origin h.comes h.sound)
+  where
+    go : (f : Found) → HasOrigin (problem_of t) t.pivots f → IsSound (problem_of t) f → TellsWell t.datum.bounds (told_of t f)
+    go f (by_test k) s = kept_well t f k s
+    go f (by_path e) s = subst (λ (f : Found). TellsWell t.datum.bounds (told_of t f)) (sym e)
+        (told_well t.datum (is_priced t.kind) (stored_cuts (is_priced t.kind) t.children.items) (problem_of t) t.pivots)

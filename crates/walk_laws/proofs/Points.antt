@@ -40,8 +40,8 @@ number_fits (Free m n) z v e = value_fits Sub (z m) (z n) v e
 
 -- ---- a value of an own column that fits
 pub record FitsOwn (bs : List ColumnBounds) (e : Entry) : Type 0 where
-  own : place_of bs e.column ≡ None → ⊥
-  fits : IsNarrow e.value
+  pub own : place_of bs e.column ≡ None → ⊥
+  pub fits : IsNarrow e.value
 
 -- each own column has a place
 behind_first : (t : Bool) (k j : ℕ) (bs : List ColumnBounds) → (place_from (suc k) bs j ≡ None → ⊥)

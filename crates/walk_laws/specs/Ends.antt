@@ -16,13 +16,13 @@ use Rattle.dual_assemble.specs.Values.{assembled}
 use Rattle.dual_assemble.specs.Ground.{ground_walk}
 use Rattle.node_lp.specs.declared.task.Task.{Task}
 use Rattle.node_lp.specs.declared.solved.Solved.TheVariants as solved
-use Rattle.node_lp.specs.Told.{node_solved}
+use Rattle.node_lp.specs.Tested.{IsToldOf}
 use Rattle.run_ends.specs.declared.last.Last.{Last}
 use Rattle.run_ends.specs.Costs.{joined_cost}
 
 pub record WalksEndPassing : Type 0 where
   -- the solve of a node, and the making of its cut
-  pub solve : (t : Task) (in_cut : Bool) (o : Operation) → node_solved t ≡ solved.Passed in_cut o → IsPassing o
+  pub solve : (t : Task) (in_cut : Bool) (o : Operation) → IsToldOf t (solved.Passed in_cut o) → IsPassing o
   -- an offer of a cut to a pool
   pub offer : (pool : Held) (cut : Stored) (trial : List Entry) (o : Operation)
       → offer_of pool cut trial ≡ offer.Passed o → IsPassing o

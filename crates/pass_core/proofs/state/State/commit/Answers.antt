@@ -2,6 +2,7 @@ use Rattle.std.proofs.Common.{◌≡◌, None, IfSome, OnOk, refl, sym, ap, subs
 use Rattle.scen_defs.specs.Program.{content, node_at}
 use Rattle.scen_defs.specs.declared.report.Place.{Place}
 use Rattle.scen_defs.specs.declared.report.Place.TheVariants.{Solve, Cut}
+use Rattle.node_lp.specs.Tested.{IsToldOf}
 use Rattle.node_lp.specs.declared.solved.Solved.{Solved}
 use Rattle.node_lp.specs.declared.solved.Solved.TheVariants as solved
 use Rattle.proved_report.specs.declared.open.Open.TheVariants as reason
@@ -31,19 +32,19 @@ returns-in_ok-point-in-Point-clause-explained c = λ t e.
     on_ok c.complete.result (KeepsExplained p tree c.point.new.self c.complete.new.self) (KeepsExplained p tree old c.complete.new.self)
     (then_kept p tree old c.point.new.self c.complete.new.self
     (c.in_ok-point-in-Point.ensures.explained p tree
-    (point_finds p old.frame tree old.budget.pivots c.args.begun.now.task c.in-Point.point c.in-Point.value c.in-Point.cut t (e ∙ c.in-Point.is))
-    (point_gives p old.frame tree old.budget.pivots c.args.begun.now.task c.in-Point.point c.in-Point.value c.in-Point.cut t (e ∙ c.in-Point.is))))
+    (point_finds p old.frame tree old.budget.pivots c.args.begun.now.task c.in-Point.point c.in-Point.value c.in-Point.cut t (subst (IsToldOf c.args.begun.now.task) c.in-Point.is e))
+    (point_gives p old.frame tree old.budget.pivots c.args.begun.now.task c.in-Point.point c.in-Point.value c.in-Point.cut t (subst (IsToldOf c.args.begun.now.task) c.in-Point.is e))))
     c.complete.ensures.explained
 
 pub returns-in-NoPoint-clause-explained : goal.returns-in-NoPoint-clause-explained
 returns-in-NoPoint-clause-explained c = λ t e.
     c.no_point.ensures.explained (content c.args.program.now) c.args.tree.now
-    (record { task = c.args.begun.now.task; is_task = t; at_trial = refl; given = ap cut_given (e ∙ c.in-NoPoint.is) })
+    (record { task = c.args.begun.now.task; is_task = t; at_trial = refl; all = c.args.solved; comes = e; given = ap cut_given c.in-NoPoint.is })
 
 pub returns-in-PivotsEnded-clause-explained : goal.returns-in-PivotsEnded-clause-explained
 returns-in-PivotsEnded-clause-explained c = λ t e.
     left_kept (content c.args.program.now) c.args.tree.now c.args.self.now c.left_open.new.self
-    (reason.Pivots c.args.self.now.counts.all) c.left_open.ensures.others (record { task = c.args.begun.now.task; is_task = t; comes = e ∙ c.in-PivotsEnded.is })
+    (reason.Pivots c.args.self.now.counts.all) c.left_open.ensures.others (record { task = c.args.begun.now.task; is_task = t; comes = subst (IsToldOf c.args.begun.now.task) c.in-PivotsEnded.is e })
 
 pub returns-in-Passed-clause-explained : goal.returns-in-Passed-clause-explained
 returns-in-Passed-clause-explained c = λ t e.
@@ -51,7 +52,7 @@ returns-in-Passed-clause-explained c = λ t e.
     let tree = c.args.tree.now in
     let old = c.args.self.now in
     let made : ComesOfSolve p old.frame tree old.budget.pivots (solved.Passed c.in-Passed.in_cut c.in-Passed.passed) =
-    record { task = c.args.begun.now.task; is_task = t; comes = e ∙ c.in-Passed.is } in
+    record { task = c.args.begun.now.task; is_task = t; comes = subst (IsToldOf c.args.begun.now.task) c.in-Passed.is e } in
     left_kept p tree c.args.self.now c.left_open-in-Passed.new.self
     (reason.Passed c.solve_place-place.result c.in-Passed.passed) c.left_open-in-Passed.ensures.others
     (subst (λ (place : Place). PassesInRun p old.frame tree old.budget.pivots place c.in-Passed.passed) (sym c.solve_place-place.ensures)

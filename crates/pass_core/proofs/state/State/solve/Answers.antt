@@ -107,7 +107,7 @@ returns-clause-solves c = λ m walk frame begun stand.
     let about = answer_about t n all node c.in_ok-solved.ensures.answer in
     solved_by p c.args.tree.now old c.raise.new.self m n i walk frame b t all c.commit.new.self c.commit.result c.raise.ensures task
     (c.if-not-fits.ensures.exact.0 refl) stand
-    c.in_ok-solved.ensures.exact c.in_ok-solved.ensures.answer
+    c.in_ok-solved.ensures.told c.in_ok-solved.ensures.answer
     (c.commit.ensures.tabled (read_machine p s m n i frame b) (begun_flight p s m n i frame b)
     (begun_solving p s m n i frame b c.in-Some.begun.readings.items rs) (reads_number p s m n i frame b) (at_node p s m n i frame b)
     about)
@@ -145,7 +145,7 @@ returns-clause-made c = λ b walk frame right h.
     (c.commit.ensures.made b
     (answer_made p s n t b i lives right task
     (read_have (IsMadeFor (run_book s.kind b)) (pools_of s.kind s.banks) (children_in s.frame n) t.children.items task.cuts (pools_made s.kind b s.banks h.0))
-    c.in_ok-solved.solved (sym c.in_ok-solved.ensures.exact) c.in_ok-solved.ensures.answer))
+    c.in_ok-solved.solved c.in_ok-solved.ensures.told c.in_ok-solved.ensures.answer))
 
 pub returns-in_default-clause-progress : goal.returns-in_default-clause-progress
 returns-in_default-clause-progress c =
