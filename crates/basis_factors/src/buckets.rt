@@ -30,7 +30,11 @@ pub(crate) struct Buckets {
 
 fn link_of(links: &[Link], item: u32) -> Link {
     let item = item as usize;
-    if item < links.len() { links[item] } else { LOOSE }
+    if item < links.len() {
+        links[item]
+    } else {
+        LOOSE
+    }
 }
 
 fn set_next(links: &mut [Link], item: u32, next: u32) {

@@ -66,7 +66,11 @@ impl<T: Number> Factors<T> {
 
     /// How many numbers the factors have.
     pub fn entries(&self) -> usize {
-        let off = self.lower.entries.len().saturating_add(self.upper.entries.len());
+        let off = self
+            .lower
+            .entries
+            .len()
+            .saturating_add(self.upper.entries.len());
         self.pivots.len().saturating_add(off)
     }
 
@@ -89,7 +93,11 @@ impl<T: Number> Factors<T> {
         let inverse = taken(&mut own, pick.column).inverse();
         active.count_down(&own);
         let Pick { row, column } = pick;
-        let pivot = Pivot { row, column, inverse };
+        let pivot = Pivot {
+            row,
+            column,
+            inverse,
+        };
         self.clear_column(alloc, active, pivot, &own, &rows)
     }
 
@@ -154,7 +162,9 @@ impl<T: Number> Factors<T> {
             value: T::zero(),
         };
         self.upper_columns.entries.resize(end, none)?;
-        self.upper_columns.starts.resize(self.pivots.len().saturating_add(1), 0)?;
+        self.upper_columns
+            .starts
+            .resize(self.pivots.len().saturating_add(1), 0)?;
         let starts = &mut self.upper_columns.starts;
         count_columns(starts, &self.of_column, &self.upper.entries);
         add_up(starts);
