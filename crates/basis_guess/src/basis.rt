@@ -2,7 +2,7 @@
 
 use crate::inverse::Inverse;
 use crate::program::{FloatProgram, Standing, narrow};
-use crate::spots::{NOWHERE, Spot, set_standing, spot, spot_of};
+use crate::spots::{NOWHERE, Spot, set_standing, spot_at, spot_of};
 use crate::vectors::constant;
 use std::alloc::{AllocError, Global};
 
@@ -122,7 +122,7 @@ impl Basis {
     /// What is known of a column.
     #[inline(always)]
     pub fn spot(&self, column: usize) -> Spot {
-        spot(&self.spots, column)
+        spot_at(&self.spots, column)
     }
 
     /// The basic column at a position.
@@ -139,7 +139,7 @@ impl Basis {
     #[inline(always)]
     pub fn basic(&self, position: usize) -> Spot {
         if position < self.head.len() {
-            spot(&self.spots, self.head[position] as usize)
+            spot_at(&self.spots, self.head[position] as usize)
         } else {
             NOWHERE
         }

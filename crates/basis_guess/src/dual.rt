@@ -22,7 +22,7 @@ pub(crate) fn agree(by_column: f64, by_row: f64) -> bool {
 
 /// What the method holds beside the basis.
 #[derive(Drop)]
-struct Dual {
+struct DualRun {
     alloc: Global,
     /// By position the square of the length of the row of the inverse.
     weights: Vec<f64>,
@@ -36,9 +36,9 @@ struct Dual {
     retries: u32,
 }
 
-impl Dual {
-    fn new(alloc: Global, rows: usize) -> Result<Dual, AllocError> {
-        Ok(Dual {
+impl DualRun {
+    fn new(alloc: Global, rows: usize) -> Result<DualRun, AllocError> {
+        Ok(DualRun {
             alloc,
             weights: constant(alloc, 1.0, rows)?,
             excesses: constant(alloc, 0.0, rows)?,
@@ -217,7 +217,7 @@ pub(crate) fn dual(
 ) -> Result<End, AllocError> {
     basis.shift_costs(tolerance);
     basis.find_values(alloc, program)?;
-    let mut dual = Dual::new(alloc, program.row_count())?;
+    let mut dual = DualRun::new(alloc, program.row_count())?;
     dual.exceed_all(basis);
     dual.turns(program, basis)
 }

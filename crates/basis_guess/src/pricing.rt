@@ -2,7 +2,7 @@
 
 use crate::basis::Basis;
 use crate::program::FloatProgram;
-use crate::spots::{Spot, spot};
+use crate::spots::{Spot, spot_at};
 use crate::vectors::{Vector, number, set_number};
 use basis_factors::Entry;
 use std::alloc::{AllocError, Global};
@@ -29,7 +29,7 @@ fn set_values(spots: &mut [Spot], head: &[u32], values: &[f64]) {
 /// The costs of the columns at these positions.
 fn set_costs(costs: &mut [f64], head: &[u32], spots: &[Spot]) {
     for (position, column) in head.iter().enumerate() {
-        set_number(costs, position, spot(spots, *column as usize).cost);
+        set_number(costs, position, spot_at(spots, *column as usize).cost);
     }
 }
 

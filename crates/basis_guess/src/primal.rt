@@ -14,7 +14,7 @@ const STALLED: u32 = 500;
 
 /// What the method holds beside the basis.
 #[derive(Drop)]
-struct Primal {
+struct PrimalRun {
     alloc: Global,
     tolerance: f64,
     /// By column its Devex weight.
@@ -25,14 +25,14 @@ struct Primal {
     idle: u32,
 }
 
-impl Primal {
+impl PrimalRun {
     fn new(
         alloc: Global,
         columns: usize,
         rows: usize,
         tolerance: f64,
-    ) -> Result<Primal, AllocError> {
-        Ok(Primal {
+    ) -> Result<PrimalRun, AllocError> {
+        Ok(PrimalRun {
             alloc,
             tolerance,
             weights: constant(alloc, 1.0, columns)?,
@@ -145,6 +145,6 @@ pub(crate) fn primal(
     basis: &mut Basis,
     tolerance: f64,
 ) -> Result<End, AllocError> {
-    let mut primal = Primal::new(alloc, basis.spots.len(), program.row_count(), tolerance)?;
+    let mut primal = PrimalRun::new(alloc, basis.spots.len(), program.row_count(), tolerance)?;
     primal.turns(program, basis)
 }

@@ -45,10 +45,10 @@ pub fn solve(
 ) -> Result<Ended, AllocError> {
     let mut basis = Basis::new(alloc, program, standings, work)?;
     let end = solved(alloc, program, &mut basis)?;
-    ended(alloc, &basis, end)
+    finished(alloc, &basis, end)
 }
 
-fn ended(alloc: Global, basis: &Basis, end: End) -> Result<Ended, AllocError> {
+fn finished(alloc: Global, basis: &Basis, end: End) -> Result<Ended, AllocError> {
     let mut ended = Ended {
         end,
         standings: Vec::new(alloc),

@@ -53,7 +53,7 @@ fn fitting(low: f64, high: f64, standing: Standing) -> Standing {
 
 /// The column at a place.
 #[inline(always)]
-pub(crate) fn spot(spots: &[Spot], column: usize) -> Spot {
+pub(crate) fn spot_at(spots: &[Spot], column: usize) -> Spot {
     if column < spots.len() {
         spots[column]
     } else {
