@@ -118,11 +118,7 @@ fn place_in(places: &[u32], column: u32) -> u32 {
 }
 
 /// A row's entries in the columns that have a place.
-fn own_entries(
-    alloc: Global,
-    row: &ExactRow,
-    places: &[u32],
-) -> Result<Vec<Entry<Frac>>, Memory> {
+fn own_entries(alloc: Global, row: &ExactRow, places: &[u32]) -> Result<Vec<Entry<Frac>>, Memory> {
     let mut entries = Vec::new(alloc);
     for entry in &row.entries {
         let place = place_in(places, entry.at);

@@ -183,11 +183,7 @@ fn sum_of_products(equation: &[Entry<u128>], digits: &[Residue]) -> u128 {
 }
 
 /// One more digit.
-fn step(
-    lift: &mut Lift,
-    factors: &Factors<Residue>,
-    is_transposed: bool,
-) -> Result<(), Memory> {
+fn step(lift: &mut Lift, factors: &Factors<Residue>, is_transposed: bool) -> Result<(), Memory> {
     lift.set_right();
     lift.clear_found();
     let Lift {

@@ -84,11 +84,6 @@ pub(crate) fn is_refuted(
     if !are_rows_met(program, solution) {
         return Ok(true);
     }
-    let prices = reduced_costs(
-        alloc,
-        program,
-        &solution.multipliers,
-        program.is_priced(),
-    )?;
+    let prices = reduced_costs(alloc, program, &solution.multipliers, program.is_priced())?;
     Ok(!are_columns_met(program, &solution.point, &prices))
 }

@@ -35,11 +35,7 @@ fn costs(
 ) -> Result<Vec<Option<Frac>>, Memory> {
     let mut sums = Vec::new(alloc);
     for column in program.columns() {
-        let cost = if is_priced {
-            column.cost
-        } else {
-            Frac::zero()
-        };
+        let cost = if is_priced { column.cost } else { Frac::zero() };
         sums.push(Some(cost))?;
     }
     Ok(sums)

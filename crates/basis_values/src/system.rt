@@ -23,10 +23,7 @@ pub(crate) struct System {
     factors: Factors<Residue>,
 }
 
-fn whole_rows(
-    alloc: Global,
-    fractions: &[Vec<Entry<Frac>>],
-) -> Result<Option<WholeRows>, Memory> {
+fn whole_rows(alloc: Global, fractions: &[Vec<Entry<Frac>>]) -> Result<Option<WholeRows>, Memory> {
     let mut all = WholeRows {
         rows: Vec::new(alloc),
         scales: Vec::new(alloc),

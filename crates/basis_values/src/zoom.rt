@@ -101,13 +101,12 @@ impl Near {
 }
 
 /// What is near a solution: of the columns, and then of the rows.
-fn surroundings(alloc: Global, program: &ExactProgram, solution: &Solution) -> Result<Vec<Near>, Memory> {
-    let prices = reduced_costs(
-        alloc,
-        program,
-        &solution.multipliers,
-        program.is_priced(),
-    )?;
+fn surroundings(
+    alloc: Global,
+    program: &ExactProgram,
+    solution: &Solution,
+) -> Result<Vec<Near>, Memory> {
+    let prices = reduced_costs(alloc, program, &solution.multipliers, program.is_priced())?;
     let mut all = Vec::new(alloc);
     for ((column, value), price) in program
         .columns()
