@@ -1,19 +1,19 @@
 // Floats of exact numbers.
 
 use frac128::Frac;
+use std::num::nearest_u64_to_f64;
 
 /// 2^64.
 const BASE: u128 = 0x1_0000_0000_0000_0000;
 
 /// A natural number, rounded.
 fn natural(n: u128) -> f64 {
-    let high = (n / BASE) as u64;
-    let low = (n % BASE) as u64;
-    if high == 0 {
-        low as f64
-    } else {
-        high as f64 * 18446744073709551616.0 + low as f64
+    let low = nearest_u64_to_f64((n % BASE) as u64);
+    if n < BASE {
+        return low;
     }
+    let high = nearest_u64_to_f64((n / BASE) as u64);
+    high * 18446744073709551616.0 + low
 }
 
 /// A fraction, rounded.
