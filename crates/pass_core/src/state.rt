@@ -19,7 +19,8 @@ ghost use Rattle.pass_core.specs.Turns.{PointsStand, KeepsPoints, IsTaskOf, Ends
 use crate::budget::Budget;
 use cut_banks::Banks;
 use frac128::Memory;
-use node_lp::{Solved, Task, fits, solve_node};
+use node_guess::{Hints, solved_node};
+use node_lp::{Solved, Task, fits};
 use one_worker::Turns;
 use pass_table::Reading;
 use proved_report::Open;
@@ -57,6 +58,8 @@ pub struct State {
     pub(crate) counts: Counts,
     /// Whether anything was done since the start or the last edit.
     pub(crate) is_begun: bool,
+    /// What the guesses of solves begin with. No contract sees it.
+    pub(crate) hints: Hints,
 }
 
 /// How many solves there were.
@@ -126,6 +129,7 @@ impl State {
             return Ok(None);
         };
         let (banks, lasts, versions) = nothing_found(alloc, frame.nodes())?;
+        let hints = Hints::places(alloc, frame.nodes() as usize)?;
         Ok(Some(State {
             frame,
             budget,
@@ -139,6 +143,7 @@ impl State {
             lasting: None,
             counts: Counts::none(),
             is_begun: false,
+            hints,
         }))
     }
 
@@ -240,7 +245,7 @@ impl State {
             self.left_stuck();
             return Ok(());
         }
-        let solved = solve_node(alloc, &begun.task, None)?;
+        let solved = solved_node(alloc, &begun.task, &mut self.hints)?;
         self.counts.raise();
         self.commit(alloc, program, tree, node, &begun, solved)
     }

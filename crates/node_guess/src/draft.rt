@@ -1,0 +1,222 @@
+//! A node's program as it is guessed: cuts become rows as they are needed.
+
+use crate::floats::{FloatCut, FloatCuts, distance};
+use crate::hints::{HeldCut, Hint};
+use crate::split::{place_of, split_form};
+use basis_factors::Entry;
+use basis_guess::Standing;
+use basis_values::{ExactProgram, float};
+use cut_defs::CutKind;
+use cut_proof::{ChildCuts, Cut, SharedCut};
+use frac128::{FormFault, Frac, Memory};
+use node_lp::Task;
+use scen_defs::{Kind, NodeRow};
+use std::alloc::Global;
+
+/// A node's program: its own columns and, where the children are priced, their costs; its own rows, and behind them the
+/// cuts that have become rows.
+#[derive(Drop)]
+pub(crate) struct Draft {
+    pub(crate) program: ExactProgram,
+    /// Of the columns and then of the rows.
+    pub(crate) standings: Vec<Standing>,
+    /// How many own columns there are.
+    pub(crate) own: usize,
+    /// How many children are priced.
+    pub(crate) costs: usize,
+    /// How many own rows there are.
+    pub(crate) rows: usize,
+    /// The cuts that are rows, in the order of their rows.
+    pub(crate) held: Vec<HeldCut>,
+    /// All cuts, by child.
+    pub(crate) children: Vec<FloatCuts>,
+}
+
+/// Whether the children have costs of their own: not in a Feasible run.
+pub(crate) fn is_priced(task: &Task) -> bool {
+    match task.kind {
+        Kind::Feasible => false,
+        Kind::Recession | Kind::Cost => true,
+    }
+}
+
+/// Whether a program takes a cut.
+pub(crate) fn is_taken(priced: bool, kind: CutKind) -> bool {
+    match kind {
+        CutKind::Bound => priced,
+        CutKind::Ray => true,
+    }
+}
+
+/// Adds the own columns, which cost nothing in a Feasible run, and the children's costs.
+fn push_columns(program: &mut ExactProgram, task: &Task) -> Result<(), Memory> {
+    let priced = is_priced(task);
+    for bound in task.datum.bounds() {
+        let cost = if priced {
+            task.datum.cost().get(bound.column as u64)
+        } else {
+            Frac::zero()
+        };
+        program.push_column(bound.lower, bound.upper, cost)?;
+    }
+    if priced {
+        for share in task.datum.shares() {
+            program.push_column(None, None, share.share)?;
+        }
+    }
+    Ok(())
+}
+
+/// An end less what the other columns come to.
+fn less(end: Option<Frac>, outer: Frac) -> Result<Option<Frac>, FormFault> {
+    match end {
+        Some(end) => Ok(Some(end.sub(outer)?)),
+        None => Ok(None),
+    }
+}
+
+/// Adds an own row at the trial.
+fn push_row(
+    alloc: Global,
+    program: &mut ExactProgram,
+    task: &Task,
+    row: &NodeRow,
+) -> Result<(), FormFault> {
+    let parts = split_form(alloc, task.datum.bounds(), &task.trial, row.entries.terms())?;
+    let low = less(row.low, parts.outer)?;
+    let high = less(row.high, parts.outer)?;
+    program.push_row(parts.entries, low, high)?;
+    Ok(())
+}
+
+/// Adds the own rows.
+fn push_rows(alloc: Global, program: &mut ExactProgram, task: &Task) -> Result<(), FormFault> {
+    for row in task.datum.rows() {
+        push_row(alloc, program, task, row)?;
+    }
+    Ok(())
+}
+
+/// The standing at a place of a list, if it has one.
+fn standing_at(list: &[Standing], place: usize, other: Standing) -> Standing {
+    if place < list.len() {
+        list[place]
+    } else {
+        other
+    }
+}
+
+/// Where the columns and own rows stood, or where they rest.
+fn first_standings(
+    alloc: Global,
+    program: &ExactProgram,
+    task: &Task,
+    hint: &Hint,
+) -> Result<Vec<Standing>, Memory> {
+    let mut all = Vec::new(alloc);
+    for (column, _bound) in task.datum.bounds().iter().enumerate() {
+        let rest = program.floats().rest(column);
+        all.push(standing_at(&hint.columns, column, rest))?;
+    }
+    if is_priced(task) {
+        for (child, _share) in task.datum.shares().iter().enumerate() {
+            all.push(standing_at(&hint.costs, child, Standing::Free))?;
+        }
+    }
+    for (row, _row) in task.datum.rows().iter().enumerate() {
+        all.push(standing_at(&hint.rows, row, Standing::Basic))?;
+    }
+    Ok(all)
+}
+
+/// A cut that the program doesn't take.
+fn left_out(kind: CutKind, end: usize) -> FloatCut {
+    FloatCut {
+        kind,
+        is_taken: false,
+        base: 0.0,
+        size: 0.0,
+        end,
+        row: None,
+    }
+}
+
+/// A cut in floats; its entries are added to its child's list.
+fn float_cut(task: &Task, cut: &Cut, entries: &mut Vec<Entry<f64>>) -> Result<FloatCut, Memory> {
+    let kind = cut.kind();
+    if !is_taken(is_priced(task), kind) {
+        return Ok(left_out(kind, entries.len()));
+    }
+    let mut base = float(cut.constant());
+    let mut size = 1.0 + distance(base);
+    for term in cut.form().terms() {
+        let value = float(term.value);
+        match place_of(task.datum.bounds(), term.column) {
+            Some(at) => entries.push(Entry { at, value })?,
+            None => {
+                let product = value * float(task.trial.get(term.column));
+                base += product;
+                size += distance(product);
+            }
+        }
+    }
+    Ok(FloatCut {
+        kind,
+        is_taken: true,
+        base,
+        size,
+        end: entries.len(),
+        row: None,
+    })
+}
+
+/// The cuts about a child in floats.
+fn float_cuts(alloc: Global, task: &Task, cuts: &[SharedCut]) -> Result<FloatCuts, Memory> {
+    let mut entries = Vec::new(alloc);
+    let mut all = Vec::new(alloc);
+    for cut in cuts {
+        all.push(float_cut(task, cut.cut(), &mut entries)?)?;
+    }
+    Ok(FloatCuts { entries, cuts: all })
+}
+
+/// Those about all children.
+fn float_children(alloc: Global, task: &Task) -> Result<Vec<FloatCuts>, Memory> {
+    let mut all = Vec::new(alloc);
+    for child in &task.children {
+        all.push(float_cuts(alloc, task, &child.cuts)?)?;
+    }
+    Ok(all)
+}
+
+/// The program without cuts.
+pub(crate) fn first_draft(alloc: Global, task: &Task, hint: &Hint) -> Result<Draft, FormFault> {
+    let mut program = ExactProgram::new(alloc);
+    push_columns(&mut program, task)?;
+    push_rows(alloc, &mut program, task)?;
+    let standings = first_standings(alloc, &program, task, hint)?;
+    let children = float_children(alloc, task)?;
+    let priced = is_priced(task);
+    Ok(Draft {
+        program,
+        standings,
+        own: task.datum.bounds().len(),
+        costs: if priced { task.datum.shares().len() } else { 0 },
+        rows: task.datum.rows().len(),
+        held: Vec::new(alloc),
+        children,
+    })
+}
+
+/// The cut with this number about the child at a place.
+pub(crate) fn cut_at(children: &[ChildCuts], child: usize, number: usize) -> Option<&Cut> {
+    if child >= children.len() {
+        return None;
+    }
+    let cuts = &children[child].cuts;
+    if number < cuts.len() {
+        Some(cuts[number].cut())
+    } else {
+        None
+    }
+}

@@ -1,0 +1,138 @@
+//! What is kept of each node between its solves: how the columns and rows of its program stood at the end of the last one.
+
+use basis_guess::Standing;
+use frac128::Memory;
+use std::alloc::Global;
+use std::marker::Model;
+
+/// How a cut about a child stood, which was a row of the program.
+#[derive(Clone, Copy)]
+pub(crate) struct HeldCut {
+    /// The place of the child.
+    pub(crate) child: u32,
+    /// The number of the cut in the child's list.
+    pub(crate) cut: u32,
+    pub(crate) standing: Standing,
+}
+
+/// How the columns and rows of a node's program stood. Only a guess begins with it, so every hint will do, and contracts
+/// take all for the same.
+#[derive(Drop)]
+pub(crate) struct Hint {
+    /// The own columns.
+    pub(crate) columns: Vec<Standing>,
+    /// The children's costs, where they were priced.
+    pub(crate) costs: Vec<Standing>,
+    /// The own rows.
+    pub(crate) rows: Vec<Standing>,
+    /// The cuts that were rows and weren't basic.
+    pub(crate) cuts: Vec<HeldCut>,
+}
+
+impl Model for Hint {
+    ghost Value = { Unit {0} };
+
+    ghost view = { λ _. tt };
+}
+
+impl Hint {
+    /// No column or row stands anywhere.
+    pub(crate) fn blank(alloc: Global) -> Hint {
+        Hint {
+            columns: Vec::new(alloc),
+            costs: Vec::new(alloc),
+            rows: Vec::new(alloc),
+            cuts: Vec::new(alloc),
+        }
+    }
+}
+
+/// The hints of all nodes, by number. Contracts take all for the same.
+#[derive(Drop)]
+pub struct Hints {
+    nodes: Vec<Option<Hint>>,
+    /// The node whose hint came last.
+    last: usize,
+}
+
+impl Model for Hints {
+    ghost Value = { Unit {0} };
+
+    ghost view = { λ _. tt };
+}
+
+/// How many own columns and own rows a node has.
+#[derive(Clone, Copy)]
+pub(crate) struct Counts {
+    pub(crate) columns: usize,
+    pub(crate) rows: usize,
+}
+
+/// The same standings of columns and rows in memory of their own, where there are as many; those of cuts are left out.
+fn copied(alloc: Global, hint: &Hint, counts: Counts) -> Result<Option<Hint>, Memory> {
+    if hint.columns.len() != counts.columns || hint.rows.len() != counts.rows {
+        return Ok(None);
+    }
+    let columns = Vec::from_slice(alloc, &hint.columns)?;
+    let costs = Vec::from_slice(alloc, &hint.costs)?;
+    let rows = Vec::from_slice(alloc, &hint.rows)?;
+    Ok(Some(Hint {
+        columns,
+        costs,
+        rows,
+        cuts: Vec::new(alloc),
+    }))
+}
+
+impl Hints {
+    /// No hint, with places for so many nodes.
+    pub fn places(alloc: Global, count: usize) -> Result<Hints, Memory> {
+        let mut nodes = Vec::new(alloc);
+        for _node in 0..count {
+            nodes.push(None)?;
+        }
+        Ok(Hints { nodes, last: 0 })
+    }
+
+    /// Takes a node's own hint.
+    fn own(&mut self, node: u32) -> Option<Hint> {
+        let place = node as usize;
+        if place < self.nodes.len() {
+            self.nodes[place].take()
+        } else {
+            None
+        }
+    }
+
+    /// Takes a node's hint. One that has none begins as the node before it, if this has as many columns and rows.
+    pub(crate) fn take(
+        &mut self,
+        alloc: Global,
+        node: u32,
+        counts: Counts,
+    ) -> Result<Option<Hint>, Memory> {
+        if let Some(hint) = self.own(node) {
+            return Ok(Some(hint));
+        }
+        if self.last >= self.nodes.len() {
+            return Ok(None);
+        }
+        match &self.nodes[self.last] {
+            Some(hint) => copied(alloc, hint, counts),
+            None => Ok(None),
+        }
+    }
+
+    /// Keeps a node's hint, also of a node that came later.
+    pub(crate) fn put(&mut self, node: u32, hint: Option<Hint>) -> Result<(), Memory> {
+        let place = node as usize;
+        for _node in self.nodes.len()..=place {
+            self.nodes.push(None)?;
+        }
+        if place < self.nodes.len() {
+            self.nodes[place] = hint;
+            self.last = place;
+        }
+        Ok(())
+    }
+}

@@ -1,0 +1,17 @@
+//! The solve of a node's program by a guess: a basis in floating point and its exact numbers, which are tested before anything
+//! is believed of them; and by the simplex path where there is no guess that stands its test.
+#![tactic(auto)]
+
+mod answers;
+mod broken;
+mod cut_rows;
+mod draft;
+mod floats;
+mod hints;
+mod rounds;
+mod sizes;
+mod solved;
+mod split;
+
+pub use hints::Hints;
+pub use solved::solved_node;
