@@ -1,6 +1,6 @@
 -- The words of a command.
 use Rattle.std.specs.Prelude.{◌≡◌, ℕ, Bool, true, false, List, [], ◌∷◌, ◌++◌, length, Option, Some, None}
-use Rattle.std.specs.Prelude.{is_none, map, option_map}
+use Rattle.std.specs.Prelude.{is_none, is_some, map, option_map}
 use Rattle.std.specs.Prelude.{if◌then◌else◌, nat_eq, leb, ltb, ◌==◌, not, ◌&&◌, codes}
 use Rattle.std.specs.Cmp.Lexicographic.{pointwise}
 use Rattle.std.specs.Coded.{Coded-set, coded_list, coded_option, coded_ℕ}
@@ -162,9 +162,11 @@ abbrev pub option_number : ℕ → ℕ → Option (List ℕ) → Option ℕ
 option_number least most None = None
 option_number least most (Some value) = number_within value least most
 
-abbrev pub budget_by : Option ℕ → Option ℕ → Option ℕ → Option Budget
-budget_by solves pivots workers =
-    then_some solves (λ s. then_some pivots (λ p. then_some workers (λ w. Some (record { solves = s; pivots = p }))))
+-- with whether the words state how many solves, and how many pivots
+abbrev pub budget_by : Bool → Bool → Option ℕ → Option ℕ → Option ℕ → Option Budget
+budget_by of_solves of_pivots solves pivots workers =
+    then_some solves (λ s. then_some pivots (λ p. then_some workers (λ w.
+    Some (record { solves = s; solves_stated = of_solves; pivots = p; pivots_stated = of_pivots }))))
 
 -- what each option has as its value, if it is there
 abbrev pub Values : Type 0
@@ -172,7 +174,7 @@ Values = Flag → Option (List ℕ)
 
 -- of solves and of pivots 100,000 where the words don't say how many, and 1,000,000,000 at most; one worker
 abbrev pub budget_of : Values → Option Budget
-budget_of value = budget_by
+budget_of value = budget_by (is_some (value Solves)) (is_some (value Pivots))
     (number_or 100000 1000000000 (value Solves))
     (number_or 100000 1000000000 (value Pivots))
     (number_or 1 1 (value Workers))

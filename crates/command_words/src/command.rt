@@ -39,8 +39,12 @@ pub struct Sources<'a> {
 pub struct Budget {
     /// How many node programs are solved, in a program of several periods.
     pub solves: u64,
+    /// Whether the words state how many.
+    pub solves_stated: bool,
     /// How many pivots each solve may take.
     pub pivots: u64,
+    /// Whether the words state how many.
+    pub pivots_stated: bool,
 }
 
 /// What is done with the program that files state.
@@ -182,7 +186,12 @@ fn budget_given<'a, V: Values<'a>>(values: &V) -> Option<Budget>
     let solves = number_or(values, Flag::Solves, BUDGET, MOST)?;
     let pivots = number_or(values, Flag::Pivots, BUDGET, MOST)?;
     let _workers = number_or(values, Flag::Workers, 1, MOST_WORKERS)?;
-    Some(Budget { solves, pivots })
+    Some(Budget {
+        solves,
+        solves_stated: values.value(Flag::Solves).is_some(),
+        pivots,
+        pivots_stated: values.value(Flag::Pivots).is_some(),
+    })
 }
 
 /// The task of a verb; none of `check` without reports, and of `make`.

@@ -5,11 +5,12 @@ use std::process::Abort;
 use std::test::Fail;
 
 /// In each line the words, and behind the bar what they ask for: the command; of a task on files the names of the files, and of `solve`
-/// the solves and the pivots; of `make` its numbers and the text that is printed. Nothing where they are refused.
+/// the solves and the pivots, in brackets where the words don't state them; of `make` its numbers and the text that is printed. Nothing where they are refused.
 const WORDS: &str = "\
-solve --core F|solve F - - - - 100000 100000
-solve --core=F --time T --stoch=S --pivots 0000000007|solve F T S - - 100000 7
-solve --pivots=1000000000 --stoch S --time T --core a=b|solve a=b T S - - 100000 1000000000
+solve --core F|solve F - - - - (100000) (100000)
+solve --core F --solves 100000|solve F - - - - 100000 (100000)
+solve --core=F --time T --stoch=S --pivots 0000000007|solve F T S - - (100000) 7
+solve --pivots=1000000000 --stoch S --time T --core a=b|solve a=b T S - - (100000) 1000000000
 show --time=T=1 --core F|show F T=1 - - -
 |
 solve|
@@ -39,7 +40,7 @@ solve --core F --pivots +5|
 solve --core F --pivots 5a|
 show --core F --pivots 5|
 --help|
-solve --solves 3 --core F --workers=1|solve F - - - - 3 100000
+solve --solves 3 --core F --workers=1|solve F - - - - 3 (100000)
 solve --core F --time T --solves=1000000000 --pivots 2|solve F T - - - 1000000000 2
 solve --core F --solves 0|
 solve --core F --solves 1000000001|
@@ -47,7 +48,7 @@ solve --core F --workers 2|
 solve --core F --workers 0|
 show --core F --solves 3|
 show --core F --workers 1|
-solve --core F --edits E|solve F - - E - 100000 100000
+solve --core F --edits E|solve F - - E - (100000) (100000)
 show --edits=E --core F --time T --stoch S|show F T S E -
 solve --core F --edits E --edits E|
 solve --core F --report R|
@@ -95,11 +96,23 @@ fn told(alloc: Global, command: Command<'_>) -> Result<String, AllocError> {
 fn told_on_files(alloc: Global, sources: Sources<'_>, task: Task) -> Result<String, AllocError> {
     let files = files(alloc, sources)?;
     match task {
-        Task::Solve(Budget { solves, pivots }) => {
-            format!(in alloc; "solve {files} {solves} {pivots}")
-        }
+        Task::Solve(budget) => told_budget(alloc, files.as_str(), budget),
         Task::Check => format!(in alloc; "check {files}"),
         Task::Show => format!(in alloc; "show {files}"),
+    }
+}
+
+fn told_budget(alloc: Global, files: &str, budget: Budget) -> Result<String, AllocError> {
+    let solves = told_number(alloc, budget.solves, budget.solves_stated)?;
+    let pivots = told_number(alloc, budget.pivots, budget.pivots_stated)?;
+    format!(in alloc; "solve {files} {solves} {pivots}")
+}
+
+fn told_number(alloc: Global, number: u64, is_stated: bool) -> Result<String, AllocError> {
+    if is_stated {
+        format!(in alloc; "{number}")
+    } else {
+        format!(in alloc; "({number})")
     }
 }
 
