@@ -28,7 +28,7 @@ use scen_model::{
     Finding, Halt, Place, Program, Report, Values, cost, dual_value, feasible, fits, is_direction,
     zero_value,
 };
-use smps_session::session;
+use smps_session::{Stated, session};
 use std::alloc::Global;
 use std::process::Abort;
 use std::test::Fail;
@@ -340,6 +340,12 @@ ENDATA
 /// So many solves, and so many pivots in each, are allowed.
 const BUDGET: u64 = 1000;
 
+/// Both are stated: where they end, the report is the method's own.
+const STATED: Stated = Stated {
+    solves: true,
+    pivots: true,
+};
+
 /// Whether the policy is feasible and costs this number.
 fn is_policy(alloc: Global, program: &Program, policy: &Values, costs: Frac) -> Result<bool, Halt> {
     let meets = feasible(alloc, program, policy)?;
@@ -495,9 +501,15 @@ fn is_again_so(
     is_shown(alloc, program, &again, expected)
 }
 
+/// The report of a program.
+fn first_report(alloc: Global, program: &Program) -> Result<Report, Fail> {
+    let answered = session(alloc, program, BUDGET, BUDGET, STATED)?;
+    Ok(answered.report)
+}
+
 /// Whether a program's report is so, and the flat calls show it; and the same of the report of its lists alone.
 fn is_solved_so(alloc: Global, program: &Program, expected: &str) -> Result<bool, Fail> {
-    let first = session(alloc, program, BUDGET, BUDGET)?;
+    let first = first_report(alloc, program)?;
     let is_first = is_shown(alloc, program, &first, expected)?;
     let is_again = is_again_so(alloc, program, first, expected)?;
     Ok(is_first && is_again)

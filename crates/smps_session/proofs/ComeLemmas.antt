@@ -45,6 +45,9 @@ use Rattle.run_laws.proofs.Ways.{solves_keep_way, ways_have_numbers, begun_count
 use Rattle.run_laws.proofs.WhereMet.{reasons_were_met}
 use Rattle.smps_session.specs.Reasons.{told_reasons}
 use Rattle.smps_session.specs.Comes.{tells_solves, is_unfinished, ShowsClosing, ShowsFound, PassesInTestOf, WasReason, ComesOf, ComesOfAll, IsUnderWay}
+use Rattle.smps_session.specs.Whole.{IsOwnOrWhole}
+use Rattle.smps_session.specs.declared.whole.Stated.{Stated}
+use Rattle.smps_session.specs.declared.whole.Answered.{Answered}
 use Rattle.smps_session.proofs.WayLemmas.{counted_within}
 
 -- ---- what is found and tested
@@ -350,7 +353,10 @@ tells_cleared budget start came program (AtWork old) (Idle why own) new report r
 tells_cleared budget start came program (AtWork old) (AtWork mid) new report rests shows e =
     subst StandsCleared (sym e) (told_cleared (content program) old.state mid.state shows.solves rests)
 
-pub comes_of_all : {E : Type 0} (budget : Budget) (program : Program) (method next : Method) (result : Result Report E) → Begins (content program) budget method
-    → IfOk result (λ report. ComesOf budget (content program) 0 program method report next) → IfOk result (ComesOfAll budget program)
-comes_of_all budget program method next (Ok report) b c = record { method = method; next = next; begins = b; comes = c }
-comes_of_all budget program method next (Err e) b c = tt
+pub comes_of_all : {E : Type 0} (budget : Budget) (stated : Stated) (program : Program) (method next : Method) (own : Report) (result : Result Answered E)
+    → Begins (content program) budget method → ComesOf budget (content program) 0 program method own next
+    → IfOk result (λ answered. IsOwnOrWhole answered.by_whole stated program own answered.report)
+    → IfOk result (λ answered. ComesOfAll budget stated program answered.report)
+comes_of_all budget stated program method next own (Ok answered) b c w =
+    record { method = method; next = next; begins = b; own = own; comes = c; by_whole = answered.by_whole; whole = w }
+comes_of_all budget stated program method next own (Err e) b c w = tt

@@ -1,7 +1,7 @@
 -- What is told of one report, and how the reports of a script go on and end.
 use Rattle.std.proofs.Common.{◌≡◌, ◌<◌, ◌≤◌, ◌+◌, ◌-◌, ◌++◌, ℕ, List, [], ◌∷◌, length}
 use Rattle.std.proofs.Common.{get_or, take, drop}
-use Rattle.std.proofs.Common.{Result, Ok, Err, OnOk, refl, sym, ap₂, subst, append_assoc, arith}
+use Rattle.std.proofs.Common.{Bool, Result, Ok, Err, IfOk, OnOk, refl, sym, ap₂, subst, append_assoc, arith}
 use Rattle.std.proofs.lemmas.Grind.{common_steps}
 use Rattle.std.proofs.lemmas.List.{append-nil}
 use Rattle.scen_defs.specs.Program.{Program, content, view_of}
@@ -18,6 +18,9 @@ use Rattle.report_text.specs.Text.{report_text}
 use Rattle.pass_core.specs.declared.budget.Budget.{Budget}
 use Rattle.smps_session.specs.Reasons.{told_reasons}
 use Rattle.smps_session.specs.declared.told.Told.{Told}
+use Rattle.smps_session.specs.declared.whole.Stated.{Stated}
+use Rattle.smps_session.specs.declared.whole.Answered.{Answered}
+use Rattle.smps_session.specs.Whole.{IsOwnOrWhole}
 use Rattle.proved_report.specs.Reports.{EqualIsOptimal}
 use Rattle.smps_session.specs.Told.{IsTold, AreTold}
 use Rattle.tree_method.specs.declared.method.Method.{Method}
@@ -31,12 +34,13 @@ on_ok (Ok x) A a = a
 on_ok (Err e) A a = tt
 
 -- what is told of a report
-pub is_told : (budget : Budget) (start : Program) (came number : ℕ) (program : ProgramOf) (method next : Method) (report : Report) (told : Told)
-    → report.number ≡ number → told.text.items ≡ report_text program report → told.finding ≡ report.finding
+is_told : (budget : Budget) (stated : Stated) (start : Program) (came number : ℕ) (program : ProgramOf) (method next : Method) (own report : Report)
+    (told : Told) → report.number ≡ number → told.text.items ≡ report_text program report → told.finding ≡ report.finding
     → HasCounts (view_of (content program)) report → IsTrue (view_of (content program)) (told_reasons program budget) report
-    → EqualIsOptimal report → (HasFewNodes (content program) → ComesOf budget start came program method report next)
-    → IsTold budget start came number (content program) method told next
-is_told budget start came number program method next report told n t f counts truth equal comes = record {
+    → EqualIsOptimal report → (HasFewNodes (content program) → ComesOf budget start came program method own next)
+    → IsOwnOrWhole told.by_whole stated program own report
+    → IsTold budget stated start came number (content program) method told next
+is_told budget stated start came number program method next own report told n t f counts truth equal comes whole = record {
   program = program;
   content_is = refl;
   report = report;
@@ -46,8 +50,24 @@ is_told budget start came number program method next report told n t f counts tr
   counts = counts;
   truth = truth;
   equal = equal;
+  own = own;
   comes = comes;
+  whole = whole;
 }
+
+-- where it is printed
+pub tells : {E : Type 0} (budget : Budget) (stated : Stated) (start : Program) (came number : ℕ) (program : ProgramOf) (method next : Method)
+    (own : Report) (answered : Answered) (result : Result Told E) → answered.report.number ≡ number
+    → IfOk result (λ told. told.text.items ≡ report_text program answered.report) → IfOk result (λ told. told.finding ≡ answered.report.finding)
+    → IfOk result (λ told. told.by_whole ≡ answered.by_whole)
+    → HasCounts (view_of (content program)) answered.report → IsTrue (view_of (content program)) (told_reasons program budget) answered.report
+    → EqualIsOptimal answered.report → (HasFewNodes (content program) → ComesOf budget start came program method own next)
+    → IsOwnOrWhole answered.by_whole stated program own answered.report
+    → IfOk result (λ told. IsTold budget stated start came number (content program) method told next)
+tells budget stated start came number program method next own answered (Ok told) n t f b counts truth equal comes whole =
+    is_told budget stated start came number program method next own answered.report told n t f counts truth equal comes
+    (subst (λ (by_whole : Bool). IsOwnOrWhole by_whole stated program own answered.report) (sym b) whole)
+tells budget stated start came number program method next own answered (Err e) n t f b counts truth equal comes whole = tt
 
 -- a list of less than one item has none
 pub none_left : {A : Type 0} (xs : List A) → length xs < 1 → xs ≡ []
@@ -91,84 +111,84 @@ changed_cleared (Ok x) p q e worked new a g few = edits_cleared p e worked new g
 changed_cleared (Err x) p q e worked new a g few = tt
 
 -- an item that is an edit
-changed : {A E : Type 0} (result : Result A E) (budget : Budget) (start : Program) (work : ℕ) (e : Edit) (p q : Program) (method method' : Method)
+changed : {A E : Type 0} (result : Result A E) (budget : Budget) (stated : Stated) (start : Program) (work : ℕ) (e : Edit) (p q : Program) (method method' : Method)
     (came number number' : ℕ) (tolds : List Told) → OnOk result (q ≡ after p e) → number' ≡ number → OnOk result (TakesEdit p work e method method')
-    → OnOk result (IsBehind budget start work (Change e) (course_at p method came number tolds) (course_at q method' (came + 1) number' tolds))
-changed (Ok x) budget start work e p q method method' came number number' tolds h n t =
+    → OnOk result (IsBehind budget stated start work (Change e) (course_at p method came number tolds) (course_at q method' (came + 1) number' tolds))
+changed (Ok x) budget stated start work e p q method method' came number number' tolds h n t =
     record { takes = t; course = ap₂ (λ (r : Program) (k : ℕ). course_at r method' (came + 1) k tolds) h n }
-changed (Err x) budget start work e p q method method' came number number' tolds h n t = tt
+changed (Err x) budget stated start work e p q method method' came number number' tolds h n t = tt
 
-pub is_behind_edit : {A E : Type 0} (result : Result A E) (budget : Budget) (start : Program) (work : ℕ) (act : Act) (e : Edit) (p q : Program)
+pub is_behind_edit : {A E : Type 0} (result : Result A E) (budget : Budget) (stated : Stated) (start : Program) (work : ℕ) (act : Act) (e : Edit) (p q : Program)
     (method method' : Method) (came number number' : ℕ) (tolds : List Told) → act ≡ Change e → OnOk result (q ≡ after p e) → number' ≡ number
     → OnOk result (TakesEdit p work e method method')
-    → OnOk result (IsBehind budget start work act (course_at p method came number tolds) (course_at q method' (came + 1) number' tolds))
-is_behind_edit result budget start work act e p q method method' came number number' tolds a h n t =
-    subst (λ (x : Act). OnOk result (IsBehind budget start work x (course_at p method came number tolds) (course_at q method' (came + 1) number' tolds))) (sym a)
-    (changed result budget start work e p q method method' came number number' tolds h n t)
+    → OnOk result (IsBehind budget stated start work act (course_at p method came number tolds) (course_at q method' (came + 1) number' tolds))
+is_behind_edit result budget stated start work act e p q method method' came number number' tolds a h n t =
+    subst (λ (x : Act). OnOk result (IsBehind budget stated start work x (course_at p method came number tolds) (course_at q method' (came + 1) number' tolds))) (sym a)
+    (changed result budget stated start work e p q method method' came number number' tolds h n t)
 
 -- and one that is a SOLVE
-pub is_behind_solve : {A E : Type 0} (result : Result A E) (budget : Budget) (start : Program) (work : ℕ) (act : Act) (s t : Course)
-    → act ≡ Solve → OnOk result (TellsOne budget start s t) → OnOk result (IsBehind budget start work act s t)
-is_behind_solve result budget start work act s t a h = subst (λ (x : Act). OnOk result (IsBehind budget start work x s t)) (sym a) h
+pub is_behind_solve : {A E : Type 0} (result : Result A E) (budget : Budget) (stated : Stated) (start : Program) (work : ℕ) (act : Act) (s t : Course)
+    → act ≡ Solve → OnOk result (TellsOne budget stated start s t) → OnOk result (IsBehind budget stated start work act s t)
+is_behind_solve result budget stated start work act s t a h = subst (λ (x : Act). OnOk result (IsBehind budget stated start work x s t)) (sym a) h
 
-pub tells_one : (budget : Budget) (start : Program) (came number next : ℕ) (p : Program) (method method' : Method) (told : Told) (tolds pushed : List Told)
-    → IsTold budget start came number p method told method' → next ≡ number + 1 → pushed ≡ tolds ++ told ∷ []
-    → TellsOne budget start (course_at p method came number tolds) (course_at p method' (came + 1) next pushed)
-tells_one budget start came number next p method method' told tolds pushed h n e = record {
+pub tells_one : (budget : Budget) (stated : Stated) (start : Program) (came number next : ℕ) (p : Program) (method method' : Method) (told : Told) (tolds pushed : List Told)
+    → IsTold budget stated start came number p method told method' → next ≡ number + 1 → pushed ≡ tolds ++ told ∷ []
+    → TellsOne budget stated start (course_at p method came number tolds) (course_at p method' (came + 1) next pushed)
+tells_one budget stated start came number next p method method' told tolds pushed h n e = record {
   told = told;
   is_told = h;
   course = ap₂ (course_at p method' (came + 1)) n e;
 }
 
 -- the items that are left are allowed, and what is told of them is told behind what was told
-abbrev pub IsOnCourse : Budget → Program → Method → List Item → List Item → Course → Type 0
-IsOnCourse budget start first all items s = AreAllowed s.program items
-    × ((later : List Told) → AreTold budget start s.came s.number s.program s.method items later
-    → AreTold budget start 0 1 start first all (s.tolds ++ later))
+abbrev pub IsOnCourse : Budget → Stated → Program → Method → List Item → List Item → Course → Type 0
+IsOnCourse budget stated start first all items s = AreAllowed s.program items
+    × ((later : List Told) → AreTold budget stated start s.came s.number s.program s.method items later
+    → AreTold budget stated start 0 1 start first all (s.tolds ++ later))
 
 -- a script has come so far: its method began with its first program, and is on its way behind the items that came
-pub record HasCome (budget : Budget) (start : Program) (all items : List Item) (p : Program) (method : Method) (number : ℕ) (tolds : List Told)
+pub record HasCome (budget : Budget) (stated : Stated) (start : Program) (all items : List Item) (p : Program) (method : Method) (number : ℕ) (tolds : List Told)
     : Type 0 where
   pub first : Method
   pub begins : HasFewNodes start → Begins start budget first
   pub came : ℕ
   pub way : IsUnderWay budget start came p method
-  pub course : IsOnCourse budget start first all items (course_at p method came number tolds)
+  pub course : IsOnCourse budget stated start first all items (course_at p method came number tolds)
 
 -- nothing is told before the first item
-pub begins_course : (budget : Budget) (p : Program) (method : Method) (items rest : List Item) (tolds : List Told)
+pub begins_course : (budget : Budget) (stated : Stated) (p : Program) (method : Method) (items rest : List Item) (tolds : List Told)
     → rest ≡ items → tolds ≡ [] → AreAllowed p items
-    → IsOnCourse budget p method items rest (course_at p method 0 1 tolds)
-begins_course budget p method items rest tolds e t h =
-    subst (λ (xs : List Item). IsOnCourse budget p method items xs (course_at p method 0 1 tolds)) (sym e)
-    (subst (λ (ts : List Told). IsOnCourse budget p method items items (course_at p method 0 1 ts)) (sym t) (h, λ later told. told))
+    → IsOnCourse budget stated p method items rest (course_at p method 0 1 tolds)
+begins_course budget stated p method items rest tolds e t h =
+    subst (λ (xs : List Item). IsOnCourse budget stated p method items xs (course_at p method 0 1 tolds)) (sym e)
+    (subst (λ (ts : List Told). IsOnCourse budget stated p method items items (course_at p method 0 1 ts)) (sym t) (h, λ later told. told))
 
 -- one item, and then the others
-behind_one : (budget : Budget) (start : Program) (first : Method) (all items : List Item) (act : Act) (work : ℕ) (s t : Course)
-    → IsOnCourse budget start first all (record { work = work; act = act } ∷ items) s → IsBehind budget start work act s t
-    → IsOnCourse budget start first all items t
-behind_one budget start first all items (Change e) work s t g h =
-    subst (λ (u : Course). IsOnCourse budget start first all items u) (sym h.course)
+behind_one : (budget : Budget) (stated : Stated) (start : Program) (first : Method) (all items : List Item) (act : Act) (work : ℕ) (s t : Course)
+    → IsOnCourse budget stated start first all (record { work = work; act = act } ∷ items) s → IsBehind budget stated start work act s t
+    → IsOnCourse budget stated start first all items t
+behind_one budget stated start first all items (Change e) work s t g h =
+    subst (λ (u : Course). IsOnCourse budget stated start first all items u) (sym h.course)
     (g.0.1, λ later told. g.1 later (t.method, (h.takes, told)))
-behind_one budget start first all items Solve work s t g h =
-    subst (λ (u : Course). IsOnCourse budget start first all items u) (sym h.course) (
+behind_one budget stated start first all items Solve work s t g h =
+    subst (λ (u : Course). IsOnCourse budget stated start first all items u) (sym h.course) (
       g.0,
-      λ later rest. subst (λ (ts : List Told). AreTold budget start 0 1 start first all ts) (sym (append_assoc s.tolds (h.told ∷ []) later))
+      λ later rest. subst (λ (ts : List Told). AreTold budget stated start 0 1 start first all ts) (sym (append_assoc s.tolds (h.told ∷ []) later))
           (g.1 (h.told ∷ later) (t.method, (h.is_told, rest))),
     )
 
-pub stays_on_course : (budget : Budget) (start : Program) (first : Method) (all items : List Item) (item : Item) (s t : Course)
-    → 1 ≤ length items → item ≡ get_or items 0 item → IsOnCourse budget start first all items s → IsBehind budget start item.work item.act s t
-    → IsOnCourse budget start first all (take (length items - 1) (drop 1 items)) t
-stays_on_course budget start first all items item s t some is g h =
-    behind_one budget start first all (take (length items - 1) (drop 1 items)) item.act item.work s t
-    (subst (λ (xs : List Item). IsOnCourse budget start first all xs s) (taken_apart items item some is) g) h
+pub stays_on_course : (budget : Budget) (stated : Stated) (start : Program) (first : Method) (all items : List Item) (item : Item) (s t : Course)
+    → 1 ≤ length items → item ≡ get_or items 0 item → IsOnCourse budget stated start first all items s → IsBehind budget stated start item.work item.act s t
+    → IsOnCourse budget stated start first all (take (length items - 1) (drop 1 items)) t
+stays_on_course budget stated start first all items item s t some is g h =
+    behind_one budget stated start first all (take (length items - 1) (drop 1 items)) item.act item.work s t
+    (subst (λ (xs : List Item). IsOnCourse budget stated start first all xs s) (taken_apart items item some is) g) h
 
 -- all items are told
-pub all_told : (budget : Budget) (start : Program) (first : Method) (all items : List Item) (s : Course) → length items < 1
-    → IsOnCourse budget start first all items s
-    → AreTold budget start 0 1 start first all s.tolds
-all_told budget start first all items s none g =
+pub all_told : (budget : Budget) (stated : Stated) (start : Program) (first : Method) (all items : List Item) (s : Course) → length items < 1
+    → IsOnCourse budget stated start first all items s
+    → AreTold budget stated start 0 1 start first all s.tolds
+all_told budget stated start first all items s none g =
     let e : items ≡ [] = none_left items none in
-    subst (λ (tolds : List Told). AreTold budget start 0 1 start first all tolds) (append-nil s.tolds)
-    (g.1 [] (subst (λ (xs : List Item). AreTold budget start s.came s.number s.program s.method xs []) (sym e) refl))
+    subst (λ (tolds : List Told). AreTold budget stated start 0 1 start first all tolds) (append-nil s.tolds)
+    (g.1 [] (subst (λ (xs : List Item). AreTold budget stated start s.came s.number s.program s.method xs []) (sym e) refl))

@@ -14,12 +14,14 @@ use Rattle.tree_method.specs.declared.method.Method.{Method}
 use Rattle.tree_method.specs.Stands.{HasFewNodes, Begins}
 use Rattle.smps_session.specs.Comes.{ComesOf, TakesEdit}
 use Rattle.smps_session.specs.Reasons.{told_reasons}
+use Rattle.smps_session.specs.Whole.{IsOwnOrWhole}
+use Rattle.smps_session.specs.declared.whole.Stated.{Stated}
 use Rattle.smps_session.specs.declared.told.Told.{Told}
 
--- What is told is the text and the finding of a report of this number that is true of the program, found within the budget. It comes of a
--- method, which goes on from there, behind so many items of a script that starts with another program.
-pub record IsTold (budget : Budget) (start : Program) (came number : ℕ) (p : Program) (method : Method) (told : Told) (next : Method)
-    : Type 0 where
+-- What is told is the text and the finding of a report of this number that is true of the program, found within the budget, of which some
+-- numbers are stated. It comes of a method, which goes on from there, behind so many items of a script that starts with another program.
+pub record IsTold (budget : Budget) (stated : Stated) (start : Program) (came number : ℕ) (p : Program) (method : Method) (told : Told)
+    (next : Method) : Type 0 where
   pub program : ProgramOf
   pub content_is : content program ≡ p
   -- the report that is printed, all of it
@@ -32,8 +34,11 @@ pub record IsTold (budget : Budget) (start : Program) (came number : ℕ) (p : P
   pub truth : IsTrue (view_of p) (told_reasons program budget) report
   -- it isn't left open where its ends are equal
   pub equal : EqualIsOptimal report
-  -- it comes of solves of the nodes of the program, of which there are no more than have numbers
-  pub comes : HasFewNodes p → ComesOf budget start came program method report next
+  -- the method's own report, which comes of solves of the nodes of the program, of which there are no more than have numbers
+  pub own : Report
+  pub comes : HasFewNodes p → ComesOf budget start came program method own next
+  -- it is the one that is printed, or the method had stopped, and a claim about the whole program was tested
+  pub whole : IsOwnOrWhole told.by_whole stated program own report
 
 -- a first one of a method, and those behind it of the method as it is then
 abbrev pub IsThen : (Told → Method → Type 0) → (Method → List Told → Type 0) → List Told → Type 0
@@ -43,17 +48,17 @@ IsThen first behind (told ∷ tolds) = (next : Method) × (first told next × be
 -- One is told for each SOLVE of a script, of the program after the edits before it, and comes of the one method that goes through the
 -- script, and makes as many solves before an edit as are asked for. So many items of the script came before these, and they are numbered
 -- from this number on.
-abbrev pub AreTold : Budget → Program → ℕ → ℕ → Program → Method → List Item → List Told → Type 0
-AreTold budget start came number p method [] tolds = tolds ≡ []
-AreTold budget start came number p method (item ∷ items) tolds = elim item.act [
+abbrev pub AreTold : Budget → Stated → Program → ℕ → ℕ → Program → Method → List Item → List Told → Type 0
+AreTold budget stated start came number p method [] tolds = tolds ≡ []
+AreTold budget stated start came number p method (item ∷ items) tolds = elim item.act [
   | Change e ↦ (next : Method)
-      × (TakesEdit p item.work e method next × AreTold budget start (came + 1) number (after p e) next items tolds)
-  | Solve ↦ IsThen (λ told next. IsTold budget start came number p method told next)
-      (λ next. AreTold budget start (came + 1) (number + 1) p next items) tolds
+      × (TakesEdit p item.work e method next × AreTold budget stated start (came + 1) number (after p e) next items tolds)
+  | Solve ↦ IsThen (λ told next. IsTold budget stated start came number p method told next)
+      (λ next. AreTold budget stated start (came + 1) (number + 1) p next items) tolds
 ]
 
 -- the reports of a script come of a method that begins with the program, where that has no more nodes than have numbers
-pub record IsScripted (budget : Budget) (p : Program) (items : List Item) (tolds : List Told) : Type 0 where
+pub record IsScripted (budget : Budget) (stated : Stated) (p : Program) (items : List Item) (tolds : List Told) : Type 0 where
   pub method : Method
   pub begins : HasFewNodes p → Begins p budget method
-  pub told : AreTold budget p 0 1 p method items tolds
+  pub told : AreTold budget stated p 0 1 p method items tolds

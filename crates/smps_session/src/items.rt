@@ -10,12 +10,14 @@ ghost use Rattle.smps_session.specs.Comes.{TakesEdit, IsUnderWay};
 ghost use Rattle.smps_session.specs.Courses.{course_at, TellsOne, IsBehind};
 
 use crate::told::{Told, told_one};
+use crate::whole::Stated;
 use edit_defs::{Act, Counts, Edit, Item};
 use frac128::Memory;
 use pass_core::Budget;
 use scen_defs::Program;
 use std::alloc::Global;
 use tree_method::Method;
+use whole_guess::WholeHint;
 
 /// How far a script has come.
 #[derive(Drop)]
@@ -25,6 +27,8 @@ pub(crate) struct Progress {
     pub(crate) method: Method,
     /// The number of the next report.
     pub(crate) number: u32,
+    /// What the last solve of the whole program leaves to the next.
+    pub(crate) hint: WholeHint,
 }
 
 impl Progress {
@@ -61,6 +65,7 @@ impl Progress {
         alloc: Global,
         program: &Program,
         budget: Budget,
+        stated: Stated,
         tolds: &mut Vec<Told>,
     ) -> Result<(), Memory>
         requires stands { StandsOn (content program.now) budget self.old.method }
@@ -71,11 +76,19 @@ impl Progress {
         ensures way { (start : ProgramOf) (came : ℕ) → IsUnderWay budget start came (content program.now) self.old.method
             → OnOk result (IsUnderWay budget start (came + 1) (content program.now) self.new.method) }
         ensures told { (start : ProgramOf) (came : ℕ) → IsUnderWay budget start came (content program.now) self.old.method
-            → OnOk result (TellsOne budget start
+            → OnOk result (TellsOne budget stated start
             (course_at (content program.now) self.old.method came self.old.number tolds.old.items)
             (course_at (content program.now) self.new.method (came + 1) self.new.number tolds.new.items)) }
     {
-        let told = told_one(alloc, program, &mut self.method, self.number, budget)?;
+        let told = told_one(
+            alloc,
+            program,
+            &mut self.method,
+            self.number,
+            budget,
+            stated,
+            &mut self.hint,
+        )?;
         let next = self.number.checked_add(1).ok_or(Memory)?;
         tolds.push(told)?;
         self.number = next;
@@ -89,6 +102,7 @@ impl Progress {
         program: &mut Program,
         item: &Item,
         budget: Budget,
+        stated: Stated,
         tolds: &mut Vec<Told>,
     ) -> Result<(), Memory>
         requires allowed { AreAllowed (content program.old) (item.now ∷ []) }
@@ -101,13 +115,13 @@ impl Progress {
         ensures way { (start : ProgramOf) (came : ℕ) → IsUnderWay budget start came (content program.old) self.old.method
             → OnOk result (IsUnderWay budget start (came + 1) (content program.new) self.new.method) }
         ensures course { (start : ProgramOf) (came : ℕ) → IsUnderWay budget start came (content program.old) self.old.method
-            → OnOk result (IsBehind budget start item.now.work item.now.act
+            → OnOk result (IsBehind budget stated start item.now.work item.now.act
             (course_at (content program.old) self.old.method came self.old.number tolds.old.items)
             (course_at (content program.new) self.new.method (came + 1) self.new.number tolds.new.items)) }
     {
         match &item.act {
             Act::Change(edit) => self.change(alloc, program, edit, item.work),
-            Act::Solve => self.tell(alloc, program, budget, tolds),
+            Act::Solve => self.tell(alloc, program, budget, stated, tolds),
         }
     }
 }

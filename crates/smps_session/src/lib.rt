@@ -5,7 +5,9 @@ mod items;
 mod running;
 mod scripts;
 mod told;
+mod whole;
 
 pub use running::session;
 pub use scripts::scripted;
 pub use told::Told;
+pub use whole::{Answered, Stated};

@@ -8,31 +8,43 @@ ghost use Rattle.tree_method.specs.Stands.{HasFewNodes, StandsOn, StandsCleared}
 ghost use Rattle.smps_session.specs.Reasons.{told_reasons};
 ghost use Rattle.smps_session.specs.Comes.{is_unfinished, ShowsFound, ComesOf, ComesOfAll, IsUnderWay};
 
+use crate::whole::{Answered, Stated, own_or_whole};
 use frac128::Memory;
 use pass_core::Budget;
 use proved_report::report;
 use scen_defs::{Finding, Program, Report};
 use std::alloc::Global;
 use tree_method::Method;
+use whole_guess::WholeHint;
 
 /// Solves a program on a tree by the nested method, with so many solves of nodes at most and so many pivots in each, and
 /// tests what was found before it is told: see `proved_report::report`.
 ///
 /// `OpenSolves` tells the solves that were allowed, which were made, `OpenPivots` that the pivots of a solve ended, with the number of that
-/// solve, from 1, `OpenPassed` an operation that passes 128 bits and where it stands.
-pub fn session(alloc: Global, program: &Program, solves: u64, pivots: u64) -> Result<Report, Memory>
-    ensures number { IfOk result (λ report. report.number ≡ 1) }
-    ensures counts { IfOk result (HasCounts (view_of (content program.now))) }
-    ensures names { IfOk result (ListsHaveNames program.now) }
+/// solve, from 1, `OpenPassed` an operation that passes 128 bits and where it stands. Where the method leaves the report open for an operation,
+/// or for solves or pivots whose number isn't stated, the whole program is tried at once: a claim about it that stands its test is reported in
+/// place of the method's own report, and that is the method's own where none does.
+pub fn session(
+    alloc: Global,
+    program: &Program,
+    solves: u64,
+    pivots: u64,
+    stated: Stated,
+) -> Result<Answered, Memory>
+    ensures number { IfOk result (λ answered. answered.report.number ≡ 1) }
+    ensures counts { IfOk result (λ answered. HasCounts (view_of (content program.now)) answered.report) }
+    ensures names { IfOk result (λ answered. ListsHaveNames program.now answered.report) }
     ensures truth { let reasons = told_reasons program.now (record { solves = solves; pivots = pivots }) in
-        IfOk result (IsTrue (view_of (content program.now)) reasons) }
-    ensures equal { IfOk result EqualIsOptimal }
-    ensures comes { let p = content program.now in HasFewNodes p
-        → IfOk result (ComesOfAll (record { solves = solves; pivots = pivots }) program.now) }
+        IfOk result (λ answered. IsTrue (view_of (content program.now)) reasons answered.report) }
+    ensures equal { IfOk result (λ answered. EqualIsOptimal answered.report) }
+    ensures comes { let p = content program.now in HasFewNodes p → IfOk result (λ answered.
+        ComesOfAll (record { solves = solves; pivots = pivots }) stated program.now answered.report) }
 {
     let budget = Budget { solves, pivots };
     let mut method = Method::begin(alloc, program, budget)?;
-    reported(alloc, program, &mut method, 1, budget)
+    let own = reported(alloc, program, &mut method, 1, budget)?;
+    let mut hint = WholeHint::empty(alloc);
+    own_or_whole(alloc, program, own, budget, stated, &mut hint)
 }
 
 /// The report of what the method finds of the program, where nothing is left to find. Where it is left open though no operation passed, no

@@ -9,6 +9,7 @@ ghost use Rattle.smps_session.specs.Told.{IsScripted};
 
 use crate::items::Progress;
 use crate::told::Told;
+use crate::whole::Stated;
 use edit_apply::count;
 use edit_defs::{Item, Script};
 use frac128::Memory;
@@ -16,6 +17,7 @@ use pass_core::Budget;
 use scen_defs::Program;
 use std::alloc::Global;
 use tree_method::Method;
+use whole_guess::WholeHint;
 
 impl Progress {
     /// Before the first item: nothing was done of the program.
@@ -32,6 +34,7 @@ impl Progress {
             counted,
             method,
             number: 1,
+            hint: WholeHint::empty(alloc),
         })
     }
 
@@ -42,18 +45,19 @@ impl Progress {
         program: &mut Program,
         items: &[Item],
         budget: Budget,
+        stated: Stated,
     ) -> Result<Vec<Told>, Memory>
         requires allowed { AreAllowed (content program.old) items.now }
         requires counted { self.old.counted ≡ counts (content program.old).nodes }
         requires number { self.old.number ≡ 1 }
         requires stands { StandsOn (content program.old) budget self.old.method }
         requires begins { HasFewNodes (content program.old) → Begins (content program.old) budget self.old.method }
-        ensures { IfOk result (λ tolds. IsScripted budget (content program.old) items.now tolds.items) }
+        ensures { IfOk result (λ tolds. IsScripted budget stated (content program.old) items.now tolds.items) }
     {
         let mut tolds = Vec::new(alloc);
         let mut rest = items;
         while let [item, behind @ ..] = rest {
-            self.take(alloc, program, item, budget, &mut tolds)?;
+            self.take(alloc, program, item, budget, stated, &mut tolds)?;
             rest = behind;
         }
         Ok(tolds)
@@ -62,18 +66,19 @@ impl Progress {
 
 /// Solves a program on a tree by the nested method after edits, once for each SOLVE of a script. A report may take so many solves of
 /// nodes at most, and so many pivots in each. The cuts that an edit leaves true are kept over it. What was found is tested before it is
-/// told, as by `session`; the program is then as the edits left it.
+/// told, and the whole program is tried where the method had stopped, as by `session`; the program is then as the edits left it.
 pub fn scripted(
     alloc: Global,
     program: &mut Program,
     script: &Script,
     solves: u64,
     pivots: u64,
+    stated: Stated,
 ) -> Result<Vec<Told>, Memory>
     requires { AreAllowed (content program.old) script.now.items.items }
     ensures { let budget : BudgetOf = record { solves = solves; pivots = pivots } in
-        IfOk result (λ tolds. IsScripted budget (content program.old) script.now.items.items tolds.items) }
+        IfOk result (λ tolds. IsScripted budget stated (content program.old) script.now.items.items tolds.items) }
 {
     let budget = Budget { solves, pivots };
-    Progress::begin(alloc, program, budget)?.reports(alloc, program, &script.items, budget)
+    Progress::begin(alloc, program, budget)?.reports(alloc, program, &script.items, budget, stated)
 }

@@ -1,17 +1,21 @@
 //! A report as it is told.
-ghost use Rattle.std.specs.Prelude.{◌+◌, ℕ, IfOk, OnOk};
+ghost use Rattle.std.specs.Prelude.{◌≡◌, ◌+◌, ℕ, IfOk, OnOk};
+ghost use Rattle.scen_defs.specs.Fits.{ListsHaveNames};
 ghost use Rattle.scen_defs.specs.Program.{content, Program as ProgramOf};
+ghost use Rattle.report_text.specs.Text.{report_text};
 ghost use Rattle.tree_method.specs.Stands.{HasFewNodes, StandsOn, StandsCleared};
 ghost use Rattle.smps_session.specs.Comes.{IsUnderWay};
 ghost use Rattle.smps_session.specs.Told.{IsTold};
 
 use crate::running::reported;
+use crate::whole::{Stated, own_or_whole};
 use frac128::Memory;
 use pass_core::Budget;
 use report_text::print_report;
-use scen_defs::{Finding, Program};
+use scen_defs::{Finding, Program, Report};
 use std::alloc::Global;
 use tree_method::Method;
+use whole_guess::WholeHint;
 
 /// What is told of a report.
 #[derive(Drop)]
@@ -19,30 +23,52 @@ pub struct Told {
     /// Its text, all of it.
     pub text: Vec<u8>,
     pub finding: Finding,
+    /// Whether it tells a claim about the whole program, after the method had stopped.
+    pub by_whole: bool,
 }
 
-/// Tells what the method finds of the program, where nothing is left to find.
+/// What is told of a report.
+fn printed(
+    alloc: Global,
+    program: &Program,
+    report: &Report,
+    by_whole: bool,
+) -> Result<Told, Memory>
+    requires { ListsHaveNames program.now report.now }
+    ensures text { IfOk result (λ told. told.text.items ≡ report_text program.now report.now) }
+    ensures finding { IfOk result (λ told. told.finding ≡ report.now.finding) }
+    ensures by_whole { IfOk result (λ told. told.by_whole ≡ by_whole) }
+{
+    let mut text = Vec::new(alloc);
+    print_report(alloc, program, report, &mut text)?;
+    Ok(Told {
+        text,
+        finding: report.finding,
+        by_whole,
+    })
+}
+
+/// Tells what the method finds of the program, where nothing is left to find, or what the whole program shows where the method had stopped.
+/// The method goes on as it is without that.
 pub(crate) fn told_one(
     alloc: Global,
     program: &Program,
     method: &mut Method,
     number: u32,
     budget: Budget,
+    stated: Stated,
+    hint: &mut WholeHint,
 ) -> Result<Told, Memory>
     requires stands { StandsOn (content program.now) budget method.old }
     requires cleared { HasFewNodes (content program.now) → StandsCleared method.old }
     ensures told { (start : ProgramOf) (came : ℕ) → let p = content program.now in IsUnderWay budget start came p method.old
-        → IfOk result (λ told. IsTold budget start came number p method.old told method.new) }
+        → IfOk result (λ told. IsTold budget stated start came number p method.old told method.new) }
     ensures stands { OnOk result (StandsOn (content program.now) budget method.new) }
     ensures cleared { HasFewNodes (content program.now) → OnOk result (StandsCleared method.new) }
     ensures way { (start : ProgramOf) (came : ℕ) → let p = content program.now in IsUnderWay budget start came p method.old
         → OnOk result (IsUnderWay budget start (came + 1) p method.new) }
 {
-    let report = reported(alloc, program, method, number, budget)?;
-    let mut text = Vec::new(alloc);
-    print_report(alloc, program, &report, &mut text)?;
-    Ok(Told {
-        text,
-        finding: report.finding,
-    })
+    let own = reported(alloc, program, method, number, budget)?;
+    let answered = own_or_whole(alloc, program, own, budget, stated, hint)?;
+    printed(alloc, program, &answered.report, answered.by_whole)
 }

@@ -1,22 +1,28 @@
-use Rattle.std.proofs.Common.{refl}
-use Rattle.smps_session.proofs.ToldLemmas.{is_told}
+use Rattle.std.proofs.Common.{◌∙◌}
+use Rattle.smps_session.proofs.ToldLemmas.{tells, on_ok}
 use Rattle.smps_session.proofs.told.told_one.Goals as goal
+
+pub own_or_whole-requires-clause-truth : goal.own_or_whole-requires-clause-truth
+own_or_whole-requires-clause-truth c = c.in_ok-own.ensures.truth c.requires.stands
 
 pub returns-clause-told : goal.returns-clause-told
 returns-clause-told c = λ start came way.
-    is_told c.args.budget start came c.args.number c.args.program.now c.args.method.now c.reported.new.method c.in_ok-report.report _
-    c.in_ok-report.ensures.number (rw c.new-text.ensures.items at c.in_ok-print_report.ensures.ok) refl
-    c.in_ok-report.ensures.counts
-    (c.in_ok-report.ensures.truth c.requires.stands)
-    c.in_ok-report.ensures.equal
-    (λ few. c.in_ok-report.ensures.comes start came few c.requires.stands (c.requires.cleared few) way)
+    tells c.args.budget c.args.stated start came c.args.number c.args.program.now c.args.method.now c.reported.new.method c.in_ok-own.own
+    c.in_ok-answered.answered c.printed.result
+    (c.in_ok-answered.ensures.number ∙ c.in_ok-own.ensures.number)
+    c.printed.ensures.text c.printed.ensures.finding c.printed.ensures.by_whole
+    c.in_ok-answered.ensures.counts
+    c.in_ok-answered.ensures.truth
+    c.in_ok-answered.ensures.equal
+    (λ few. c.in_ok-own.ensures.comes start came few c.requires.stands (c.requires.cleared few) way)
+    c.in_ok-answered.ensures.whole
 
 pub returns-clause-stands : goal.returns-clause-stands
-returns-clause-stands c = c.in_ok-report.ensures.stands c.requires.stands
+returns-clause-stands c = on_ok c.printed.result _ (c.in_ok-own.ensures.stands c.requires.stands)
 
 pub returns-clause-cleared : goal.returns-clause-cleared
-returns-clause-cleared c = λ few. c.in_ok-report.ensures.cleared few c.requires.stands (c.requires.cleared few)
+returns-clause-cleared c = λ few. on_ok c.printed.result _ (c.in_ok-own.ensures.cleared few c.requires.stands (c.requires.cleared few))
 
 pub returns-clause-way : goal.returns-clause-way
-returns-clause-way c = λ start came way few.
-    c.in_ok-report.ensures.way start came few c.requires.stands way few
+returns-clause-way c = λ start came way.
+    on_ok c.printed.result _ (λ few. c.in_ok-own.ensures.way start came few c.requires.stands way few)

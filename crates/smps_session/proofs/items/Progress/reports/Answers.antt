@@ -18,9 +18,9 @@ loop-rest-init c =
         begins = c.requires.begins;
         came = 0;
         way = begins_way c.args.budget 0 p c.args.self.now.method c.args.program.now.keeps c.requires.begins;
-        course = subst (λ (n : ℕ). IsOnCourse c.args.budget p c.args.self.now.method c.args.items.now c.args.items.now
+        course = subst (λ (n : ℕ). IsOnCourse c.args.budget c.args.stated p c.args.self.now.method c.args.items.now c.args.items.now
             (course_at p c.args.self.now.method 0 n c.new-tolds.result.items)) (sym c.requires.number)
-            (begins_course c.args.budget p c.args.self.now.method c.args.items.now c.args.items.now c.new-tolds.result.items refl
+            (begins_course c.args.budget c.args.stated p c.args.self.now.method c.args.items.now c.args.items.now c.new-tolds.result.items refl
             c.new-tolds.ensures.items c.requires.allowed);
       };
     }
@@ -45,7 +45,7 @@ loop-rest-preserved c = record {
     begins = h.begins;
     came = h.came + 1;
     way = c.in_ok-take.ensures.way (content c.args.program.now) h.came h.way;
-    course = stays_on_course c.args.budget (content c.args.program.now) h.first
+    course = stays_on_course c.args.budget c.args.stated (content c.args.program.now) h.first
         c.args.items.now c.loop-rest.rest.now c.item-item.result
         (course_at (content c.loop-rest.program) c.loop-rest.self.method h.came c.loop-rest.self.number c.loop-rest.tolds.items)
         (course_at (content c.take.new.program) c.take.new.self.method (h.came + 1) c.take.new.self.number c.take.new.tolds.items)
@@ -57,7 +57,7 @@ pub returns : goal.returns
 returns c = record {
   method = c.loop-rest.invariant.come.first;
   begins = c.loop-rest.invariant.come.begins;
-  told = all_told c.args.budget (content c.args.program.now) c.loop-rest.invariant.come.first
+  told = all_told c.args.budget c.args.stated (content c.args.program.now) c.loop-rest.invariant.come.first
       c.args.items.now c.loop-rest.rest.now
       (course_at (content c.loop-rest.program) c.loop-rest.self.method c.loop-rest.invariant.come.came c.loop-rest.self.number
       c.loop-rest.tolds.items) c.in_default.len_below c.loop-rest.invariant.come.course;

@@ -10,7 +10,7 @@ invariant-loop-rest l = record {
   counted : l.self.counted ≡ counts (content l.program).nodes;
   stands : StandsOn (content l.program) l.budget l.self.method;
   cleared : HasFewNodes (content l.program) → StandsCleared l.self.method;
-  come : HasCome l.budget (content l.fn.program) l.items l.rest (content l.program)
+  come : HasCome l.budget l.stated (content l.fn.program) l.items l.rest (content l.program)
       l.self.method l.self.number l.tolds.items;
 }
 

@@ -10,14 +10,14 @@ change-requires-clause-allowed c =
 
 pub returns-in-Change-clause-course : goal.returns-in-Change-clause-course
 returns-in-Change-clause-course c = λ start came way.
-    is_behind_edit c.change.result c.args.budget start c.args.item.now.work c.args.item.now.act c.in-Change.edit
+    is_behind_edit c.change.result c.args.budget c.args.stated start c.args.item.now.work c.args.item.now.act c.in-Change.edit
     (content c.args.program.now) (content c.change.new.program) c.args.self.now.method c.change.new.self.method
     came c.args.self.now.number c.change.new.self.number c.args.tolds.now.items
     c.in-Change.is c.change.ensures.after c.change.ensures.number (c.change.ensures.takes c.args.budget c.requires.stands)
 
 pub returns-in-Solve-clause-course : goal.returns-in-Solve-clause-course
 returns-in-Solve-clause-course c = λ start came way.
-    is_behind_solve c.tell.result c.args.budget start c.args.item.now.work c.args.item.now.act
+    is_behind_solve c.tell.result c.args.budget c.args.stated start c.args.item.now.work c.args.item.now.act
     (course_at (content c.args.program.now) c.args.self.now.method came c.args.self.now.number c.args.tolds.now.items)
     (course_at (content c.args.program.now) c.tell.new.self.method (came + 1) c.tell.new.self.number c.tell.new.tolds.items)
     c.in-Solve.is (c.tell.ensures.told start came way)
