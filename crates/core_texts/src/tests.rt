@@ -95,7 +95,7 @@ fn ended(
     sink: &mut MemorySink,
 ) -> Result<Status, Memory> {
     let mut shelf = shelf(alloc, text)?;
-    match run(rt, alloc, words, &mut shelf, sink) {
+    match run(rt, alloc, words, &mut shelf, sink).status {
         Status::Memory => Err(Memory),
         status => Ok(status),
     }

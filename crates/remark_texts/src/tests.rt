@@ -115,7 +115,7 @@ fn shelf(alloc: Global, files: Files<'_>) -> Result<NeverFails, AllocError> {
 fn status_of(rt: &impl Runtime, alloc: Global, files: Files<'_>) -> Result<Status, AllocError> {
     let mut shelf = shelf(alloc, files)?;
     let mut sink = MemorySink::new(alloc, 4096, Vec::new(alloc));
-    Ok(run(rt, alloc, &words(alloc)?, &mut shelf, &mut sink))
+    Ok(run(rt, alloc, &words(alloc)?, &mut shelf, &mut sink).status)
 }
 
 /// Which file is refused, at which line and for which cause, and what is said of it, without the line itself.

@@ -3,11 +3,12 @@ use crate::checked::put_checked;
 use crate::files::read_again;
 use crate::noted::Noted;
 use crate::refusal::{file_start, put_refusal, put_too_long, put_unread};
+use crate::whole::put_whole;
 use crate::words::put_word_fault;
 use command_words::{Command, PlainWords, Sources, Task};
 use input_files::FileKind;
 use line_remarks::put_unused;
-use run_status::Status;
+use run_status::{Status, WholeReports};
 use std::alloc::{AllocError, Global};
 use std::fs::Files;
 
@@ -43,13 +44,14 @@ pub const UNEXPLAINED: &str = "tidzgheba: memory ran out before the status could
 pub const NOT_TEXT: &str =
     "tidzgheba: a word isn't UTF-8, so the words aren't those of a command\n";
 
-/// What standard error says of how the words ended, where this is noted of the reports that were written; empty where the
-/// output says all.
+/// What standard error says of how the words ended, where this is noted of the reports that were written, and these were found by solving
+/// the whole program at once; empty where the output says all.
 pub fn explanation<R: Files>(
     rt: &R,
     alloc: Global,
     words: &[String],
     status: &Status,
+    whole: WholeReports,
     noted: Noted,
 ) -> Result<String, AllocError> {
     let mut text = String::new(alloc);
@@ -64,6 +66,7 @@ pub fn explanation<R: Files>(
         }
         Command::Make(_) => put_made(&mut text, status, noted)?,
     }
+    put_whole(&mut text, whole)?;
     Ok(text)
 }
 

@@ -7,6 +7,7 @@ mod files;
 mod noted;
 mod refusal;
 mod watched;
+mod whole;
 mod words;
 
 pub use explain::{MEMORY, NOT_TEXT, UNEXPLAINED, explanation};

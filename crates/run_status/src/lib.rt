@@ -2,6 +2,8 @@
 #![tactic(auto)]
 
 mod status;
+mod whole;
 
 pub use input_files::FileKind;
 pub use status::{Status, command_status, file_word, is_open, open_status};
+pub use whole::WholeReports;

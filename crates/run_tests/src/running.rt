@@ -34,7 +34,7 @@ pub fn ended(
     shelf: &mut impl Shelf,
     sink: &mut MemorySink,
 ) -> Result<Status, Memory> {
-    Ok(run(rt, alloc, &words_of(alloc, words)?, shelf, sink))
+    Ok(run(rt, alloc, &words_of(alloc, words)?, shelf, sink).status)
 }
 
 /// How a run of a case ends over a sink and a shelf of its files, which fails where it doesn't hold a name.

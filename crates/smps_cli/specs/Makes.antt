@@ -1,5 +1,5 @@
 -- What `make` prints.
-use Rattle.std.specs.Prelude.{◌≡◌, ℕ, List, ◌++◌, length, Option, Some, None, codes}
+use Rattle.std.specs.Prelude.{◌≡◌, ℕ, false, List, ◌++◌, length, Option, Some, None, codes}
 use Rattle.std.specs.Fmt.{decimal}
 use Rattle.scen_defs.specs.Program.{content}
 use Rattle.scen_defs.specs.declared.program.Program.{Program}
@@ -16,6 +16,7 @@ use Rattle.input_files.specs.Fetched.{Texts}
 use Rattle.program_files.specs.Meant.{MeansProgram}
 use Rattle.smps_session.specs.Reasons.{told_reasons}
 use Rattle.smps_session.specs.Comes.{ComesOfAll}
+use Rattle.smps_session.specs.declared.whole.Stated.{Stated}
 use Rattle.run_status.specs.declared.status.Status.{Status}
 use Rattle.run_status.specs.declared.status.Status.TheVariants.{Done}
 use Rattle.smps_cli.specs.Ends.{MayEnd, RefusesTexts}
@@ -54,8 +55,12 @@ summary_text plan program report = plan_line plan ++ size_line program report ++
 abbrev pub make_limit : ℕ
 make_limit = 100000
 
+-- no words state how many
+abbrev pub none_stated : Stated
+none_stated = record { solves = false; pivots = false }
+
 -- The output is the summary of the workload and of a report that is true of its program, whose rows with two finite ends have the widths of
--- their ranges, and comes of solves of its nodes.
+-- their ranges, and comes of solves of its nodes, or of the whole program.
 pub record PrintsSummary (plan : Plan) (status : Status) (output : List ℕ) : Type 0 where
   pub program : Program
   pub means : MeansProgram (texts_of (workload plan)) (content program)
@@ -63,7 +68,7 @@ pub record PrintsSummary (plan : Plan) (status : Status) (output : List ℕ) : T
   pub report : Report
   pub truth : IsTrue (seen program) (told_reasons program (record { solves = make_limit; pivots = make_limit })) report
   pub counts : HasCounts (seen program) report
-  pub comes : ComesOfAll (record { solves = make_limit; pivots = make_limit }) program report
+  pub comes : ComesOfAll (record { solves = make_limit; pivots = make_limit }) none_stated program report
   pub text : output ≡ summary_text plan program report
   pub told : status ≡ command_status report.finding
 

@@ -10,11 +10,16 @@ use Rattle.program_files.specs.Meant.{MeansProgram}
 use Rattle.program_files.specs.Edited.{MeansScript}
 use Rattle.tree_method.specs.Stands.{HasFewNodes}
 use Rattle.smps_session.specs.declared.told.Told.{Told}
+use Rattle.smps_session.specs.declared.whole.Stated.{Stated}
 use Rattle.smps_session.specs.Told.{IsScripted}
 use Rattle.smps_session.specs.Comes.{IsOnTree}
 use Rattle.run_status.specs.declared.status.Status.{Status}
 use Rattle.smps_cli.specs.Ends.{MayEnd, RefusesTexts}
 use Rattle.run_status.specs.Findings.{is_open_finding, open_status}
+
+-- which numbers of a budget the words state
+abbrev pub stated_of : Budget → Stated
+stated_of budget = record { solves = budget.solves_stated; pivots = budget.pivots_stated }
 
 abbrev pub told_text : Told → List ℕ
 told_text told = told.text.items
@@ -39,7 +44,7 @@ pub record PrintsReports (budget : Budget) (texts : Texts) (status : Status) (ou
   pub short : length items ≤ 10001
   -- the reports, all of them
   pub tolds : List Told
-  pub told : IsScripted (record { solves = budget.solves; pivots = budget.pivots }) program items tolds
+  pub told : IsScripted (record { solves = budget.solves; pivots = budget.pivots }) (stated_of budget) program items tolds
   pub text : output ≡ flat_map told_text tolds
   pub ends : status ≡ open_status (any_open tolds)
 

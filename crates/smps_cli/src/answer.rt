@@ -22,16 +22,17 @@ use command_words::{Command, PlainWords, Sources, Task};
 use core_defs::Core;
 use frac128::Memory;
 use input_files::{Texts, Unfetched, fetched_texts};
-use run_status::Status;
+use run_status::{Status, WholeReports};
 use smps_io::Shelf;
 use std::alloc::Global;
 use std::fs::Files;
 
-/// A status and the whole output that goes with it.
+/// A status and the whole output that goes with it, and which of its reports were found by solving the whole program at once.
 #[derive(Drop)]
 pub(crate) struct Answer {
     pub(crate) status: Status,
     pub(crate) output: Vec<u8>,
+    pub(crate) whole: WholeReports,
 }
 
 /// What a task comes to on its texts.
@@ -119,5 +120,9 @@ pub(crate) fn line_answer(
     ensures { IfOk result (λ answer. (answer.status ≡ status) × (answer.output.items ≡ line_with core.now status)) }
 {
     let output = status.line(alloc, core)?;
-    Ok(Answer { status, output })
+    Ok(Answer {
+        status,
+        output,
+        whole: WholeReports::none(),
+    })
 }

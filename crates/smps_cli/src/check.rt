@@ -14,7 +14,7 @@ use crate::refuse::stopped;
 use frac128::Memory;
 use input_files::Texts;
 use program_files::read_told;
-use run_status::open_status;
+use run_status::{WholeReports, open_status};
 use scen_defs::Report;
 use script_checks::{all_hold, check_script, print_checks};
 use std::alloc::Global;
@@ -60,5 +60,6 @@ fn checked_reports(
     Ok(Answer {
         status: open_status(!all_hold(&checks)),
         output,
+        whole: WholeReports::none(),
     })
 }

@@ -11,5 +11,5 @@ mod solve;
 mod top_call;
 mod write;
 
-pub use run_status::{FileKind, Status};
-pub use top_call::run;
+pub use run_status::{FileKind, Status, WholeReports};
+pub use top_call::{Ran, run};

@@ -16,9 +16,9 @@ use frac128::Memory;
 use input_files::{FILE_LIMIT, Texts};
 use program_files::read_program;
 use report_text::print_outcome;
-use run_status::{Status, command_status};
+use run_status::{Status, WholeReports, command_status};
 use scen_defs::{Program, Report};
-use smps_session::session;
+use smps_session::{Stated, session};
 use std::alloc::Global;
 use workload_maker::{Made, make};
 
@@ -34,6 +34,7 @@ pub(crate) fn made(alloc: Global, plan: Plan) -> Result<Answer, Memory>
         Some(page) => Ok(Answer {
             status: Status::Done,
             output: page_of(texts, page),
+            whole: WholeReports::none(),
         }),
         None => summed_up(alloc, plan, &texts_of(texts)),
     }
@@ -104,6 +105,26 @@ fn summed_up(alloc: Global, plan: Plan, texts: &Texts) -> Result<Answer, Memory>
     }
 }
 
+/// The answer that prints a summary.
+fn printed(
+    alloc: Global,
+    plan: Plan,
+    program: &Program,
+    report: &Report,
+    by_whole: bool,
+) -> Result<Answer, Memory>
+    ensures { IfOk result (λ answer. (answer.output.items ≡ summary_text plan program.now report.now)
+        × (answer.status ≡ command_status report.now.finding)) }
+{
+    let output = summary(alloc, plan, program, report)?;
+    let none = WholeReports::none();
+    Ok(Answer {
+        status: command_status(report.finding),
+        output,
+        whole: if by_whole { none.with(1) } else { none },
+    })
+}
+
 /// The answer for the program of a workload: solves it.
 fn solved(alloc: Global, plan: Plan, texts: &Texts, program: &Program) -> Result<Answer, Memory>
     requires texts { texts_view texts.now ≡ texts_of (workload plan) }
@@ -111,12 +132,12 @@ fn solved(alloc: Global, plan: Plan, texts: &Texts, program: &Program) -> Result
     ensures { IfOk result (λ answer. PrintsSummary plan answer.status answer.output.items) }
 {
     let _core = texts.core.len();
-    let report = session(alloc, program, BUDGET, BUDGET)?;
-    let output = summary(alloc, plan, program, &report)?;
-    Ok(Answer {
-        status: command_status(report.finding),
-        output,
-    })
+    let stated = Stated {
+        solves: false,
+        pivots: false,
+    };
+    let answered = session(alloc, program, BUDGET, BUDGET, stated)?;
+    printed(alloc, plan, program, &answered.report, answered.by_whole)
 }
 
 /// The summary of a workload and its report.

@@ -13,7 +13,7 @@ use crate::refuse::stopped;
 use frac128::Memory;
 use input_files::Texts;
 use report_text::print_program;
-use run_status::Status;
+use run_status::{Status, WholeReports};
 use scen_defs::Program;
 use script_steps::apply_all;
 use std::alloc::Global;
@@ -48,5 +48,6 @@ fn printed(alloc: Global, program: &Program) -> Result<Answer, Memory>
     Ok(Answer {
         status: Status::Done,
         output,
+        whole: WholeReports::none(),
     })
 }

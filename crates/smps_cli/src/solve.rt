@@ -13,8 +13,8 @@ use crate::refuse::stopped;
 use command_words::Budget;
 use frac128::Memory;
 use input_files::Texts;
-use run_status::{is_open, open_status};
-use smps_session::{Told, scripted};
+use run_status::{WholeReports, is_open, open_status};
+use smps_session::{Stated, Told, scripted};
 use std::alloc::Global;
 
 /// The answer for the texts of the files: the reports of the program that they mean, or their first fault.
@@ -39,12 +39,17 @@ fn solved_input(
     ensures { IfOk result (λ answer. PrintsReports budget (texts_view texts.now) answer.status answer.output.items) }
 {
     let _core = texts.core.len();
+    let stated = Stated {
+        solves: budget.solves_stated,
+        pivots: budget.pivots_stated,
+    };
     let tolds = scripted(
         alloc,
         &mut input.program,
         &input.script,
         budget.solves,
         budget.pivots,
+        stated,
     )?;
     told(alloc, &tolds)
 }
@@ -59,6 +64,7 @@ fn told(alloc: Global, tolds: &[Told]) -> Result<Answer, Memory>
     Ok(Answer {
         status: open_status(any_open(tolds)),
         output,
+        whole: whole_reports(tolds),
     })
 }
 
@@ -82,4 +88,15 @@ fn any_open(tolds: &[Told]) -> bool
         }
     }
     false
+}
+
+/// Which reports were found by solving the whole program at once.
+fn whole_reports(tolds: &[Told]) -> WholeReports {
+    let mut whole = WholeReports::none();
+    for (place, told) in tolds.iter().enumerate() {
+        if told.by_whole {
+            whole = whole.with((place as u64).saturating_add(1));
+        }
+    }
+    whole
 }

@@ -9,7 +9,7 @@ ghost use Rattle.run_remarks.specs.Watched.{watched_sink};
 ghost use Rattle.tidzgheba.specs.Ending.{EndsOn, EndsWith};
 
 use run_remarks::{MEMORY, NOT_TEXT, Noted, UNEXPLAINED, Watched, explanation};
-use smps_cli::{Status, run};
+use smps_cli::{Ran, Status, run};
 use smps_io::{RealShelf, RealSink, Shelf, Sink};
 use std::alloc::{AllocError, Global};
 use std::env::Args;
@@ -51,7 +51,7 @@ fn ended<R: Files + Print + Eprint, H: Shelf, K: Sink>(
         Err(error) if error.kind() == io::ErrorKind::OutOfMemory => unread(rt),
         Err(_) => {
             let _ = rt.eprint(NOT_TEXT);
-            run(rt, alloc, &[], shelf, sink).number()
+            run(rt, alloc, &[], shelf, sink).status.number()
         }
     }
 }
@@ -99,16 +99,16 @@ fn ended_so<R: Files + Print + Eprint, H: Shelf, K: Sink>(
         (sink_state (K.written (watched_sink sink.old)) (K.faults (watched_sink sink.old)) (K.taken (watched_sink sink.old)))
         (sink_state (K.written (watched_sink sink.new)) (K.faults (watched_sink sink.new)) (K.taken (watched_sink sink.new))) result }
 {
-    let status = run(rt, alloc, words, shelf, sink);
-    tell(rt, alloc, words, &status, sink.noted());
-    status.number()
+    let ran = run(rt, alloc, words, shelf, sink);
+    tell(rt, alloc, words, &ran, sink.noted());
+    ran.status.number()
 }
 
 /// Writes the explanation of a status to standard error. That memory or standard error is wanting changes no status.
-fn tell<R: Files + Eprint>(rt: &R, alloc: Global, words: &[String], status: &Status, noted: Noted) {
-    let _ = match explanation(rt, alloc, words, status, noted) {
+fn tell<R: Files + Eprint>(rt: &R, alloc: Global, words: &[String], ran: &Ran, noted: Noted) {
+    let _ = match explanation(rt, alloc, words, &ran.status, ran.whole, noted) {
         Ok(text) => rt.eprint(text.as_str()),
-        Err(AllocError) if *status == Status::Memory => rt.eprint(MEMORY),
+        Err(AllocError) if ran.status == Status::Memory => rt.eprint(MEMORY),
         Err(AllocError) => rt.eprint(UNEXPLAINED),
     };
 }
