@@ -1,19 +1,149 @@
 //! The claim.
+
+use crate::flat::{flat_program, is_tried};
 use crate::hint::WholeHint;
+use crate::layout::Layout;
+use crate::lists::{point_list, row_list};
+use basis_guess::Standing;
+use basis_values::{ExactProgram, Guessed, Solution, guess};
 use frac128::Memory;
 use proved_report::Claim;
-use scen_defs::Program;
+use scen_defs::{Kind, Program, Values};
+use scen_tree::{Tree, TreeFault};
 use std::alloc::Global;
 
+/// So much work a guess may take: an entry that is looked at is a unit, and a second has some hundred million.
+const WORK: u64 = 1_000_000_000;
+
+/// No program of more nodes is tried; each has a row or a column, or is empty.
+const MOST_NODES: usize = 1_000_000;
+
+/// What is known of a program while it is guessed.
+#[derive(Drop)]
+struct Whole<'a> {
+    program: &'a Program,
+    tree: Tree,
+    layout: Layout,
+}
+
+/// The program with its tree and its layout; none where it is too large, or has no tree.
+fn prepared<'a>(alloc: Global, program: &'a Program) -> Result<Option<Whole<'a>>, Memory> {
+    if program.nodes.len() > MOST_NODES {
+        return Ok(None);
+    }
+    let layout = Layout::of(alloc, program)?;
+    if !is_tried(program, &layout) {
+        return Ok(None);
+    }
+    match Tree::of(alloc, program) {
+        Ok(tree) => Ok(Some(Whole {
+            program,
+            tree,
+            layout,
+        })),
+        Err(TreeFault::Passed(_)) => Ok(None),
+        Err(TreeFault::Memory) => Err(Memory),
+    }
+}
+
+/// The program in a run of a kind.
+fn in_run(alloc: Global, whole: &Whole<'_>, kind: Kind) -> Result<Option<ExactProgram>, Memory> {
+    flat_program(alloc, whole.program, &whole.tree, &whole.layout, kind)
+}
+
+/// A policy, and multipliers that show that none is cheaper.
+fn ends(alloc: Global, whole: &Whole<'_>, solution: &Solution) -> Result<Claim, Memory> {
+    let policy = point_list(alloc, whole.program, &whole.layout, &solution.point)?;
+    let dual = row_list(alloc, whole.program, &solution.multipliers)?;
+    Ok(Claim::Ends {
+        policy: Some(policy),
+        dual: Some(dual),
+    })
+}
+
+/// The point of an optimal end of the program in a run of a kind.
+fn point_in_run(
+    alloc: Global,
+    whole: &Whole<'_>,
+    kind: Kind,
+    standings: &mut Vec<Standing>,
+    work: &mut u64,
+) -> Result<Option<Values>, Memory> {
+    let Some(exact) = in_run(alloc, whole, kind)? else {
+        return Ok(None);
+    };
+    match guess(alloc, &exact, standings, work)? {
+        Guessed::Optimal(solution) => Ok(Some(point_list(
+            alloc,
+            whole.program,
+            &whole.layout,
+            &solution.point,
+        )?)),
+        Guessed::Infeasible(_) | Guessed::Unbounded | Guessed::Nothing => Ok(None),
+    }
+}
+
+/// A policy, and a direction in which the cost falls.
+fn endless(
+    alloc: Global,
+    whole: &Whole<'_>,
+    standings: &mut Vec<Standing>,
+    work: &mut u64,
+) -> Result<Option<Claim>, Memory> {
+    let Some(policy) = point_in_run(alloc, whole, Kind::Feasible, standings, work)? else {
+        return Ok(None);
+    };
+    let Some(direction) = point_in_run(alloc, whole, Kind::Recession, standings, work)? else {
+        return Ok(None);
+    };
+    Ok(Some(Claim::Endless { policy, direction }))
+}
+
+/// What is claimed of what was guessed.
+fn claimed(
+    alloc: Global,
+    whole: &Whole<'_>,
+    guessed: Guessed,
+    standings: &mut Vec<Standing>,
+    work: &mut u64,
+) -> Result<Option<Claim>, Memory> {
+    match guessed {
+        Guessed::Optimal(solution) => Ok(Some(ends(alloc, whole, &solution)?)),
+        Guessed::Infeasible(ray) => Ok(Some(Claim::Nowhere {
+            ray: row_list(alloc, whole.program, &ray)?,
+        })),
+        Guessed::Unbounded => endless(alloc, whole, standings, work),
+        Guessed::Nothing => Ok(None),
+    }
+}
+
+/// What may be claimed of the program with its tree.
+fn guessed_whole(
+    alloc: Global,
+    whole: &Whole<'_>,
+    hint: &mut WholeHint,
+) -> Result<Option<Claim>, Memory> {
+    let Some(exact) = in_run(alloc, whole, Kind::Cost)? else {
+        return Ok(None);
+    };
+    let mut standings = hint.standings(alloc, whole.program, &whole.layout, exact.floats())?;
+    let mut work = WORK;
+    let guessed = guess(alloc, &exact, &mut standings, &mut work)?;
+    let columns = exact.column_count();
+    hint.keep(alloc, whole.program, &whole.layout, &standings, columns)?;
+    claimed(alloc, whole, guessed, &mut standings, &mut work)
+}
+
 /// What may be claimed of a program, by a solve of all its nodes together: a policy with multipliers, multipliers of a ray, or a policy
-/// with a direction. None where nothing is found.
+/// with a direction. None where nothing is found, within a budget of work that takes some ten seconds at most, or where the program is
+/// too large to be tried.
 pub fn guessed_claim(
     alloc: Global,
     program: &Program,
     hint: &mut WholeHint,
 ) -> Result<Option<Claim>, Memory> {
-    let _places = program.nodes.len();
-    let _unused = Vec::<u8>::new(alloc);
-    hint.forget();
-    Ok(None)
+    match prepared(alloc, program)? {
+        Some(whole) => guessed_whole(alloc, &whole, hint),
+        None => Ok(None),
+    }
 }

@@ -3,7 +3,10 @@
 #![tactic(auto)]
 
 mod claim;
+mod flat;
 mod hint;
+mod layout;
+mod lists;
 
 pub use claim::guessed_claim;
 pub use hint::WholeHint;
