@@ -90,7 +90,9 @@ class Program:
                         rows += [(terms, ">=", low)] * (low is not None) + [(terms, "<=", high)] * (high is not None)
 
         def shown(terms):
-            return " ".join(f"{'-' if value < 0 else '+'} {abs(value)} {name}" for value, name in terms) or "+ 0 nothing"
+            words = [f"{'-' if value < 0 else '+'} {abs(value)} {name}" for value, name in terms] or ["+ 0 nothing"]
+            # esolver takes no line of any length
+            return "\n  ".join(" ".join(words[at:at + 20]) for at in range(0, len(words), 20))
         text = ["Problem", " flat", "Minimize", f" cost: {shown(cost)}", "Subject To"]
         text += [f" r{k}: {shown(terms) if terms else '+ 1 nothing'} {sign} {end}" for k, (terms, sign, end) in enumerate(rows)]
         return "\n".join(text + [" last: + 1 nothing = 0", "Bounds", *bounds, "End", ""])

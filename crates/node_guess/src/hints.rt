@@ -2,6 +2,7 @@
 
 use basis_guess::Standing;
 use frac128::Memory;
+use scen_defs::Kind;
 use std::alloc::Global;
 use std::marker::Model;
 
@@ -47,12 +48,21 @@ impl Hint {
     }
 }
 
-/// The hints of all nodes, by number. Contracts take all for the same.
+/// The hints of all nodes in runs of one kind, by number.
 #[derive(Drop)]
-pub struct Hints {
+struct KindHints {
     nodes: Vec<Option<Hint>>,
     /// The node whose hint came last.
     last: usize,
+}
+
+/// The hints of all nodes, for runs of each kind their own: with other costs another basis is best, and to begin with none is better than
+/// with that of another kind. Contracts take all for the same.
+#[derive(Drop)]
+pub struct Hints {
+    feasible: KindHints,
+    recession: KindHints,
+    cost: KindHints,
 }
 
 impl Model for Hints {
@@ -84,14 +94,14 @@ fn copied(alloc: Global, hint: &Hint, counts: Counts) -> Result<Option<Hint>, Me
     }))
 }
 
-impl Hints {
+impl KindHints {
     /// No hint, with places for so many nodes.
-    pub fn places(alloc: Global, count: usize) -> Result<Hints, Memory> {
+    fn places(alloc: Global, count: usize) -> Result<KindHints, Memory> {
         let mut nodes = Vec::new(alloc);
         for _node in 0..count {
             nodes.push(None)?;
         }
-        Ok(Hints { nodes, last: 0 })
+        Ok(KindHints { nodes, last: 0 })
     }
 
     /// Takes a node's own hint.
@@ -105,12 +115,7 @@ impl Hints {
     }
 
     /// Takes a node's hint. One that has none begins as the node before it, if this has as many columns and rows.
-    pub(crate) fn take(
-        &mut self,
-        alloc: Global,
-        node: u32,
-        counts: Counts,
-    ) -> Result<Option<Hint>, Memory> {
+    fn take(&mut self, alloc: Global, node: u32, counts: Counts) -> Result<Option<Hint>, Memory> {
         if let Some(hint) = self.own(node) {
             return Ok(Some(hint));
         }
@@ -124,7 +129,7 @@ impl Hints {
     }
 
     /// Keeps a node's hint, also of a node that came later.
-    pub(crate) fn put(&mut self, node: u32, hint: Option<Hint>) -> Result<(), Memory> {
+    fn put(&mut self, node: u32, hint: Option<Hint>) -> Result<(), Memory> {
         let place = node as usize;
         for _node in self.nodes.len()..=place {
             self.nodes.push(None)?;
@@ -134,5 +139,43 @@ impl Hints {
             self.last = place;
         }
         Ok(())
+    }
+}
+
+impl Hints {
+    /// No hint, with places for so many nodes.
+    pub fn places(alloc: Global, count: usize) -> Result<Hints, Memory> {
+        let feasible = KindHints::places(alloc, count)?;
+        let recession = KindHints::places(alloc, count)?;
+        let cost = KindHints::places(alloc, count)?;
+        Ok(Hints {
+            feasible,
+            recession,
+            cost,
+        })
+    }
+
+    /// Takes a node's hint for a run of a kind. One that has none begins as the node before it, if this has as many columns and rows.
+    pub(crate) fn take(
+        &mut self,
+        alloc: Global,
+        kind: Kind,
+        node: u32,
+        counts: Counts,
+    ) -> Result<Option<Hint>, Memory> {
+        match kind {
+            Kind::Feasible => self.feasible.take(alloc, node, counts),
+            Kind::Recession => self.recession.take(alloc, node, counts),
+            Kind::Cost => self.cost.take(alloc, node, counts),
+        }
+    }
+
+    /// Keeps a node's hint for runs of a kind, also of a node that came later.
+    pub(crate) fn put(&mut self, kind: Kind, node: u32, hint: Option<Hint>) -> Result<(), Memory> {
+        match kind {
+            Kind::Feasible => self.feasible.put(node, hint),
+            Kind::Recession => self.recession.put(node, hint),
+            Kind::Cost => self.cost.put(node, hint),
+        }
     }
 }

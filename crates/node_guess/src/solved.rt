@@ -102,8 +102,8 @@ pub fn solved_node(alloc: Global, task: &Task, hints: &mut Hints) -> Result<Solv
         columns: task.datum.bounds().len(),
         rows: task.datum.rows().len(),
     };
-    let hint = hints.take(alloc, node, counts)?;
+    let hint = hints.take(alloc, task.kind, node, counts)?;
     let (solved, hint) = solved_from(alloc, task, hint)?;
-    hints.put(node, hint)?;
+    hints.put(task.kind, node, hint)?;
     Ok(solved)
 }
