@@ -58,42 +58,38 @@ fn set<T: Number>(solution: &mut [T], place: u32, value: T) {
     }
 }
 
+/// The number of a pivot as it stands on a heap: the last one comes off first, or, from the other end, the least.
+#[inline(always)]
+fn key(number: u32, is_turned: bool) -> u32 {
+    if is_turned { u32::MAX - number } else { number }
+}
+
 /// The pivots of these rows or columns come onto the heap.
-fn heap_up(heap: &mut BinaryHeap<u32>, pivots: &[u32], places: &[u32]) -> Result<(), AllocError> {
-    for place in places {
-        heap.push(at(pivots, *place))?;
-    }
-    Ok(())
-}
-
-/// The same for the rows of entries.
-fn heap_rows<T: Number>(
+fn heap_up(
     heap: &mut BinaryHeap<u32>,
     pivots: &[u32],
-    list: &[Entry<T>],
+    places: &[u32],
+    is_turned: bool,
 ) -> Result<(), AllocError> {
-    for entry in list {
-        heap.push(at(pivots, entry.at))?;
-    }
-    Ok(())
-}
-
-/// The numbers of pivots from the other end, so that the least comes off the heap first.
-fn heap_down(heap: &mut BinaryHeap<u32>, pivots: &[u32], places: &[u32]) -> Result<(), AllocError> {
     for place in places {
-        heap.push(u32::MAX - at(pivots, *place))?;
+        heap.push(key(at(pivots, *place), is_turned))?;
     }
     Ok(())
 }
 
-/// The same for the columns of entries.
-fn heap_columns<T: Number>(
+/// The same for those of a list whose numbers are 0; the others are on the heap already.
+#[inline(always)]
+fn heap_new<T: Number>(
     heap: &mut BinaryHeap<u32>,
     pivots: &[u32],
+    values: &[T],
     list: &[Entry<T>],
+    is_turned: bool,
 ) -> Result<(), AllocError> {
     for entry in list {
-        heap.push(u32::MAX - at(pivots, entry.at))?;
+        if number_at(values, entry.at).is_zero() {
+            heap.push(key(at(pivots, entry.at), is_turned))?;
+        }
     }
     Ok(())
 }
@@ -116,7 +112,7 @@ impl<T: Number> Factors<T> {
         let mut heap = BinaryHeap::new(*found.allocator());
         let mut from = self.pivots.len();
         if self.is_few(given.len()) {
-            heap_up(&mut heap, &self.of_row, given)?;
+            heap_up(&mut heap, &self.of_row, given, false)?;
             self.lower_few(right, &mut heap)?;
             from = self.upper_few(right, solution, found, &mut heap)?;
         } else {
@@ -128,30 +124,33 @@ impl<T: Number> Factors<T> {
     /// Takes the rows of pivots away, in order.
     fn lower_all(&self, right: &mut [T]) {
         for number in &self.busy {
-            let _ = self.lower_step(*number as usize, right);
+            let value = self.lower_value(*number as usize, right);
+            if !value.is_zero() {
+                subtract_list(right, value, self.lower.list(*number as usize));
+            }
         }
     }
 
     fn lower_few(&self, right: &mut [T], heap: &mut BinaryHeap<u32>) -> Result<(), AllocError> {
         for number in &self.busy {
-            let list = self.lower_step(*number as usize, right);
-            heap_rows(heap, &self.of_row, list)?;
+            let value = self.lower_value(*number as usize, right);
+            if !value.is_zero() {
+                let list = self.lower.list(*number as usize);
+                heap_new(heap, &self.of_row, right, list, false)?;
+                subtract_list(right, value, list);
+            }
         }
         Ok(())
     }
 
-    /// The rows that were changed.
+    /// The right side in the row of a pivot.
     #[inline(always)]
-    fn lower_step(&self, number: usize, right: &mut [T]) -> &[Entry<T>] {
+    fn lower_value(&self, number: usize, right: &[T]) -> T {
         if number < self.pivots.len() {
-            let value = number_at(right, self.pivots[number].row);
-            if !value.is_zero() {
-                let list = self.lower.list(number);
-                subtract_list(right, value, list);
-                return list;
-            }
+            number_at(right, self.pivots[number].row)
+        } else {
+            T::zero()
         }
-        &[]
     }
 
     /// The pivots below a number, from the last one on.
@@ -163,7 +162,10 @@ impl<T: Number> Factors<T> {
         found: &mut Vec<u32>,
     ) -> Result<(), AllocError> {
         for number in (0..from).rev() {
-            let _ = self.upper_step(number, right, solution, found)?;
+            let value = self.upper_value(number, right, solution, found)?;
+            if !value.is_zero() {
+                subtract_list(right, value, self.upper_columns.list(number));
+            }
         }
         Ok(())
     }
@@ -182,21 +184,25 @@ impl<T: Number> Factors<T> {
                 return Ok(0);
             };
             from = number as usize;
-            let list = self.upper_step(from, right, solution, found)?;
-            heap_rows(heap, &self.of_row, list)?;
+            let value = self.upper_value(from, right, solution, found)?;
+            if !value.is_zero() {
+                let list = self.upper_columns.list(from);
+                heap_new(heap, &self.of_row, right, list, false)?;
+                subtract_list(right, value, list);
+            }
         }
         Ok(from)
     }
 
-    /// The column of a pivot whose number of the solution isn't 0.
+    /// The number of the solution at a pivot, which is put there where it isn't 0.
     #[inline(always)]
-    fn upper_step(
+    fn upper_value(
         &self,
         number: usize,
         right: &mut [T],
         solution: &mut [T],
         found: &mut Vec<u32>,
-    ) -> Result<&[Entry<T>], AllocError> {
+    ) -> Result<T, AllocError> {
         if number < self.pivots.len() {
             let pivot = self.pivots[number];
             let value = moved(right, pivot.row);
@@ -204,12 +210,10 @@ impl<T: Number> Factors<T> {
                 let value = value.times(pivot.inverse);
                 set(solution, pivot.column, value);
                 found.push(pivot.column)?;
-                let list = self.upper_columns.list(number);
-                subtract_list(right, value, list);
-                return Ok(list);
+                return Ok(value);
             }
         }
-        Ok(&[])
+        Ok(T::zero())
     }
 
     /// Solves a system of the transposed matrix: from costs by column, which are 0 behind it, to multipliers by
@@ -224,7 +228,7 @@ impl<T: Number> Factors<T> {
         let mut heap = BinaryHeap::new(*found.allocator());
         let mut from = 0;
         if self.is_few(given.len()) {
-            heap_down(&mut heap, &self.of_column, given)?;
+            heap_up(&mut heap, &self.of_column, given, true)?;
             from = self.rows_few(costs, solution, found, &mut heap)?;
         }
         self.rows_all(from, costs, solution, found)?;
@@ -240,7 +244,10 @@ impl<T: Number> Factors<T> {
         found: &mut Vec<u32>,
     ) -> Result<(), AllocError> {
         for number in from..self.pivots.len() {
-            let _ = self.row_step(number, costs, solution, found)?;
+            let value = self.row_value(number, costs, solution, found)?;
+            if !value.is_zero() {
+                subtract_list(costs, value, self.upper.list(number));
+            }
         }
         Ok(())
     }
@@ -259,21 +266,25 @@ impl<T: Number> Factors<T> {
                 return Ok(self.pivots.len());
             };
             from = (u32::MAX - number) as usize;
-            let list = self.row_step(from, costs, solution, found)?;
-            heap_columns(heap, &self.of_column, list)?;
+            let value = self.row_value(from, costs, solution, found)?;
+            if !value.is_zero() {
+                let list = self.upper.list(from);
+                heap_new(heap, &self.of_column, costs, list, true)?;
+                subtract_list(costs, value, list);
+            }
         }
         Ok(from)
     }
 
-    /// The row of a pivot whose multiplier isn't 0.
+    /// The multiplier at a pivot, which is put there where it isn't 0.
     #[inline(always)]
-    fn row_step(
+    fn row_value(
         &self,
         number: usize,
         costs: &mut [T],
         solution: &mut [T],
         found: &mut Vec<u32>,
-    ) -> Result<&[Entry<T>], AllocError> {
+    ) -> Result<T, AllocError> {
         if number < self.pivots.len() {
             let pivot = self.pivots[number];
             let value = moved(costs, pivot.column);
@@ -281,12 +292,10 @@ impl<T: Number> Factors<T> {
                 let value = value.times(pivot.inverse);
                 set(solution, pivot.row, value);
                 found.push(pivot.row)?;
-                let list = self.upper.list(number);
-                subtract_list(costs, value, list);
-                return Ok(list);
+                return Ok(value);
             }
         }
-        Ok(&[])
+        Ok(T::zero())
     }
 
     /// Undoes the steps of elimination, from the last one on.
