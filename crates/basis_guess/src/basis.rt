@@ -40,6 +40,17 @@ fn entries(program: &FloatProgram) -> usize {
     sum
 }
 
+/// How a column is to stand. Where the list ends before it, a row's activity is basic, and other columns aren't.
+fn standing_of(program: &FloatProgram, standings: &[Standing], column: usize) -> Standing {
+    if column < standings.len() {
+        standings[column]
+    } else if column < program.column_count() {
+        program.rest(column)
+    } else {
+        Standing::Basic
+    }
+}
+
 impl Basis {
     /// The columns that are to be basic, as many as there are rows, and activities of rows where they are too few.
     /// It isn't factored yet.
@@ -91,10 +102,7 @@ impl Basis {
         rows: usize,
     ) -> Result<(), AllocError> {
         for column in 0..all {
-            let mut standing = Standing::Basic;
-            if column < standings.len() {
-                standing = standings[column];
-            }
+            let standing = standing_of(program, standings, column);
             let mut taken = spot_of(program, column, standing);
             if taken.is_basic() && self.head.len() >= rows {
                 taken.standing = taken.rest();

@@ -15,10 +15,11 @@ fn push_column(
     program: &FloatProgram,
     column: usize,
 ) -> Result<(), AllocError> {
-    if column < program.column_count() {
+    let count = program.column_count();
+    if column < count {
         matrix.push_column(program.column(column))
     } else {
-        let at = narrow(column - program.column_count());
+        let at = narrow(column - count);
         matrix.push_column(&[Entry { at, value: -1.0 }])
     }
 }

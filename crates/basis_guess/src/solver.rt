@@ -35,8 +35,8 @@ pub struct Ended {
     pub work_left: u64,
 }
 
-/// Solves a program from a basis. Any list of standings will do: what is missing or doesn't fit is mended. `work` is
-/// how many entries may be looked at.
+/// Solves a program from a basis. Any list of standings will do: what doesn't fit is mended, and where it ends the
+/// activities of rows are basic and the columns aren't. `work` is how many entries may be looked at.
 pub fn solve(
     alloc: Global,
     program: &FloatProgram,
