@@ -9,8 +9,14 @@ use std::alloc::Global;
 fn halving(bounds: &[ColumnBounds], column: u64) -> usize {
     let mut low = 0;
     let mut high = bounds.len();
-    'search: while low < high {
+    for _turn in 0..64 {
+        if low >= high {
+            break;
+        }
         let middle = low + (high - low) / 2;
+        if middle >= bounds.len() {
+            break;
+        }
         if (bounds[middle].column as u64) < column {
             low = middle + 1;
         } else {
