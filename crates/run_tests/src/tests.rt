@@ -6,6 +6,7 @@ mod programs;
 mod refused;
 mod shows;
 mod solves;
+mod stops;
 mod trees;
 
 use crate::running::ends_so;
@@ -20,6 +21,7 @@ use std::alloc::Global;
 use std::process::Abort;
 use std::rt::Runtime;
 use std::test::Fail;
+use stops::STOPS;
 use trees::TREES;
 
 fn row_ends_so(rt: &(impl Runtime + Abort), alloc: Global, row: &str) -> Result<(), Memory> {
@@ -35,7 +37,9 @@ fn rows_end_so(rt: &(impl Runtime + Abort), alloc: Global, table: &str) -> Resul
 }
 
 fn tables_end_so(rt: &(impl Runtime + Abort), alloc: Global) -> Result<(), Memory> {
-    for table in [TREES, PROGRAMS, SOLVES, REFUSED, SHOWS, CHECKS, MAKES] {
+    for table in [
+        TREES, PROGRAMS, SOLVES, STOPS, REFUSED, SHOWS, CHECKS, MAKES,
+    ] {
         rows_end_so(rt, alloc, table)?;
     }
     Ok(())
