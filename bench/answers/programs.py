@@ -240,6 +240,38 @@ def any_core(seed):
     return program
 
 
+def larger_core(seed):
+    """25 to 45 rows and 30 to 60 columns of all kinds, so that nodes are guessed first; a third each OPTIMAL, INFEASIBLE and UNBOUNDED."""
+    chance = random.Random(f"larger {seed}")
+    program = Program()
+    rows, columns, digits = chance.randint(25, 45), chance.randint(30, 60), chance.choice([0, 0, 1])
+    values = [chance.randint(0, 4) for _ in range(columns)]
+    entries = [[] for _ in range(columns)]
+    sums = [0] * rows
+    for row in range(rows):
+        for column in chance.sample(range(columns), 4):
+            value = chance.randint(-3, 5) or 1
+            entries[column].append((f"R{row}", value))
+            sums[row] += value * values[column]
+    wish = seed % 3
+    for row in range(rows):
+        kind = chance.choice("LGEL")
+        slack = 0 if kind == "E" else chance.randint(0, 3)
+        right = sums[row] + (slack if kind == "L" else -slack)
+        program.row(kind, f"R{row}", right, reach=chance.randint(4, 8) if kind != "E" and chance.random() < 0.2 else None)
+    if wish == 1:
+        # what the first two columns give together is asked to be more, and less, than the same number
+        for kind, name, right in (("G", "MORE", 9), ("L", "LESS", 8)):
+            program.row(kind, name, right)
+            for column in (0, 1):
+                entries[column].append((name, 1))
+    for column in range(columns):
+        low, high = chance.choice([("0", None), ("0", 9), ("-3", None), (None, None), ("-5", 12)])
+        cost = decimal(chance, digits, -2 if wish == 2 else 1, 9)
+        program.column(f"X{column}", cost, entries[column], low, high if wish == 2 else high or 40)
+    return program
+
+
 def hard_core(seed):
     """Ties of 10^-12, and coefficients of 10^-30 to 10^30."""
     chance = random.Random(f"hard {seed}")
