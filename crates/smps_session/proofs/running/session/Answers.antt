@@ -1,3 +1,4 @@
+use Rattle.std.proofs.Common.{◌≡◌, ℕ, IfOk, subst}
 use Rattle.scen_defs.specs.Program.{content}
 use Rattle.tree_method.proofs.Numbers.{first_cleared}
 use Rattle.smps_session.proofs.ComeLemmas.{comes_of_all}
@@ -6,6 +7,11 @@ use Rattle.smps_session.proofs.running.session.Goals as goal
 
 pub own_or_whole-requires-clause-truth : goal.own_or_whole-requires-clause-truth
 own_or_whole-requires-clause-truth c = c.in_ok-own.ensures.truth c.in_ok-method.ensures.stands
+
+pub returns-clause-number : goal.returns-clause-number
+returns-clause-number c =
+    subst (λ (n : ℕ). IfOk c.own_or_whole.result (λ answered. answered.report.number ≡ n)) c.in_ok-own.ensures.number
+    c.own_or_whole.ensures.number
 
 pub returns-clause-comes : goal.returns-clause-comes
 returns-clause-comes c = λ few.
