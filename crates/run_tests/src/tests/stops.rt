@@ -1,5 +1,5 @@
-//! Runs in which an operation of the method passes 128 bits, though the least cost fits. The costs are those of QSopt_ex (`esolver`) for the
-//! deterministic equivalents.
+//! Runs in which an operation of the method passes 128 bits, though the least cost fits. The costs are those of QSopt_ex (`esolver`) for
+//! the deterministic equivalents.
 //!
 //! In their order: the method stops at the first report, and finds the second; it finds the first, and stops at the second.
 
