@@ -1,10 +1,7 @@
 //! The elimination, and the factors that it leaves.
 
-use crate::active::{Active, taken};
-use crate::entries::{Entry, Lists, NONE, at, narrow, put};
-use crate::markowitz::{Pick, choose};
-use crate::matrix::Matrix;
-use crate::numbers::Number;
+use crate::lists::Lists;
+use basis_pivots::{Active, Entry, Matrix, NONE, Number, Pick, at, choose, narrow, put, taken};
 use std::alloc::{AllocError, Global};
 
 /// Where a pivot stands, and 1 over it.
@@ -42,17 +39,10 @@ pub enum Factored<T> {
     Deficient { rows: Vec<u32>, columns: Vec<u32> },
 }
 
-impl<T: Number> Matrix<T> {
-    /// The factors.
-    pub fn factored(self, alloc: Global) -> Result<Factored<T>, AllocError> {
-        Factors::of(alloc, self)
-    }
-}
-
 impl<T: Number> Factors<T> {
     /// The factors of a matrix.
     pub fn of(alloc: Global, matrix: Matrix<T>) -> Result<Factored<T>, AllocError> {
-        let (size, width) = (matrix.rows.len(), matrix.columns.len());
+        let (size, width) = (matrix.size(), matrix.width());
         let mut active = Active::new(alloc, matrix)?;
         let factors = eliminated(alloc, &mut active, size, width)?;
         drop(active);

@@ -1,8 +1,7 @@
 //! Systems of a factored matrix. Where a right side has few numbers, the pivots that matter come off a heap.
 
-use crate::entries::{Entry, at};
 use crate::factors::Factors;
-use crate::numbers::Number;
+use basis_pivots::{Entry, Number, at};
 use std::alloc::AllocError;
 use std::collections::BinaryHeap;
 

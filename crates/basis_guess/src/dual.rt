@@ -1,12 +1,9 @@
 //! The dual simplex method.
 
-use crate::basis::Basis;
 use crate::dual_choice::{Offer, PIVOT, entering, leaving};
 use crate::dual_steps::{Leaving, exceed, flip, reweigh, step};
-use crate::program::{FloatProgram, Standing, narrow};
 use crate::solver::End;
-use crate::spots::set_standing;
-use crate::vectors::{Vector, constant};
+use bounded_basis::{Basis, FloatProgram, Vector, constant, narrow};
 use std::alloc::{AllocError, Global};
 
 /// So often the method goes back behind fresh factors.
@@ -178,33 +175,6 @@ impl DualRun {
         basis.exchange(leaving.position, enter, &self.column)?;
         exceed(&mut self.excesses, basis, &self.column.places);
         Ok(())
-    }
-}
-
-impl Basis {
-    /// A column, which is given as one of the tableau, becomes basic at a position.
-    pub fn exchange(
-        &mut self,
-        position: usize,
-        enter: usize,
-        column: &Vector,
-    ) -> Result<(), AllocError> {
-        self.inverse.push(narrow(position), column)?;
-        if position < self.head.len() {
-            self.head[position] = narrow(enter);
-        }
-        let value = self.spot(enter).value;
-        set_standing(&mut self.spots, enter, Standing::Basic, value);
-        Ok(())
-    }
-
-    /// Makes all reduced costs good: by flips to other bounds, or by shifts of costs.
-    fn shift_costs(&mut self, tolerance: f64) {
-        for spot in self.spots.iter_mut() {
-            if spot.is_wrong(tolerance) {
-                spot.mend_price();
-            }
-        }
     }
 }
 

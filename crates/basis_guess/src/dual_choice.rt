@@ -7,9 +7,7 @@
 //! bounds (I. Maros, A generalized dual phase-2 simplex algorithm, 2003; A. Koberstein, The dual simplex method,
 //! techniques for a fast and stable implementation, 2005).
 
-use crate::basis::Basis;
-use crate::program::Standing;
-use crate::spots::Spot;
+use bounded_basis::{Basis, Spot, Standing};
 use std::alloc::AllocError;
 
 /// The least pivot.

@@ -1,9 +1,9 @@
 //! The parts of a step of the dual simplex method.
 
-use crate::basis::Basis;
-use crate::program::{FloatProgram, Standing};
-use crate::spots::{Spot, add_value, set_price, set_standing};
-use crate::vectors::{Vector, number, set_number};
+use bounded_basis::{
+    Basis, FloatProgram, Spot, Standing, Vector, add_value, number, set_number, set_price,
+    set_standing,
+};
 use std::alloc::AllocError;
 
 /// The least weight of an edge.

@@ -5,22 +5,13 @@
 //! and tests them.
 #![tactic(auto)]
 
-mod basis;
 mod dual;
 mod dual_choice;
 mod dual_steps;
-mod factoring;
-mod inverse;
-mod pricing;
 mod primal;
 mod primal_choice;
 mod primal_steps;
-mod program;
 mod solver;
-mod spots;
-mod tableau;
-mod vectors;
 
-pub use basis_factors::Entry;
-pub use program::{FloatProgram, Standing};
+pub use bounded_basis::{FloatProgram, Standing};
 pub use solver::{End, Ended, solve};

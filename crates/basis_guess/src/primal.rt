@@ -1,12 +1,10 @@
 //! The primal simplex method from a feasible basis.
 
-use crate::basis::Basis;
 use crate::dual::{RETRIES, agree};
 use crate::primal_choice::{Leave, entering, leaving};
 use crate::primal_steps::{flip, reprice, step};
-use crate::program::FloatProgram;
 use crate::solver::End;
-use crate::vectors::{Vector, constant};
+use bounded_basis::{Basis, FloatProgram, Vector, constant};
 use std::alloc::{AllocError, Global};
 
 /// So many steps without gain until the first column enters.

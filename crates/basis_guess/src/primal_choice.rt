@@ -1,10 +1,8 @@
 //! What enters and what leaves in the primal simplex method: Devex weights, and Harris's ratio test (P. M. J. Harris,
 //! Pivot selection methods of the Devex LP code, 1973).
 
-use crate::basis::Basis;
 use crate::dual_choice::PIVOT;
-use crate::spots::{Spot, TOLERANCE};
-use crate::vectors::Vector;
+use bounded_basis::{Basis, Spot, TOLERANCE, Vector};
 
 /// The column with the greatest square of the reduced cost for its weight; the first one with a wrong sign where the
 /// steps have gained nothing for long.

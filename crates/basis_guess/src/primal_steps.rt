@@ -1,10 +1,9 @@
 //! The parts of a step of the primal simplex method.
 
-use crate::basis::Basis;
 use crate::dual_steps::move_basic;
-use crate::program::Standing;
-use crate::spots::{Spot, add_value, set_price, set_standing};
-use crate::vectors::{Vector, number, set_number};
+use bounded_basis::{
+    Basis, Spot, Standing, Vector, add_value, number, set_number, set_price, set_standing,
+};
 
 /// Weights above this begin anew from 1.
 const MOST_WEIGHT: f64 = 1e7;

@@ -1,10 +1,8 @@
 //! Both methods together.
 
-use crate::basis::Basis;
 use crate::dual::dual;
 use crate::primal::primal;
-use crate::program::{FloatProgram, Standing};
-use crate::spots::TOLERANCE;
+use bounded_basis::{Basis, FloatProgram, Standing, TOLERANCE};
 use std::alloc::{AllocError, Global};
 
 /// So often both methods run, one behind the other.

@@ -1,4 +1,4 @@
-// A linear program in exact numbers, and beside it the same in floats.
+//! A linear program in exact numbers, and beside it the same in floats.
 
 use crate::rounded::float;
 use basis_factors::Entry;

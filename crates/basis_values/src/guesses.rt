@@ -1,4 +1,4 @@
-// From a basis that floats find to exact numbers.
+//! From a basis that floats find to exact numbers.
 
 use crate::exact_program::ExactProgram;
 use crate::kernel::Kernel;

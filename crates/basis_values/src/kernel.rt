@@ -1,9 +1,9 @@
-// The part of a basis whose numbers aren't at hand: the rows that stand at an end, and the basic columns.
+//! The part of a basis whose numbers aren't at hand: the rows that stand at an end, and the basic columns.
 
 use crate::exact_program::{ExactProgram, ExactRow};
-use crate::system::System;
 use basis_factors::Entry;
 use basis_guess::Standing;
+use exact_systems::System;
 use frac128::{Frac, Memory};
 use std::alloc::Global;
 

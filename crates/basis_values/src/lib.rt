@@ -6,17 +6,11 @@
 mod exact_program;
 mod guesses;
 mod kernel;
-mod lift;
 mod ray;
 mod refuted;
-mod residue;
-mod restore;
 mod rounded;
 mod solution;
 mod sums;
-mod system;
-mod whole;
-mod wide;
 mod zoom;
 
 pub use exact_program::{ExactColumn, ExactProgram, ExactRow};

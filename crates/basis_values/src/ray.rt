@@ -1,4 +1,4 @@
-// Multipliers of rows that show that no point meets them all.
+//! Multipliers of rows that show that no point meets them all.
 
 use crate::exact_program::{ExactProgram, ExactRow};
 use crate::kernel::{Kernel, NONE, narrow, put, zeros};

@@ -1,4 +1,4 @@
-// The exact test of a solution: bounds, rows, and multipliers. What can't be told since a sum passes counts as no fault.
+//! The exact test of a solution: bounds, rows, and multipliers. What can't be told since a sum passes counts as no fault.
 
 use crate::exact_program::{ExactProgram, ExactRow};
 use crate::kernel::at;

@@ -1,4 +1,4 @@
-// Floats of exact numbers.
+//! Floats of exact numbers.
 
 use frac128::Frac;
 use std::num::nearest_u64_to_f64;

@@ -1,4 +1,4 @@
-// The exact solution of a basis.
+//! The exact solution of a basis.
 
 use crate::exact_program::{ExactColumn, ExactProgram, ExactRow};
 use crate::kernel::{Kernel, NONE, at, standing, zeros};

@@ -1,4 +1,4 @@
-// Sums of products over the rows and the columns of a program, nothing where one passes 128 bits.
+//! Sums of products over the rows and the columns of a program, nothing where one passes 128 bits.
 
 use crate::exact_program::{ExactProgram, ExactRow};
 use crate::kernel::at;

@@ -1,5 +1,5 @@
-// The program around a solution that is known exactly, enlarged until the solution's faults are of size 1: what is left
-// to the bounds, and reduced costs.
+//! The program around a solution that is known exactly, enlarged until the solution's faults are of size 1: what is left
+//! to the bounds, and reduced costs.
 
 use crate::exact_program::{ExactProgram, ExactRow};
 use crate::kernel::at;

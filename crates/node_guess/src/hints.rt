@@ -95,13 +95,12 @@ fn copied(alloc: Global, hint: &Hint, counts: Counts) -> Result<Option<Hint>, Me
 }
 
 impl KindHints {
-    /// No hint, with places for so many nodes.
-    fn places(alloc: Global, count: usize) -> Result<KindHints, Memory> {
-        let mut nodes = Vec::new(alloc);
-        for _node in 0..count {
-            nodes.push(None)?;
+    /// No hint.
+    fn new(alloc: Global) -> KindHints {
+        KindHints {
+            nodes: Vec::new(alloc),
+            last: 0,
         }
-        Ok(KindHints { nodes, last: 0 })
     }
 
     /// Takes a node's own hint.
@@ -143,16 +142,13 @@ impl KindHints {
 }
 
 impl Hints {
-    /// No hint, with places for so many nodes.
-    pub fn places(alloc: Global, count: usize) -> Result<Hints, Memory> {
-        let feasible = KindHints::places(alloc, count)?;
-        let recession = KindHints::places(alloc, count)?;
-        let cost = KindHints::places(alloc, count)?;
-        Ok(Hints {
-            feasible,
-            recession,
-            cost,
-        })
+    /// No hint.
+    pub fn new(alloc: Global) -> Hints {
+        Hints {
+            feasible: KindHints::new(alloc),
+            recession: KindHints::new(alloc),
+            cost: KindHints::new(alloc),
+        }
     }
 
     /// Takes a node's hint for a run of a kind. One that has none begins as the node before it, if this has as many columns and rows.

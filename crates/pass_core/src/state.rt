@@ -129,7 +129,7 @@ impl State {
             return Ok(None);
         };
         let (banks, lasts, versions) = nothing_found(alloc, frame.nodes())?;
-        let hints = Hints::places(alloc, frame.nodes() as usize)?;
+        let hints = Hints::new(alloc);
         Ok(Some(State {
             frame,
             budget,

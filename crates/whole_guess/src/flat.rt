@@ -1,4 +1,4 @@
-// The deterministic equivalent of a program in a run of a kind: the columns and rows of all nodes, with costs by their probability.
+//! The deterministic equivalent of a program in a run of a kind: the columns and rows of all nodes, with costs by their probability.
 
 use crate::layout::{Layout, path_to};
 use basis_factors::Entry;

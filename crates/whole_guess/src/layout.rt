@@ -1,4 +1,4 @@
-// Where the columns of all nodes stand in one program.
+//! Where the columns of all nodes stand in one program.
 
 use frac128::Memory;
 use scen_defs::{Node, Program};

@@ -1,4 +1,4 @@
-// Numbers of the whole program as the lists of a claim.
+//! Numbers of the whole program as the lists of a claim.
 
 use crate::layout::Layout;
 use frac128::{Frac, Memory};

@@ -1,4 +1,4 @@
-// Rows of fractions as rows of whole numbers, which are kept modulo 2^128.
+//! Rows of fractions as rows of whole numbers, which are kept modulo 2^128.
 
 use basis_factors::Entry;
 use frac128::{Frac, Memory};

@@ -1,5 +1,5 @@
-// Digits of a solution to the base of the prime: each solves the system modulo the prime, and what it leaves of the
-// right side is divided by the prime.
+//! Digits of a solution to the base of the prime: each solves the system modulo the prime, and what it leaves of the
+//! right side is divided by the prime.
 
 use crate::residue::Residue;
 use crate::restore::{Digits, LONG, Restorer};

@@ -35,7 +35,7 @@ pub struct FloatProgram {
 
 /// A number narrowed to 32 bits; the largest one where it is too large.
 #[inline(always)]
-pub(crate) fn narrow(number: usize) -> u32 {
+pub fn narrow(number: usize) -> u32 {
     if number < u32::MAX as usize {
         number as u32
     } else {
@@ -44,7 +44,7 @@ pub(crate) fn narrow(number: usize) -> u32 {
 }
 
 /// Where a column between such bounds stands that isn't basic.
-pub(crate) fn rest_between(low: f64, high: f64) -> Standing {
+pub fn rest_between(low: f64, high: f64) -> Standing {
     if low.is_finite() {
         Standing::Low
     } else if high.is_finite() {
@@ -146,7 +146,7 @@ impl FloatProgram {
     }
 
     /// The entries of a column; none for a row's activity.
-    pub(crate) fn column(&self, column: usize) -> &[Entry<f64>] {
+    pub fn column(&self, column: usize) -> &[Entry<f64>] {
         if column < self.columns.len() {
             &self.columns[column]
         } else {
@@ -155,7 +155,7 @@ impl FloatProgram {
     }
 
     /// The entries of a row.
-    pub(crate) fn row(&self, row: u32) -> &[Entry<f64>] {
+    pub fn row(&self, row: u32) -> &[Entry<f64>] {
         let row = row as usize;
         if row < self.rows.len() {
             &self.rows[row]

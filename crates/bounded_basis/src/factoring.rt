@@ -3,7 +3,7 @@
 use crate::basis::Basis;
 use crate::program::{FloatProgram, Standing, narrow};
 use crate::spots::set_standing;
-use basis_factors::{Entry, Factored, Matrix};
+use basis_factors::{Entry, Factored, Factors, Matrix};
 use std::alloc::{AllocError, Global};
 
 /// So often columns may give way, before it is given up.
@@ -44,7 +44,7 @@ fn factored(
 ) -> Result<Factored<f64>, AllocError> {
     let mut matrix = Matrix::new(alloc, program.row_count())?;
     push_all(&mut matrix, program, head)?;
-    matrix.factored(alloc)
+    Factors::of(alloc, matrix)
 }
 
 impl Basis {

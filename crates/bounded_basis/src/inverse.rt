@@ -27,7 +27,7 @@ struct Eta {
 
 /// Factors and etas.
 #[derive(Drop)]
-pub(crate) struct Inverse {
+pub struct Inverse {
     factors: Option<Factors<f64>>,
     etas: Vec<Eta>,
     entries: Vec<Entry<f64>>,

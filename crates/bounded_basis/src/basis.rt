@@ -9,7 +9,7 @@ use std::alloc::{AllocError, Global};
 /// The basic columns by position, the values and reduced costs of all columns, and the row of the tableau that was
 /// made last.
 #[derive(Drop)]
-pub(crate) struct Basis {
+pub struct Basis {
     /// Of the columns and then of the rows' activities.
     pub spots: Vec<Spot>,
     /// The basic columns.

@@ -16,15 +16,15 @@ struct Mark<T> {
 
 /// Rows with their entries, columns with their rows.
 #[derive(Drop)]
-pub(crate) struct Active<T> {
+pub struct Active<T> {
     rows: Vec<Vec<Entry<T>>>,
     /// By column its rows; those that are done stay in the lists, since a search for them would be quadratic.
     columns: Vec<Vec<u32>>,
     /// By column how many of its rows aren't done.
     left: Vec<u32>,
     is_done: Vec<bool>,
-    pub by_row: Buckets,
-    pub by_column: Buckets,
+    pub(crate) by_row: Buckets,
+    pub(crate) by_column: Buckets,
     marks: Vec<Mark<T>>,
 }
 
@@ -39,7 +39,7 @@ fn place_of<T: Number>(entries: &[Entry<T>], column: u32) -> usize {
 }
 
 /// Takes the entry of a column out of a row: its number, 0 where there is none.
-pub(crate) fn taken<T: Number>(entries: &mut Vec<Entry<T>>, column: u32) -> T {
+pub fn taken<T: Number>(entries: &mut Vec<Entry<T>>, column: u32) -> T {
     let place = place_of(entries, column);
     if place < entries.len() {
         entries.swap_remove(place).value

@@ -1,4 +1,4 @@
-// A square system of equations in exact numbers, with the factors of its matrix modulo the prime.
+//! A square system of equations in exact numbers, with the factors of its matrix modulo the prime.
 
 use crate::lift::{Lift, lifted};
 use crate::residue::Residue;
@@ -16,7 +16,7 @@ struct WholeRows {
 
 /// A square system by rows and by columns.
 #[derive(Drop)]
-pub(crate) struct System {
+pub struct System {
     rows: Vec<Vec<Entry<u128>>>,
     columns: Vec<Vec<Entry<u128>>>,
     scales: Vec<u128>,

@@ -29,6 +29,11 @@ impl<T: Number> Matrix<T> {
         self.rows.len()
     }
 
+    /// How many columns it has so far.
+    pub fn width(&self) -> usize {
+        self.columns.len()
+    }
+
     /// The next column: `entries` by row, each row once. What is 0 or stands in no row is left out.
     pub fn push_column(&mut self, entries: &[Entry<T>]) -> Result<(), AllocError> {
         let alloc = *self.columns.allocator();

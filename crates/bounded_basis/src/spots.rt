@@ -3,11 +3,11 @@
 use crate::program::{FloatProgram, Standing, rest_between};
 
 /// How far a column may be beyond its bounds, and a reduced cost beyond 0 for each unit of the greatest cost.
-pub(crate) const TOLERANCE: f64 = 1e-9;
+pub const TOLERANCE: f64 = 1e-9;
 
 /// The bounds, the cost, the value and the reduced cost of a column or of a row's activity.
 #[derive(Clone, Copy)]
-pub(crate) struct Spot {
+pub struct Spot {
     pub low: f64,
     pub high: f64,
     /// The cost, perhaps shifted.
@@ -19,7 +19,7 @@ pub(crate) struct Spot {
 }
 
 /// A column that isn't there: fixed at 0.
-pub(crate) const NOWHERE: Spot = Spot {
+pub const NOWHERE: Spot = Spot {
     low: 0.0,
     high: 0.0,
     cost: 0.0,
@@ -29,7 +29,7 @@ pub(crate) const NOWHERE: Spot = Spot {
 };
 
 /// What is known of a column at first; a standing at an infinite bound is mended.
-pub(crate) fn spot_of(program: &FloatProgram, column: usize, standing: Standing) -> Spot {
+pub fn spot_of(program: &FloatProgram, column: usize, standing: Standing) -> Spot {
     let (low, high) = (program.low_at(column), program.high_at(column));
     Spot {
         low,
@@ -53,7 +53,7 @@ fn fitting(low: f64, high: f64, standing: Standing) -> Standing {
 
 /// The column at a place.
 #[inline(always)]
-pub(crate) fn spot_at(spots: &[Spot], column: usize) -> Spot {
+pub fn spot_at(spots: &[Spot], column: usize) -> Spot {
     if column < spots.len() {
         spots[column]
     } else {
@@ -63,14 +63,14 @@ pub(crate) fn spot_at(spots: &[Spot], column: usize) -> Spot {
 
 /// Adds to the value of a column.
 #[inline(always)]
-pub(crate) fn add_value(spots: &mut [Spot], column: usize, by: f64) {
+pub fn add_value(spots: &mut [Spot], column: usize, by: f64) {
     if column < spots.len() {
         spots[column].value += by;
     }
 }
 
 /// Sets the standing and the value of a column.
-pub(crate) fn set_standing(spots: &mut [Spot], column: usize, standing: Standing, value: f64) {
+pub fn set_standing(spots: &mut [Spot], column: usize, standing: Standing, value: f64) {
     if column < spots.len() {
         spots[column].standing = standing;
         spots[column].value = value;
@@ -78,7 +78,7 @@ pub(crate) fn set_standing(spots: &mut [Spot], column: usize, standing: Standing
 }
 
 /// Sets the reduced cost of a column.
-pub(crate) fn set_price(spots: &mut [Spot], column: usize, price: f64) {
+pub fn set_price(spots: &mut [Spot], column: usize, price: f64) {
     if column < spots.len() {
         spots[column].price = price;
     }

@@ -1,4 +1,4 @@
-// Integers modulo the prime 2^61 - 1.
+//! Integers modulo the prime 2^61 - 1.
 
 use basis_factors::Number;
 

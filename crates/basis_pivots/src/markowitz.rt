@@ -13,7 +13,7 @@ const THRESHOLD: f64 = 0.1;
 
 /// Where a pivot stands.
 #[derive(Clone, Copy)]
-pub(crate) struct Pick {
+pub struct Pick {
     pub row: u32,
     pub column: u32,
 }
@@ -38,7 +38,7 @@ impl Search {
 }
 
 /// The next pivot; none where nothing is left that is large enough.
-pub(crate) fn choose<T: Number>(active: &mut Active<T>) -> Option<Pick> {
+pub fn choose<T: Number>(active: &mut Active<T>) -> Option<Pick> {
     if let Some(pick) = single_column(active) {
         return Some(pick);
     }

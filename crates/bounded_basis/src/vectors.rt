@@ -4,18 +4,18 @@ use basis_factors::Entry;
 use std::alloc::{AllocError, Global};
 
 /// What stands for a sum that has become 0, so that its place isn't listed twice.
-pub(crate) const TINY: f64 = 1e-300;
+pub const TINY: f64 = 1e-300;
 
 /// Numbers, and the places of those that may be other than 0.
 #[derive(Drop)]
-pub(crate) struct Vector {
+pub struct Vector {
     pub values: Vec<f64>,
     pub places: Vec<u32>,
 }
 
 /// The number at a place, 0 where there is none.
 #[inline(always)]
-pub(crate) fn number(values: &[f64], place: usize) -> f64 {
+pub fn number(values: &[f64], place: usize) -> f64 {
     if place < values.len() {
         values[place]
     } else {
@@ -25,21 +25,21 @@ pub(crate) fn number(values: &[f64], place: usize) -> f64 {
 
 /// Sets the number at a place.
 #[inline(always)]
-pub(crate) fn set_number(values: &mut [f64], place: usize, value: f64) {
+pub fn set_number(values: &mut [f64], place: usize, value: f64) {
     if place < values.len() {
         values[place] = value;
     }
 }
 
 /// So many numbers, all the same.
-pub(crate) fn constant(alloc: Global, value: f64, count: usize) -> Result<Vec<f64>, AllocError> {
+pub fn constant(alloc: Global, value: f64, count: usize) -> Result<Vec<f64>, AllocError> {
     let mut values = Vec::new(alloc);
     values.resize(count, value)?;
     Ok(values)
 }
 
 /// Adds multiples of entries; places where 0 stood before are listed.
-pub(crate) fn add_entries(
+pub fn add_entries(
     values: &mut [f64],
     places: &mut Vec<u32>,
     factor: f64,
