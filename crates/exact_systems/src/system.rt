@@ -77,7 +77,7 @@ fn factors(
 
 impl System {
     /// The system with these rows, each by column from 0 on, unless a number is too wide or the matrix is singular.
-    pub(crate) fn of(
+    pub fn of(
         alloc: Global,
         fractions: &[Vec<Entry<Frac>>],
     ) -> Result<Option<System>, Memory> {
@@ -97,12 +97,12 @@ impl System {
     }
 
     /// What one solve looks at.
-    pub(crate) fn effort(&self) -> usize {
+    pub fn effort(&self) -> usize {
         self.factors.entries()
     }
 
     /// The solution of rows times x = right, by column.
-    pub(crate) fn solve(&self, alloc: Global, right: &[Frac]) -> Result<Option<Vec<Frac>>, Memory> {
+    pub fn solve(&self, alloc: Global, right: &[Frac]) -> Result<Option<Vec<Frac>>, Memory> {
         let Some(mut lift) = Lift::of_right_sides(alloc, right, &self.scales)? else {
             return Ok(None);
         };
@@ -110,7 +110,7 @@ impl System {
     }
 
     /// The solution of y times rows = costs, by row.
-    pub(crate) fn solve_transposed(
+    pub fn solve_transposed(
         &self,
         alloc: Global,
         costs: &[Frac],

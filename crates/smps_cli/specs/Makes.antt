@@ -16,7 +16,7 @@ use Rattle.input_files.specs.Fetched.{Texts}
 use Rattle.program_files.specs.Meant.{MeansProgram}
 use Rattle.smps_session.specs.Reasons.{told_reasons}
 use Rattle.smps_session.specs.Comes.{ComesOfAll}
-use Rattle.smps_session.specs.declared.whole.Stated.{Stated}
+use Rattle.smps_session.specs.declared.whole.StatedLimits.{StatedLimits}
 use Rattle.run_status.specs.declared.status.Status.{Status}
 use Rattle.run_status.specs.declared.status.Status.TheVariants.{Done}
 use Rattle.smps_cli.specs.Ends.{MayEnd, RefusesTexts}
@@ -56,7 +56,7 @@ abbrev pub make_limit : ℕ
 make_limit = 100000
 
 -- no words state how many
-abbrev pub none_stated : Stated
+abbrev pub none_stated : StatedLimits
 none_stated = record { solves = false; pivots = false }
 
 -- The output is the summary of the workload and of a report that is true of its program, whose rows with two finite ends have the widths of

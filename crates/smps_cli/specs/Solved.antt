@@ -10,7 +10,7 @@ use Rattle.program_files.specs.Meant.{MeansProgram}
 use Rattle.program_files.specs.Edited.{MeansScript}
 use Rattle.tree_method.specs.Stands.{HasFewNodes}
 use Rattle.smps_session.specs.declared.told.Told.{Told}
-use Rattle.smps_session.specs.declared.whole.Stated.{Stated}
+use Rattle.smps_session.specs.declared.whole.StatedLimits.{StatedLimits}
 use Rattle.smps_session.specs.Told.{IsScripted}
 use Rattle.smps_session.specs.Comes.{IsOnTree}
 use Rattle.run_status.specs.declared.status.Status.{Status}
@@ -18,7 +18,7 @@ use Rattle.smps_cli.specs.Ends.{MayEnd, RefusesTexts}
 use Rattle.run_status.specs.Findings.{is_open_finding, open_status}
 
 -- which numbers of a budget the words state
-abbrev pub stated_of : Budget → Stated
+abbrev pub stated_of : Budget → StatedLimits
 stated_of budget = record { solves = budget.solves_stated; pivots = budget.pivots_stated }
 
 abbrev pub told_text : Told → List ℕ

@@ -18,7 +18,7 @@ use program_files::read_program;
 use report_text::print_outcome;
 use run_status::{Status, WholeReports, command_status};
 use scen_defs::{Program, Report};
-use smps_session::{Stated, session};
+use smps_session::{StatedLimits, session};
 use std::alloc::Global;
 use workload_maker::{Made, make};
 
@@ -132,7 +132,7 @@ fn solved(alloc: Global, plan: Plan, texts: &Texts, program: &Program) -> Result
     ensures { IfOk result (λ answer. PrintsSummary plan answer.status answer.output.items) }
 {
     let _core = texts.core.len();
-    let stated = Stated {
+    let stated = StatedLimits {
         solves: false,
         pivots: false,
     };

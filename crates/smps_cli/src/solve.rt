@@ -14,7 +14,7 @@ use command_words::Budget;
 use frac128::Memory;
 use input_files::Texts;
 use run_status::{WholeReports, is_open, open_status};
-use smps_session::{Stated, Told, scripted};
+use smps_session::{StatedLimits, Told, scripted};
 use std::alloc::Global;
 
 /// The answer for the texts of the files: the reports of the program that they mean, or their first fault.
@@ -39,7 +39,7 @@ fn solved_input(
     ensures { IfOk result (λ answer. PrintsReports budget (texts_view texts.now) answer.status answer.output.items) }
 {
     let _core = texts.core.len();
-    let stated = Stated {
+    let stated = StatedLimits {
         solves: budget.solves_stated,
         pivots: budget.pivots_stated,
     };

@@ -46,7 +46,7 @@ use Rattle.run_laws.proofs.WhereMet.{reasons_were_met}
 use Rattle.smps_session.specs.Reasons.{told_reasons}
 use Rattle.smps_session.specs.Comes.{tells_solves, is_unfinished, ShowsClosing, ShowsFound, PassesInTestOf, WasReason, ComesOf, ComesOfAll, IsUnderWay}
 use Rattle.smps_session.specs.Whole.{IsOwnOrWhole}
-use Rattle.smps_session.specs.declared.whole.Stated.{Stated}
+use Rattle.smps_session.specs.declared.whole.StatedLimits.{StatedLimits}
 use Rattle.smps_session.specs.declared.whole.Answered.{Answered}
 use Rattle.smps_session.proofs.WayLemmas.{counted_within}
 
@@ -353,7 +353,7 @@ tells_cleared budget start came program (AtWork old) (Idle why own) new report r
 tells_cleared budget start came program (AtWork old) (AtWork mid) new report rests shows e =
     subst StandsCleared (sym e) (told_cleared (content program) old.state mid.state shows.solves rests)
 
-pub comes_of_all : {E : Type 0} (budget : Budget) (stated : Stated) (program : Program) (method next : Method) (own : Report) (result : Result Answered E)
+pub comes_of_all : {E : Type 0} (budget : Budget) (stated : StatedLimits) (program : Program) (method next : Method) (own : Report) (result : Result Answered E)
     → Begins (content program) budget method → ComesOf budget (content program) 0 program method own next
     → IfOk result (λ answered. IsOwnOrWhole answered.by_whole stated program own answered.report)
     → IfOk result (λ answered. ComesOfAll budget stated program answered.report)

@@ -18,7 +18,7 @@ use Rattle.report_text.specs.Text.{report_text}
 use Rattle.pass_core.specs.declared.budget.Budget.{Budget}
 use Rattle.smps_session.specs.Reasons.{told_reasons}
 use Rattle.smps_session.specs.declared.told.Told.{Told}
-use Rattle.smps_session.specs.declared.whole.Stated.{Stated}
+use Rattle.smps_session.specs.declared.whole.StatedLimits.{StatedLimits}
 use Rattle.smps_session.specs.declared.whole.Answered.{Answered}
 use Rattle.smps_session.specs.Whole.{IsOwnOrWhole}
 use Rattle.proved_report.specs.Reports.{EqualIsOptimal}
@@ -34,7 +34,7 @@ on_ok (Ok x) A a = a
 on_ok (Err e) A a = tt
 
 -- what is told of a report
-is_told : (budget : Budget) (stated : Stated) (start : Program) (came number : ℕ) (program : ProgramOf) (method next : Method) (own report : Report)
+is_told : (budget : Budget) (stated : StatedLimits) (start : Program) (came number : ℕ) (program : ProgramOf) (method next : Method) (own report : Report)
     (told : Told) → report.number ≡ number → told.text.items ≡ report_text program report → told.finding ≡ report.finding
     → HasCounts (view_of (content program)) report → IsTrue (view_of (content program)) (told_reasons program budget) report
     → EqualIsOptimal report → (HasFewNodes (content program) → ComesOf budget start came program method own next)
@@ -56,7 +56,7 @@ is_told budget stated start came number program method next own report told n t 
 }
 
 -- where it is printed
-pub tells : {E : Type 0} (budget : Budget) (stated : Stated) (start : Program) (came number : ℕ) (program : ProgramOf) (method next : Method)
+pub tells : {E : Type 0} (budget : Budget) (stated : StatedLimits) (start : Program) (came number : ℕ) (program : ProgramOf) (method next : Method)
     (own : Report) (answered : Answered) (result : Result Told E) → answered.report.number ≡ number
     → IfOk result (λ told. told.text.items ≡ report_text program answered.report) → IfOk result (λ told. told.finding ≡ answered.report.finding)
     → IfOk result (λ told. told.by_whole ≡ answered.by_whole)
@@ -111,14 +111,14 @@ changed_cleared (Ok x) p q e worked new a g few = edits_cleared p e worked new g
 changed_cleared (Err x) p q e worked new a g few = tt
 
 -- an item that is an edit
-changed : {A E : Type 0} (result : Result A E) (budget : Budget) (stated : Stated) (start : Program) (work : ℕ) (e : Edit) (p q : Program) (method method' : Method)
+changed : {A E : Type 0} (result : Result A E) (budget : Budget) (stated : StatedLimits) (start : Program) (work : ℕ) (e : Edit) (p q : Program) (method method' : Method)
     (came number number' : ℕ) (tolds : List Told) → OnOk result (q ≡ after p e) → number' ≡ number → OnOk result (TakesEdit p work e method method')
     → OnOk result (IsBehind budget stated start work (Change e) (course_at p method came number tolds) (course_at q method' (came + 1) number' tolds))
 changed (Ok x) budget stated start work e p q method method' came number number' tolds h n t =
     record { takes = t; course = ap₂ (λ (r : Program) (k : ℕ). course_at r method' (came + 1) k tolds) h n }
 changed (Err x) budget stated start work e p q method method' came number number' tolds h n t = tt
 
-pub is_behind_edit : {A E : Type 0} (result : Result A E) (budget : Budget) (stated : Stated) (start : Program) (work : ℕ) (act : Act) (e : Edit) (p q : Program)
+pub is_behind_edit : {A E : Type 0} (result : Result A E) (budget : Budget) (stated : StatedLimits) (start : Program) (work : ℕ) (act : Act) (e : Edit) (p q : Program)
     (method method' : Method) (came number number' : ℕ) (tolds : List Told) → act ≡ Change e → OnOk result (q ≡ after p e) → number' ≡ number
     → OnOk result (TakesEdit p work e method method')
     → OnOk result (IsBehind budget stated start work act (course_at p method came number tolds) (course_at q method' (came + 1) number' tolds))
@@ -127,11 +127,11 @@ is_behind_edit result budget stated start work act e p q method method' came num
     (changed result budget stated start work e p q method method' came number number' tolds h n t)
 
 -- and one that is a SOLVE
-pub is_behind_solve : {A E : Type 0} (result : Result A E) (budget : Budget) (stated : Stated) (start : Program) (work : ℕ) (act : Act) (s t : Course)
+pub is_behind_solve : {A E : Type 0} (result : Result A E) (budget : Budget) (stated : StatedLimits) (start : Program) (work : ℕ) (act : Act) (s t : Course)
     → act ≡ Solve → OnOk result (TellsOne budget stated start s t) → OnOk result (IsBehind budget stated start work act s t)
 is_behind_solve result budget stated start work act s t a h = subst (λ (x : Act). OnOk result (IsBehind budget stated start work x s t)) (sym a) h
 
-pub tells_one : (budget : Budget) (stated : Stated) (start : Program) (came number next : ℕ) (p : Program) (method method' : Method) (told : Told) (tolds pushed : List Told)
+pub tells_one : (budget : Budget) (stated : StatedLimits) (start : Program) (came number next : ℕ) (p : Program) (method method' : Method) (told : Told) (tolds pushed : List Told)
     → IsTold budget stated start came number p method told method' → next ≡ number + 1 → pushed ≡ tolds ++ told ∷ []
     → TellsOne budget stated start (course_at p method came number tolds) (course_at p method' (came + 1) next pushed)
 tells_one budget stated start came number next p method method' told tolds pushed h n e = record {
@@ -141,13 +141,13 @@ tells_one budget stated start came number next p method method' told tolds pushe
 }
 
 -- the items that are left are allowed, and what is told of them is told behind what was told
-abbrev pub IsOnCourse : Budget → Stated → Program → Method → List Item → List Item → Course → Type 0
+abbrev pub IsOnCourse : Budget → StatedLimits → Program → Method → List Item → List Item → Course → Type 0
 IsOnCourse budget stated start first all items s = AreAllowed s.program items
     × ((later : List Told) → AreTold budget stated start s.came s.number s.program s.method items later
     → AreTold budget stated start 0 1 start first all (s.tolds ++ later))
 
 -- a script has come so far: its method began with its first program, and is on its way behind the items that came
-pub record HasCome (budget : Budget) (stated : Stated) (start : Program) (all items : List Item) (p : Program) (method : Method) (number : ℕ) (tolds : List Told)
+pub record HasCome (budget : Budget) (stated : StatedLimits) (start : Program) (all items : List Item) (p : Program) (method : Method) (number : ℕ) (tolds : List Told)
     : Type 0 where
   pub first : Method
   pub begins : HasFewNodes start → Begins start budget first
@@ -156,7 +156,7 @@ pub record HasCome (budget : Budget) (stated : Stated) (start : Program) (all it
   pub course : IsOnCourse budget stated start first all items (course_at p method came number tolds)
 
 -- nothing is told before the first item
-pub begins_course : (budget : Budget) (stated : Stated) (p : Program) (method : Method) (items rest : List Item) (tolds : List Told)
+pub begins_course : (budget : Budget) (stated : StatedLimits) (p : Program) (method : Method) (items rest : List Item) (tolds : List Told)
     → rest ≡ items → tolds ≡ [] → AreAllowed p items
     → IsOnCourse budget stated p method items rest (course_at p method 0 1 tolds)
 begins_course budget stated p method items rest tolds e t h =
@@ -164,7 +164,7 @@ begins_course budget stated p method items rest tolds e t h =
     (subst (λ (ts : List Told). IsOnCourse budget stated p method items items (course_at p method 0 1 ts)) (sym t) (h, λ later told. told))
 
 -- one item, and then the others
-behind_one : (budget : Budget) (stated : Stated) (start : Program) (first : Method) (all items : List Item) (act : Act) (work : ℕ) (s t : Course)
+behind_one : (budget : Budget) (stated : StatedLimits) (start : Program) (first : Method) (all items : List Item) (act : Act) (work : ℕ) (s t : Course)
     → IsOnCourse budget stated start first all (record { work = work; act = act } ∷ items) s → IsBehind budget stated start work act s t
     → IsOnCourse budget stated start first all items t
 behind_one budget stated start first all items (Change e) work s t g h =
@@ -177,7 +177,7 @@ behind_one budget stated start first all items Solve work s t g h =
           (g.1 (h.told ∷ later) (t.method, (h.is_told, rest))),
     )
 
-pub stays_on_course : (budget : Budget) (stated : Stated) (start : Program) (first : Method) (all items : List Item) (item : Item) (s t : Course)
+pub stays_on_course : (budget : Budget) (stated : StatedLimits) (start : Program) (first : Method) (all items : List Item) (item : Item) (s t : Course)
     → 1 ≤ length items → item ≡ get_or items 0 item → IsOnCourse budget stated start first all items s → IsBehind budget stated start item.work item.act s t
     → IsOnCourse budget stated start first all (take (length items - 1) (drop 1 items)) t
 stays_on_course budget stated start first all items item s t some is g h =
@@ -185,7 +185,7 @@ stays_on_course budget stated start first all items item s t some is g h =
     (subst (λ (xs : List Item). IsOnCourse budget stated start first all xs s) (taken_apart items item some is) g) h
 
 -- all items are told
-pub all_told : (budget : Budget) (stated : Stated) (start : Program) (first : Method) (all items : List Item) (s : Course) → length items < 1
+pub all_told : (budget : Budget) (stated : StatedLimits) (start : Program) (first : Method) (all items : List Item) (s : Course) → length items < 1
     → IsOnCourse budget stated start first all items s
     → AreTold budget stated start 0 1 start first all s.tolds
 all_told budget stated start first all items s none g =

@@ -34,7 +34,7 @@ use Rattle.tree_method.specs.Stands.{is_spent, after_telling}
 use Rattle.run_laws.specs.Ways.{AreFew, KeepsWay}
 use Rattle.run_laws.specs.WhereMet.{WasMet}
 use Rattle.smps_session.specs.Whole.{IsOwnOrWhole}
-use Rattle.smps_session.specs.declared.whole.Stated.{Stated}
+use Rattle.smps_session.specs.declared.whole.StatedLimits.{StatedLimits}
 
 -- left open by the number of solves
 abbrev pub tells_solves : Finding → Bool
@@ -106,9 +106,9 @@ ComesOf budget start came program (AtWork old) report next =
     (w : Working) × (ComesOfSolves budget start came program old.state w.state report × (next ≡ after_telling (AtWork w)))
 ComesOf budget start came program (Idle why own) report next = next ≡ Idle why own
 
--- The report comes of a method that begins with the program, and no item came before: it is the method's own one, or the method had stopped,
--- and a claim about the whole program was tested.
-pub record ComesOfAll (budget : Budget) (stated : Stated) (program : ProgramOf) (report : Report) : Type 0 where
+-- The report comes of a method that begins with the program, and no item came before: it is the method's own one, or the method had
+-- stopped, and a claim about the whole program was tested.
+pub record ComesOfAll (budget : Budget) (stated : StatedLimits) (program : ProgramOf) (report : Report) : Type 0 where
   pub method : Method
   pub next : Method
   pub begins : Begins (content program) budget method

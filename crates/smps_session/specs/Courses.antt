@@ -7,7 +7,7 @@ use Rattle.edit_defs.specs.declared.edit.Act.TheVariants.{Change, Solve}
 use Rattle.edit_defs.specs.After.{after}
 use Rattle.pass_core.specs.declared.budget.Budget.{Budget}
 use Rattle.smps_session.specs.declared.told.Told.{Told}
-use Rattle.smps_session.specs.declared.whole.Stated.{Stated}
+use Rattle.smps_session.specs.declared.whole.StatedLimits.{StatedLimits}
 use Rattle.tree_method.specs.declared.method.Method.{Method}
 use Rattle.smps_session.specs.Comes.{TakesEdit}
 use Rattle.smps_session.specs.Told.{IsTold}
@@ -24,7 +24,7 @@ abbrev pub course_at : Program → Method → ℕ → ℕ → List Told → Cour
 course_at p method came number tolds = record { program = p; method = method; came = came; number = number; tolds = tolds }
 
 -- a report of the program is told behind the others, in a script that starts with this program
-pub record TellsOne (budget : Budget) (stated : Stated) (start : Program) (s t : Course) : Type 0 where
+pub record TellsOne (budget : Budget) (stated : StatedLimits) (start : Program) (s t : Course) : Type 0 where
   pub told : Told
   pub is_told : IsTold budget stated start s.came s.number s.program s.method told t.method
   pub course : t ≡ record s { method = t.method; came = s.came + 1; number = s.number + 1; tolds = s.tolds ++ told ∷ [] }
@@ -35,6 +35,6 @@ pub record Changes (work : ℕ) (e : Edit) (s t : Course) : Type 0 where
   pub course : t ≡ record s { program = after s.program e; method = t.method; came = s.came + 1 }
 
 -- behind an item: an edit changes the program, and of a SOLVE a report is told
-abbrev pub IsBehind : Budget → Stated → Program → ℕ → Act → Course → Course → Type 0
+abbrev pub IsBehind : Budget → StatedLimits → Program → ℕ → Act → Course → Course → Type 0
 IsBehind budget stated start work (Change e) s t = Changes work e s t
 IsBehind budget stated start work Solve s t = TellsOne budget stated start s t

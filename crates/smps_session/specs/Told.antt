@@ -15,13 +15,13 @@ use Rattle.tree_method.specs.Stands.{HasFewNodes, Begins}
 use Rattle.smps_session.specs.Comes.{ComesOf, TakesEdit}
 use Rattle.smps_session.specs.Reasons.{told_reasons}
 use Rattle.smps_session.specs.Whole.{IsOwnOrWhole}
-use Rattle.smps_session.specs.declared.whole.Stated.{Stated}
+use Rattle.smps_session.specs.declared.whole.StatedLimits.{StatedLimits}
 use Rattle.smps_session.specs.declared.told.Told.{Told}
 
 -- What is told is the text and the finding of a report of this number that is true of the program, found within the budget, of which some
 -- numbers are stated. It comes of a method, which goes on from there, behind so many items of a script that starts with another program.
-pub record IsTold (budget : Budget) (stated : Stated) (start : Program) (came number : ℕ) (p : Program) (method : Method) (told : Told)
-    (next : Method) : Type 0 where
+pub record IsTold (budget : Budget) (stated : StatedLimits) (start : Program) (came number : ℕ) (p : Program) (method : Method)
+    (told : Told) (next : Method) : Type 0 where
   pub program : ProgramOf
   pub content_is : content program ≡ p
   -- the report that is printed, all of it
@@ -48,7 +48,7 @@ IsThen first behind (told ∷ tolds) = (next : Method) × (first told next × be
 -- One is told for each SOLVE of a script, of the program after the edits before it, and comes of the one method that goes through the
 -- script, and makes as many solves before an edit as are asked for. So many items of the script came before these, and they are numbered
 -- from this number on.
-abbrev pub AreTold : Budget → Stated → Program → ℕ → ℕ → Program → Method → List Item → List Told → Type 0
+abbrev pub AreTold : Budget → StatedLimits → Program → ℕ → ℕ → Program → Method → List Item → List Told → Type 0
 AreTold budget stated start came number p method [] tolds = tolds ≡ []
 AreTold budget stated start came number p method (item ∷ items) tolds = elim item.act [
   | Change e ↦ (next : Method)
@@ -58,7 +58,7 @@ AreTold budget stated start came number p method (item ∷ items) tolds = elim i
 ]
 
 -- the reports of a script come of a method that begins with the program, where that has no more nodes than have numbers
-pub record IsScripted (budget : Budget) (stated : Stated) (p : Program) (items : List Item) (tolds : List Told) : Type 0 where
+pub record IsScripted (budget : Budget) (stated : StatedLimits) (p : Program) (items : List Item) (tolds : List Told) : Type 0 where
   pub method : Method
   pub begins : HasFewNodes p → Begins p budget method
   pub told : AreTold budget stated p 0 1 p method items tolds

@@ -9,10 +9,10 @@ use Rattle.proved_report.specs.declared.claim.Claim.{Claim}
 use Rattle.proved_report.specs.declared.open.Open.{Open}
 use Rattle.claim_laws.specs.Held.{finding_for}
 use Rattle.claim_laws.specs.Tells.{TellsClaim}
-use Rattle.smps_session.specs.declared.whole.Stated.{Stated}
+use Rattle.smps_session.specs.declared.whole.StatedLimits.{StatedLimits}
 
 -- Where the method finds so much, the whole program is tried: an operation passed, or solves or pivots ended whose number isn't stated.
-abbrev pub asks_whole : Stated → Finding → Bool
+abbrev pub asks_whole : StatedLimits → Finding → Bool
 asks_whole stated Optimal = false
 asks_whole stated Infeasible = false
 asks_whole stated Unbounded = false
@@ -38,6 +38,6 @@ pub record TellsWhole (program : Program) (report : Report) : Type 0 where
   pub tells : TellsClaim program place why solves claim report
 
 -- The report is the method's own one; or it is one of the whole program, and for the method's own one the whole program is tried.
-abbrev pub IsOwnOrWhole : Bool → Stated → Program → Report → Report → Type 0
+abbrev pub IsOwnOrWhole : Bool → StatedLimits → Program → Report → Report → Type 0
 IsOwnOrWhole false stated program own report = report ≡ own
 IsOwnOrWhole true stated program own report = (asks_whole stated own.finding ≡ true) × TellsWhole program report

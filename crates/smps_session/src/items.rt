@@ -10,7 +10,7 @@ ghost use Rattle.smps_session.specs.Comes.{TakesEdit, IsUnderWay};
 ghost use Rattle.smps_session.specs.Courses.{course_at, TellsOne, IsBehind};
 
 use crate::told::{Told, told_one};
-use crate::whole::Stated;
+use crate::whole::StatedLimits;
 use edit_defs::{Act, Counts, Edit, Item};
 use frac128::Memory;
 use pass_core::Budget;
@@ -65,7 +65,7 @@ impl Progress {
         alloc: Global,
         program: &Program,
         budget: Budget,
-        stated: Stated,
+        stated: StatedLimits,
         tolds: &mut Vec<Told>,
     ) -> Result<(), Memory>
         requires stands { StandsOn (content program.now) budget self.old.method }
@@ -102,7 +102,7 @@ impl Progress {
         program: &mut Program,
         item: &Item,
         budget: Budget,
-        stated: Stated,
+        stated: StatedLimits,
         tolds: &mut Vec<Told>,
     ) -> Result<(), Memory>
         requires allowed { AreAllowed (content program.old) (item.now ∷ []) }

@@ -10,4 +10,4 @@ mod whole;
 pub use running::session;
 pub use scripts::scripted;
 pub use told::Told;
-pub use whole::{Answered, Stated};
+pub use whole::{Answered, StatedLimits};

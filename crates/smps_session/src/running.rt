@@ -8,7 +8,7 @@ ghost use Rattle.tree_method.specs.Stands.{HasFewNodes, StandsOn, StandsCleared}
 ghost use Rattle.smps_session.specs.Reasons.{told_reasons};
 ghost use Rattle.smps_session.specs.Comes.{is_unfinished, ShowsFound, ComesOf, ComesOfAll, IsUnderWay};
 
-use crate::whole::{Answered, Stated, own_or_whole};
+use crate::whole::{Answered, StatedLimits, own_or_whole};
 use frac128::Memory;
 use pass_core::Budget;
 use proved_report::report;
@@ -20,16 +20,16 @@ use whole_guess::WholeHint;
 /// Solves a program on a tree by the nested method, with so many solves of nodes at most and so many pivots in each, and
 /// tests what was found before it is told: see `proved_report::report`.
 ///
-/// `OpenSolves` tells the solves that were allowed, which were made, `OpenPivots` that the pivots of a solve ended, with the number of that
-/// solve, from 1, `OpenPassed` an operation that passes 128 bits and where it stands. Where the method leaves the report open for an operation,
-/// or for solves or pivots whose number isn't stated, the whole program is tried at once: a claim about it that stands its test is reported in
-/// place of the method's own report, and that is the method's own where none does.
+/// `OpenSolves` tells the solves that were allowed, which were made, `OpenPivots` that the pivots of a solve ended, with the number
+/// of that solve, from 1, `OpenPassed` an operation that passes 128 bits and where it stands. Where the method leaves the report open
+/// for an operation, or for solves or pivots whose number isn't stated, the whole program is tried at once: a claim about it that
+/// stands its test is reported in place of the method's own report, which stays where none does.
 pub fn session(
     alloc: Global,
     program: &Program,
     solves: u64,
     pivots: u64,
-    stated: Stated,
+    stated: StatedLimits,
 ) -> Result<Answered, Memory>
     ensures number { IfOk result (λ answered. answered.report.number ≡ 1) }
     ensures counts { IfOk result (λ answered. HasCounts (view_of (content program.now)) answered.report) }

@@ -9,7 +9,7 @@ ghost use Rattle.smps_session.specs.Told.{IsScripted};
 
 use crate::items::Progress;
 use crate::told::Told;
-use crate::whole::Stated;
+use crate::whole::StatedLimits;
 use edit_apply::count;
 use edit_defs::{Item, Script};
 use frac128::Memory;
@@ -45,7 +45,7 @@ impl Progress {
         program: &mut Program,
         items: &[Item],
         budget: Budget,
-        stated: Stated,
+        stated: StatedLimits,
     ) -> Result<Vec<Told>, Memory>
         requires allowed { AreAllowed (content program.old) items.now }
         requires counted { self.old.counted ≡ counts (content program.old).nodes }
@@ -73,7 +73,7 @@ pub fn scripted(
     script: &Script,
     solves: u64,
     pivots: u64,
-    stated: Stated,
+    stated: StatedLimits,
 ) -> Result<Vec<Told>, Memory>
     requires { AreAllowed (content program.old) script.now.items.items }
     ensures { let budget : BudgetOf = record { solves = solves; pivots = pivots } in

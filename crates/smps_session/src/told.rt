@@ -8,7 +8,7 @@ ghost use Rattle.smps_session.specs.Comes.{IsUnderWay};
 ghost use Rattle.smps_session.specs.Told.{IsTold};
 
 use crate::running::reported;
-use crate::whole::{Stated, own_or_whole};
+use crate::whole::{StatedLimits, own_or_whole};
 use frac128::Memory;
 use pass_core::Budget;
 use report_text::print_report;
@@ -56,7 +56,7 @@ pub(crate) fn told_one(
     method: &mut Method,
     number: u32,
     budget: Budget,
-    stated: Stated,
+    stated: StatedLimits,
     hint: &mut WholeHint,
 ) -> Result<Told, Memory>
     requires stands { StandsOn (content program.now) budget method.old }

@@ -16,7 +16,7 @@ use whole_guess::{WholeHint, guessed_claim};
 
 /// Which numbers of a budget the words state. Where a number that they don't state ends the method, the whole program is tried.
 #[derive(Clone, Copy, Debug)]
-pub struct Stated {
+pub struct StatedLimits {
     pub solves: bool,
     pub pivots: bool,
 }
@@ -30,7 +30,7 @@ pub struct Answered {
 }
 
 /// Whether the whole program is tried where the method finds so much.
-fn asks_whole(finding: Finding, stated: Stated) -> bool
+fn asks_whole(finding: Finding, stated: StatedLimits) -> bool
     ensures { result ≡ asks_whole stated finding }
 {
     match finding {
@@ -94,7 +94,7 @@ pub(crate) fn own_or_whole(
     program: &Program,
     own: Report,
     budget: Budget,
-    stated: Stated,
+    stated: StatedLimits,
     hint: &mut WholeHint,
 ) -> Result<Answered, Memory>
     requires counts { HasCounts (view_of (content program.now)) own }
