@@ -13,8 +13,8 @@ use Rattle.rationals.specs.Rational.{one_ℚ}
 use Rattle.stoch_defs.specs.Random.{Block, Branch}
 use Rattle.scen_tree.specs.declared.position.Position.{Position}
 use Rattle.scen_tree.specs.declared.position.Position.TheVariants.{Dropped, Root, Below}
-use Rattle.scen_tree.specs.declared.fault.TreeFault.{TreeFault}
-use Rattle.scen_tree.specs.declared.fault.TreeFault.TheVariants as tree
+use Rattle.frac128.specs.declared.fault.ArithmeticFault.{ArithmeticFault}
+use Rattle.frac128.specs.declared.fault.ArithmeticFault.TheVariants as tree
 use Rattle.scen_tree.specs.Trees.{position_by}
 use Rattle.scen_tree.specs.Chances.{chances_walk}
 use Rattle.build_defs.specs.Digits.{digits}
@@ -75,7 +75,7 @@ value_nodes defs debuts positions built (d ∷ all) =
 abbrev pub AreStaged : List Debut → Type 0
 AreStaged debuts = (n : ℕ) → (get_or debuts n no_debut).stage < 2 ^ 32
 
-abbrev pub build_fault : TreeFault → BuildFault
+abbrev pub build_fault : ArithmeticFault → BuildFault
 build_fault (tree.Passed p) = Passed p
 build_fault tree.Memory = Memory
 

@@ -17,8 +17,9 @@ use crate::numbering::{Debut, Path};
 use crate::parts::Values;
 use crate::rows::node_rows;
 use core_defs::{Core, RowDef};
+use frac128::ArithmeticFault;
 use scen_defs::{Column, Node, Program, Row, Scenario};
-use scen_tree::{Chances, Position, TreeFault, node_chances};
+use scen_tree::{Chances, Position, node_chances};
 use smps_build::{BuildFault, copied};
 use smps_words::Name;
 use std::alloc::{AllocError, Global};
@@ -51,12 +52,12 @@ pub(crate) fn positions(
 }
 
 /// Why no program is built, where no tree is made.
-fn build_fault(fault: TreeFault) -> BuildFault
+fn build_fault(fault: ArithmeticFault) -> BuildFault
     ensures { result ≡ build_fault fault }
 {
     match fault {
-        TreeFault::Passed(passed) => BuildFault::Passed(passed),
-        TreeFault::Memory => BuildFault::Memory,
+        ArithmeticFault::Passed(passed) => BuildFault::Passed(passed),
+        ArithmeticFault::Memory => BuildFault::Memory,
     }
 }
 
