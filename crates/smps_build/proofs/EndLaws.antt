@@ -1,5 +1,5 @@
 -- The ends of a row's interval.
-use Rattle.std.proofs.Common.{◌≡◌, Bool, true, false, is_some, Option, Some, None, Result, Ok, Err, refl, sym, subst}
+use Rattle.std.proofs.Common.{◌≡◌, Bool, true, false, [], ◌∷◌, is_some, Option, Some, None, Result, Ok, Err, refl, sym, subst}
 use Rattle.rationals.specs.declared.Op.TheVariants.{Add, Sub}
 use Rattle.rationals.specs.Rational.{ℚ, zero_ℚ, neg_ℚ, ◌+ℚ◌, ◌-ℚ◌, ◌≤ℚ◌, at_most, at_most_true, at_most_false, lt_le_ℚ, le_refl_ℚ, by_linear, terms}
 use Rattle.rationals.specs.Ring.Given.{nothing, fact, equal}
