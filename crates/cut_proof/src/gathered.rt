@@ -8,10 +8,10 @@ ghost use Rattle.cut_sums.specs.Tallies.{AreSums, AreZeros, MovesColumns, UsesAs
 
 use crate::cut::{Record, Used};
 use cut_sums::{
-    NodeDatum, Priced, Unfinished, add_costs, add_form, keep_row_orders, near, outer_terms,
-    push_outside, take_rows, zeros,
+    NodeDatum, Priced, add_costs, add_form, keep_row_orders, near, outer_terms, push_outside,
+    take_rows, zeros,
 };
-use frac128::{Form, Memory, Term};
+use frac128::{Form, Memory, Term, Unfinished};
 use std::alloc::Global;
 
 /// Adds the forms of used cuts by their weights.

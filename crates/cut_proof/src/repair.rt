@@ -11,7 +11,7 @@ use crate::cut::{Cut, Record, SharedCut, Used};
 use crate::resting::rests;
 use crate::stamps::support_of;
 use cut_defs::{Part, Shift, Touch};
-use frac128::{FormFault, Frac, Memory, Passed};
+use frac128::{ArithmeticFault, Frac, Memory, Passed};
 use std::alloc::Global;
 
 fn touch_of(shift: &Shift) -> Touch
@@ -110,7 +110,7 @@ fn moved(alloc: Global, shift: &Shift, source: &Record, used: Vec<Used>) -> Resu
 }
 
 /// The repair of a cut. A cut that does not rest on the shift's touch is its own repair.
-fn repaired(alloc: Global, cut: &SharedCut, shift: &Shift) -> Result<SharedCut, FormFault>
+fn repaired(alloc: Global, cut: &SharedCut, shift: &Shift) -> Result<SharedCut, ArithmeticFault>
     requires { 0 < shift.now.version }
     ensures { IfNotMemory result (repair_walk shift.now cut.now) }
 {
@@ -141,7 +141,7 @@ pub fn shifted(
     alloc: Global,
     cut: &SharedCut,
     shift: &Shift,
-) -> Result<Option<SharedCut>, FormFault>
+) -> Result<Option<SharedCut>, ArithmeticFault>
     requires { 0 < shift.now.version }
     ensures { IfNotMemory result (shifted_walk shift.now cut.now) }
 {

@@ -15,7 +15,7 @@ use cut_sums::{
     NodeDatum, Priced, Unreduced, Worth, add_columns, add_rows, add_worth, cost_of, is_own,
     less_rows, push_nonzero,
 };
-use frac128::{Form, FormFault, Frac, Passed, Term};
+use frac128::{ArithmeticFault, Form, Frac, Passed, Term};
 use scen_defs::NodeRow;
 use std::alloc::Global;
 
@@ -39,7 +39,11 @@ fn column_sum(rows: &[NodeRow], source: &Record, column: u64, start: Frac) -> Re
 }
 
 /// The reduced costs of the node's own columns, column by column.
-fn price_each(alloc: Global, datum: &NodeDatum, source: &Record) -> Result<Vec<Priced>, FormFault>
+fn price_each(
+    alloc: Global,
+    datum: &NodeDatum,
+    source: &Record,
+) -> Result<Vec<Priced>, ArithmeticFault>
     ensures { MatchResult result
         (λ v. prices_walk datum.now (source_content source.now) (uses_content source.now.used.items) ≡ Ok v.items)
         (FaultOf (prices_walk datum.now (source_content source.now) (uses_content source.now.used.items))) }
@@ -64,7 +68,7 @@ pub(crate) fn price(
     datum: &NodeDatum,
     source: &Record,
     sums: &Option<Vec<Term>>,
-) -> Result<Vec<Priced>, FormFault>
+) -> Result<Vec<Priced>, ArithmeticFault>
     requires { IfSome sums.now (λ tally.
         AreSums datum.now (source_content source.now) (uses_content source.now.used.items) tally.items) }
     ensures { MatchResult result
@@ -97,7 +101,7 @@ fn form_over(
     datum: &NodeDatum,
     source: &Record,
     columns: &[u64],
-) -> Result<Form, FormFault>
+) -> Result<Form, ArithmeticFault>
     requires { NumbersRise 0 columns.now }
     ensures { IfNotMemory result (form_from datum.now (source_content source.now) (uses_content source.now.used.items) [] columns.now) }
 {
@@ -110,7 +114,7 @@ fn form_over(
 }
 
 /// The same over all columns.
-fn form_each(alloc: Global, datum: &NodeDatum, source: &Record) -> Result<Form, FormFault>
+fn form_each(alloc: Global, datum: &NodeDatum, source: &Record) -> Result<Form, ArithmeticFault>
     ensures rises { IfOk result (λ _. NumbersRise 0 (all_columns datum.now.rows (uses_content source.now.used.items))) }
     ensures form { IfNotMemory result
         (form_from datum.now (source_content source.now) (uses_content source.now.used.items) []
@@ -126,7 +130,7 @@ pub(crate) fn form(
     datum: &NodeDatum,
     source: &Record,
     sums: &Option<Vec<Term>>,
-) -> Result<Form, FormFault>
+) -> Result<Form, ArithmeticFault>
     requires { IfSome sums.now (λ tally.
         AreSums datum.now (source_content source.now) (uses_content source.now.used.items) tally.items) }
     ensures rises { IfOk result (λ _. NumbersRise 0 (all_columns datum.now.rows (uses_content source.now.used.items))) }

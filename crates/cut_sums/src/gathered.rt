@@ -9,9 +9,8 @@ ghost use Rattle.cut_sums.specs.Tallies.{AreCosts, AreZeros, MovesColumns, RowsA
 use crate::datum::NodeDatum;
 use crate::own::is_own_near;
 use crate::tally::{add_form, near};
-use crate::unfinished::Unfinished;
 use cut_defs::{ColumnBounds, CutKind};
-use frac128::{Form, Frac, Memory, Term};
+use frac128::{Form, Frac, Memory, Term, Unfinished};
 use scen_defs::NodeRow;
 use std::alloc::Global;
 

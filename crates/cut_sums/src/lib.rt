@@ -7,7 +7,6 @@ mod gathered;
 mod own;
 mod sums;
 mod tally;
-mod unfinished;
 mod unreduced;
 
 pub use datum::NodeDatum;
@@ -15,5 +14,4 @@ pub use gathered::{add_costs, keep_row_orders, outer_terms, push_outside, take_r
 pub use own::is_own;
 pub use sums::{Priced, Worth, add_columns, add_rows, add_worth, cost_of, less_rows, push_nonzero};
 pub use tally::{Found, add_form, near, zeros};
-pub use unfinished::Unfinished;
 pub use unreduced::Unreduced;

@@ -7,8 +7,7 @@ ghost use Rattle.rationals.specs.Passes.{add_product_walk, IsNarrow};
 ghost use Rattle.rationals.specs.Choices.{pick};
 ghost use Rattle.cut_sums.specs.Tallies.{AreZeros, MovesColumns, all_weighted_from, weighted_from};
 
-use crate::unfinished::Unfinished;
-use frac128::{Form, Frac, Memory, Passed, Term, value_in};
+use frac128::{Form, Frac, Memory, Passed, Term, Unfinished, value_in};
 use std::alloc::Global;
 
 /// What stands in a column, and where the one behind it may stand.

@@ -4,7 +4,7 @@ use crate::fixtures::{
 };
 use cut_proof::{Cut, CutFault, NodeDatum, SharedCut, Shift, shifted};
 use dual_assemble::{assemble, ground_cut, join_policy};
-use frac128::{Form, FormFault, Frac, Memory, parse, print};
+use frac128::{ArithmeticFault, Form, Frac, Memory, parse, print};
 use scen_defs::Values;
 use std::alloc::Global;
 use std::process::Abort;
@@ -91,13 +91,13 @@ fn cuts(rt: HostRuntime) -> Result<(), Fail> {
 /// The constant of the repair, or why there is none.
 fn repair_text(
     alloc: Global,
-    repair: &Result<Option<SharedCut>, FormFault>,
+    repair: &Result<Option<SharedCut>, ArithmeticFault>,
 ) -> Result<Vec<u8>, Fail> {
     let text = match repair {
         Ok(Some(new)) => number(alloc, new.cut().constant())?,
         Ok(None) => word(alloc, "none")?,
-        Err(FormFault::Passed(_)) => word(alloc, "passes")?,
-        Err(FormFault::Memory) => return Err(Fail::from("memory")),
+        Err(ArithmeticFault::Passed(_)) => word(alloc, "passes")?,
+        Err(ArithmeticFault::Memory) => return Err(Fail::from("memory")),
     };
     Ok(text)
 }

@@ -11,7 +11,7 @@ ghost use Rattle.dual_assemble.specs.Ground.{quotients_from, uses_of_children, g
 
 use cut_defs::{CutKind, Share};
 use cut_proof::{Cut, CutFault, NodeDatum, Record, SharedCut, Used, push_nonzero};
-use frac128::{Form, FormFault, Frac, Memory, Passed};
+use frac128::{ArithmeticFault, Form, Frac, Memory, Passed};
 use scen_defs::{NodeRow, Values};
 use std::alloc::Global;
 
@@ -33,7 +33,7 @@ fn quotients(
     node: u32,
     total: Frac,
     dual: &Values,
-) -> Result<Form, FormFault>
+) -> Result<Form, ArithmeticFault>
     requires { RowsRise 0 rows.now }
     ensures { IfNotMemory result (quotients_from total (at dual.now node) [] rows.now) }
 {

@@ -12,7 +12,7 @@ ghost use Rattle.dual_assemble.specs.Values.{is_place, number_at, node_values, n
 
 use crate::flat::flat_forms;
 use cut_proof::Cut;
-use frac128::{Form, FormFault, Frac, Memory};
+use frac128::{ArithmeticFault, Form, Frac, Memory};
 use scen_defs::Values;
 use std::alloc::Global;
 
@@ -64,7 +64,7 @@ fn values_of(alloc: Global, forms: &[Form]) -> Result<Values, Memory>
 /// The flat dual of a cut by node and row: the multipliers of all records below it, each times the weights on the
 /// way down. `Passed` names the first operation that passes. A multiplier at a place above 32 bits, where no row is,
 /// is left out.
-pub fn assemble(alloc: Global, cut: &Cut) -> Result<Values, FormFault>
+pub fn assemble(alloc: Global, cut: &Cut) -> Result<Values, ArithmeticFault>
     ensures numbers { IfOk result (λ v. (n i : ℕ) → n < 2 ^ 32 → i < 2 ^ 32 → at v n i ≡ stored_flat cut.now n i) }
     ensures walk { MatchResult result (λ v. assembled cut.now ≡ Ok v) (FaultOf (assembled cut.now)) }
 {

@@ -5,9 +5,9 @@ use Rattle.rationals.specs.Rational.{ℚ, one_ℚ, ◌-ℚ◌}
 use Rattle.refusals.specs.declared.cause.Cause.TheVariants.{ScenarioLimit}
 use Rattle.rationals.specs.Passes.{Operation}
 use Rattle.scen_defs.specs.Program.{Node, Scenario, Program}
-use Rattle.scen_tree.specs.declared.fault.TreeFault.{TreeFault}
-use Rattle.scen_tree.specs.declared.fault.TreeFault.TheVariants.{Passed, Memory}
-use Rattle.scen_tree.specs.Chances.{TreeFaultOf}
+use Rattle.frac128.specs.declared.fault.ArithmeticFault.{ArithmeticFault}
+use Rattle.frac128.specs.declared.fault.ArithmeticFault.TheVariants.{Passed, Memory}
+use Rattle.frac128.specs.Faults.{FaultOf}
 use Rattle.scen_tree.specs.Trees.{position_of}
 use Rattle.std.proofs.Common.{map}
 use Rattle.edit_defs.specs.declared.edit.Edit.{Edit}
@@ -41,7 +41,7 @@ prob_none p name q ss r h = r ∙ ap passing (told_ok p (Prob name q) (prob_told
 pub prob_ok : (p : Program) (name : List ℕ) (q : ℚ) (ss : List Scenario) → prob_told p name q ≡ Ok ss → record p { scenarios = ss } ≡ after p (Prob name q)
 prob_ok p name q ss h = ap (λ (ts : List Scenario). record p { scenarios = ts }) (told_ok p (Prob name q) (prob_told p name q) ss (prob-told p name q) h).0
 
-pub prob_err : (p : Program) (name : List ℕ) (q : ℚ) (fault : TreeFault) → refused p (Prob name q) ≡ passing (first_passed p (Prob name q)) → TreeFaultOf (prob_told p name q) fault → ApplyFaultOf (refused p (Prob name q)) (fault_of_tree fault)
+pub prob_err : (p : Program) (name : List ℕ) (q : ℚ) (fault : ArithmeticFault) → refused p (Prob name q) ≡ passing (first_passed p (Prob name q)) → FaultOf (prob_told p name q) fault → ApplyFaultOf (refused p (Prob name q)) (fault_of_tree fault)
 prob_err p name q (Passed o) r h = r ∙ ap passing (told_err p (Prob name q) (prob_told p name q) o (prob-told p name q) h)
 prob_err p name q Memory r h = tt
 
@@ -59,7 +59,7 @@ pub drop_ok : (p : Program) (name : List ℕ) (ss : List Scenario) → drop_told
 drop_ok p name ss h = ap (λ (ts : List Scenario). record p { nodes = kept_from (marks_by ts p.nodes) 0 p.nodes; scenarios = ts }) (told_ok p (Drop name) (drop_told p name) ss (drop-is p name) h).0
     ∙ ap (λ ns. record p { nodes = ns; scenarios = (after p (Drop name)).scenarios }) (drop-nodes p name)
 
-pub drop_err : (p : Program) (name : List ℕ) (fault : TreeFault) → refused p (Drop name) ≡ passing (first_passed p (Drop name)) → TreeFaultOf (drop_told p name) fault → ApplyFaultOf (refused p (Drop name)) (fault_of_tree fault)
+pub drop_err : (p : Program) (name : List ℕ) (fault : ArithmeticFault) → refused p (Drop name) ≡ passing (first_passed p (Drop name)) → FaultOf (drop_told p name) fault → ApplyFaultOf (refused p (Drop name)) (fault_of_tree fault)
 drop_err p name (Passed o) r h = r ∙ ap passing (told_err p (Drop name) (drop_told p name) o (drop-is p name) h)
 drop_err p name Memory r h = tt
 
@@ -102,7 +102,7 @@ ok_both (Ok x) p q f = f p q
 ok_both (Err x) p q f = tt
 
 -- what an error of the tree says where the limits are kept
-pub rest_err : (p : Program) (new : Scenario) (nodes : List (Option Node)) (fault : TreeFault) → is_above (length p.scenarios + 1) (plus (counts p.nodes) (counts nodes)) ≡ false → TreeFaultOf (add_told p new nodes) fault → ApplyFaultOf (add_rest p new nodes) (fault_of_tree fault)
+pub rest_err : (p : Program) (new : Scenario) (nodes : List (Option Node)) (fault : ArithmeticFault) → is_above (length p.scenarios + 1) (plus (counts p.nodes) (counts nodes)) ≡ false → FaultOf (add_told p new nodes) fault → ApplyFaultOf (add_rest p new nodes) (fault_of_tree fault)
 rest_err p new nodes (Passed o) a h = ap₂ (λ b (w : Result (List Scenario) Operation). refused_if b ScenarioLimit (passing (ended_by w))) a h
 rest_err p new nodes Memory a h = tt
 

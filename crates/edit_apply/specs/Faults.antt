@@ -1,11 +1,11 @@
--- What an error of `apply` says.
+-- Why an edit isn't applied, as an error says it.
 use Rattle.std.specs.Prelude.{Option, Some}
 use Rattle.rationals.specs.Replies.{Reply, IsReply}
 use Rattle.rationals.specs.Replies.Reply.{Says, Silent}
 use Rattle.refusals.specs.declared.cause.Cause.{Cause}
 use Rattle.refusals.specs.declared.cause.Cause.TheVariants.{Passes}
-use Rattle.scen_tree.specs.declared.fault.TreeFault.{TreeFault}
-use Rattle.scen_tree.specs.declared.fault.TreeFault.TheVariants.{Passed, Memory as TreeMemory}
+use Rattle.frac128.specs.declared.fault.ArithmeticFault.{ArithmeticFault}
+use Rattle.frac128.specs.declared.fault.ArithmeticFault.TheVariants.{Passed, Memory as TreeMemory}
 use Rattle.edit_apply.specs.declared.fault.ApplyFault.{ApplyFault}
 use Rattle.edit_apply.specs.declared.fault.ApplyFault.TheVariants.{Refused, Memory}
 
@@ -19,6 +19,6 @@ abbrev pub ApplyFaultOf : Option Cause → ApplyFault → Type 0
 ApplyFaultOf cause fault = IsReply cause (apply_says fault)
 
 -- where a tree isn't made, neither is the edit applied
-abbrev pub fault_of_tree : TreeFault → ApplyFault
+abbrev pub fault_of_tree : ArithmeticFault → ApplyFault
 fault_of_tree (Passed p) = Refused (Passes p)
 fault_of_tree TreeMemory = Memory

@@ -7,7 +7,7 @@ ghost use Rattle.edit_defs.specs.declared.edit.Edit.TheVariants.{Add};
 ghost use Rattle.edit_defs.specs.After.{after, is_known, new_scenario};
 ghost use Rattle.edit_defs.specs.Causes.{refused};
 ghost use Rattle.edit_defs.specs.Limits.{counts};
-ghost use Rattle.scen_tree.specs.Chances.{TreeFaultOf};
+ghost use Rattle.frac128.specs.Faults.{FaultOf};
 ghost use Rattle.edit_apply.specs.Faults.{ApplyFaultOf};
 ghost use Rattle.edit_apply.specs.Rest.{KeepsWith, add_left, add_rest};
 ghost use Rattle.edit_apply.specs.Told.{add_told, new_nodes};
@@ -20,9 +20,8 @@ use crate::fault::{ApplyFault, refusal};
 use crate::positions::add_positions;
 use core_defs::Cause;
 use edit_defs::{Counts, path};
-use frac128::{Frac, Memory};
+use frac128::{ArithmeticFault, Frac, Memory};
 use scen_defs::{Node, Program, Scenario};
-use scen_tree::TreeFault;
 use smps_words::Name;
 use std::alloc::Global;
 
@@ -69,10 +68,10 @@ fn tested_add(
     program: &Program,
     new: Scenario,
     nodes: &[Option<Node>],
-) -> Result<Vec<Scenario>, TreeFault>
+) -> Result<Vec<Scenario>, ArithmeticFault>
     ensures { MatchResult result (λ all. add_told (content program.now) (scenario_content new) (nodes_content nodes.now)
         ≡ Ok (scenarios_content all.items))
-        (TreeFaultOf (add_told (content program.now) (scenario_content new) (nodes_content nodes.now))) }
+        (FaultOf (add_told (content program.now) (scenario_content new) (nodes_content nodes.now))) }
 {
     let scenarios = add_scenarios(alloc, &program.scenarios, new)?;
     let mut positions = Vec::new(alloc);

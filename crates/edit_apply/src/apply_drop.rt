@@ -8,7 +8,7 @@ ghost use Rattle.edit_defs.specs.Causes.{passing, refused};
 ghost use Rattle.edit_defs.specs.Limits.{counts};
 ghost use Rattle.edit_defs.specs.Operations.{first_passed};
 ghost use Rattle.edit_apply.specs.Kept.{kept_from};
-ghost use Rattle.scen_tree.specs.Chances.{TreeFaultOf};
+ghost use Rattle.frac128.specs.Faults.{FaultOf};
 ghost use Rattle.edit_apply.specs.Faults.{ApplyFaultOf};
 ghost use Rattle.edit_apply.specs.Told.{drop_told, marks_by};
 
@@ -18,8 +18,8 @@ use crate::fault::{ApplyFault, refusal};
 use crate::kept::{keep, kept_counts, kept_positions, reached};
 use core_defs::Cause;
 use edit_defs::Counts;
+use frac128::ArithmeticFault;
 use scen_defs::{Program, Scenario};
-use scen_tree::TreeFault;
 use smps_words::Name;
 use std::alloc::Global;
 
@@ -32,10 +32,10 @@ struct Left {
 }
 
 /// What a DROP leaves, where no operation passes.
-fn tested_drop(alloc: Global, program: &Program, name: &Name) -> Result<Left, TreeFault>
+fn tested_drop(alloc: Global, program: &Program, name: &Name) -> Result<Left, ArithmeticFault>
     ensures scenarios { MatchResult result (λ left. drop_told (content program.now) name.now
         ≡ Ok (scenarios_content left.scenarios.items))
-        (TreeFaultOf (drop_told (content program.now) name.now)) }
+        (FaultOf (drop_told (content program.now) name.now)) }
     ensures marks { IfOk result (λ left. left.marks.items
         ≡ marks_by (scenarios_content left.scenarios.items) (content program.now).nodes) }
 {

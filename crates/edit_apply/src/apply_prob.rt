@@ -5,7 +5,7 @@ ghost use Rattle.edit_defs.specs.declared.edit.Edit.TheVariants.{Prob};
 ghost use Rattle.edit_defs.specs.After.{after};
 ghost use Rattle.edit_defs.specs.Causes.{passing, refused};
 ghost use Rattle.edit_defs.specs.Operations.{first_passed};
-ghost use Rattle.scen_tree.specs.Chances.{TreeFaultOf};
+ghost use Rattle.frac128.specs.Faults.{FaultOf};
 ghost use Rattle.edit_apply.specs.Faults.{ApplyFaultOf};
 ghost use Rattle.edit_apply.specs.Told.{prob_told};
 
@@ -14,9 +14,8 @@ use crate::facts::{is_inner, is_known, is_last};
 use crate::fault::{ApplyFault, refusal};
 use crate::positions::add_positions;
 use core_defs::Cause;
-use frac128::Frac;
+use frac128::{ArithmeticFault, Frac};
 use scen_defs::{Program, Scenario};
-use scen_tree::TreeFault;
 use smps_words::Name;
 use std::alloc::Global;
 
@@ -26,9 +25,9 @@ fn tested_prob(
     program: &Program,
     name: &Name,
     probability: Frac,
-) -> Result<Vec<Scenario>, TreeFault>
+) -> Result<Vec<Scenario>, ArithmeticFault>
     ensures { MatchResult result (λ all. prob_told (content program.now) name.now probability ≡ Ok (scenarios_content all.items))
-        (TreeFaultOf (prob_told (content program.now) name.now probability)) }
+        (FaultOf (prob_told (content program.now) name.now probability)) }
 {
     let scenarios = prob_scenarios(alloc, &program.scenarios, name, probability)?;
     let mut positions = Vec::new(alloc);

@@ -2,14 +2,14 @@
 ghost use Rattle.std.specs.Prelude.{◌≡◌, MatchResult, Ok};
 ghost use Rattle.rationals.specs.Rational.{one_ℚ};
 ghost use Rattle.scen_defs.specs.Program.{scenario_content, scenarios_content};
-ghost use Rattle.scen_tree.specs.Chances.{TreeFaultOf};
+ghost use Rattle.frac128.specs.Faults.{FaultOf};
 ghost use Rattle.edit_apply.specs.Scaled.{add_walk_from, drop_walk, prob_walk, rest_walk, tested_walk};
 
 use crate::scaled::{Scale, quotient, rescaled};
 use edit_defs::probability;
-use frac128::{Frac, Passed};
+use frac128::{ArithmeticFault, Frac, Passed};
 use scen_defs::Scenario;
-use scen_tree::{Position, TreeFault, node_chances};
+use scen_tree::{Position, node_chances};
 use smps_words::Name;
 use std::alloc::Global;
 
@@ -26,10 +26,10 @@ pub(crate) fn prob_scenarios(
     scenarios: &[Scenario],
     name: &Name,
     probability: Frac,
-) -> Result<Vec<Scenario>, TreeFault>
+) -> Result<Vec<Scenario>, ArithmeticFault>
     ensures { MatchResult result (λ all. prob_walk (scenarios_content scenarios.now) name.now probability
         ≡ Ok (scenarios_content all.items))
-        (TreeFaultOf (prob_walk (scenarios_content scenarios.now) name.now probability)) }
+        (FaultOf (prob_walk (scenarios_content scenarios.now) name.now probability)) }
 {
     let left = Frac::one().sub(probability)?;
     let rest = rest(scenarios, name)?;
@@ -48,9 +48,9 @@ pub(crate) fn drop_scenarios(
     alloc: Global,
     scenarios: &[Scenario],
     name: &Name,
-) -> Result<Vec<Scenario>, TreeFault>
+) -> Result<Vec<Scenario>, ArithmeticFault>
     ensures { MatchResult result (λ all. drop_walk (scenarios_content scenarios.now) name.now ≡ Ok (scenarios_content all.items))
-        (TreeFaultOf (drop_walk (scenarios_content scenarios.now) name.now)) }
+        (FaultOf (drop_walk (scenarios_content scenarios.now) name.now)) }
 {
     let rest = rest(scenarios, name)?;
     rescaled(alloc, scenarios, name, None, Scale::Over(rest))
@@ -61,10 +61,10 @@ pub(crate) fn add_scenarios(
     alloc: Global,
     scenarios: &[Scenario],
     new: Scenario,
-) -> Result<Vec<Scenario>, TreeFault>
+) -> Result<Vec<Scenario>, ArithmeticFault>
     ensures { MatchResult result (λ all. add_walk_from (scenarios_content scenarios.now) (scenario_content new)
         ≡ Ok (scenarios_content all.items))
-        (TreeFaultOf (add_walk_from (scenarios_content scenarios.now) (scenario_content new))) }
+        (FaultOf (add_walk_from (scenarios_content scenarios.now) (scenario_content new))) }
 {
     let left = Frac::one().sub(new.probability)?;
     let mut all = rescaled(alloc, scenarios, &new.name, None, Scale::Times(left))?;
@@ -77,13 +77,13 @@ pub(crate) fn test_tree(
     alloc: Global,
     positions: &[Position],
     scenarios: &[Scenario],
-) -> Result<(), TreeFault>
+) -> Result<(), ArithmeticFault>
     ensures { MatchResult result (λ _. tested_walk positions.now (scenarios_content scenarios.now)
         ≡ Ok (scenarios_content scenarios.now))
-        (TreeFaultOf (tested_walk positions.now (scenarios_content scenarios.now))) }
+        (FaultOf (tested_walk positions.now (scenarios_content scenarios.now))) }
 {
     if positions.len() > u32::MAX as usize {
-        return Err(TreeFault::Memory);
+        return Err(ArithmeticFault::Memory);
     }
     let _chances = node_chances(alloc, positions, scenarios)?;
     Ok(())

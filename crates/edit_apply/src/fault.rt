@@ -5,8 +5,7 @@ ghost use Rattle.edit_apply.specs.Faults.{fault_of_tree};
 ghost use Rattle.edit_apply.specs.declared.fault.ApplyFault.TheVariants.{Refused, Memory as OutOfMemory};
 
 use core_defs::Cause;
-use frac128::{Memory, Passed};
-use scen_tree::TreeFault;
+use frac128::{ArithmeticFault, Memory, Passed};
 use std::alloc::{AllocError, AllocFailed};
 use thiserror::Error;
 
@@ -61,11 +60,11 @@ impl<T: Drop> From<AllocFailed<T>> for ApplyFault {
 }
 
 /// The edit isn't applied where the tree isn't made.
-pub(crate) fn refusal(fault: TreeFault) -> ApplyFault
+pub(crate) fn refusal(fault: ArithmeticFault) -> ApplyFault
     ensures { result ≡ fault_of_tree fault }
 {
     match fault {
-        TreeFault::Passed(passed) => ApplyFault::Refused(Cause::Passes(passed)),
-        TreeFault::Memory => ApplyFault::Memory,
+        ArithmeticFault::Passed(passed) => ApplyFault::Refused(Cause::Passes(passed)),
+        ArithmeticFault::Memory => ApplyFault::Memory,
     }
 }

@@ -2,12 +2,11 @@
 ghost use Rattle.std.specs.Prelude.{◌≡◌, ◌++◌, ◌∷◌, [], IfOk, OnOk, MatchResult, Ok};
 ghost use Rattle.rationals.specs.Passes.{div_walk};
 ghost use Rattle.scen_defs.specs.Program.{scenario_content, scenarios_content};
-ghost use Rattle.scen_tree.specs.Chances.{TreeFaultOf};
+ghost use Rattle.frac128.specs.Faults.{FaultOf};
 ghost use Rattle.edit_apply.specs.Scaled.{own_part, rescaled_from, scaled_part, scaled_walk, with_chance, with_part};
 
-use frac128::{Frac, Passed};
+use frac128::{ArithmeticFault, Frac, Passed};
 use scen_defs::Scenario;
-use scen_tree::TreeFault;
 use smps_words::Name;
 use std::alloc::{AllocError, Global};
 
@@ -83,10 +82,10 @@ fn push_scaled(
     made: &mut Vec<Scenario>,
     scenario: &Scenario,
     scale: &Scale,
-) -> Result<(), TreeFault>
+) -> Result<(), ArithmeticFault>
     ensures { MatchResult result (λ _. scaled_part scale.now (scenario_content scenario.now) (scenarios_content made.old.items)
         ≡ Ok (scenarios_content made.new.items))
-        (TreeFaultOf (scaled_part scale.now (scenario_content scenario.now) (scenarios_content made.old.items))) }
+        (FaultOf (scaled_part scale.now (scenario_content scenario.now) (scenarios_content made.old.items))) }
 {
     let probability = scaled(scale, scenario.probability)?;
     let copy = with_chance(alloc, scenario, probability)?;
@@ -102,10 +101,10 @@ fn push_part(
     name: &Name,
     own: &Option<Frac>,
     scale: &Scale,
-) -> Result<(), TreeFault>
+) -> Result<(), ArithmeticFault>
     ensures { MatchResult result (λ _. with_part name.now own.now scale.now (scenario_content scenario.now)
         (scenarios_content made.old.items) ≡ Ok (scenarios_content made.new.items))
-        (TreeFaultOf (with_part name.now own.now scale.now (scenario_content scenario.now) (scenarios_content made.old.items))) }
+        (FaultOf (with_part name.now own.now scale.now (scenario_content scenario.now) (scenarios_content made.old.items))) }
 {
     if *name == scenario.name {
         push_own(alloc, made, scenario, own)?;
@@ -122,10 +121,10 @@ pub(crate) fn rescaled(
     name: &Name,
     own: Option<Frac>,
     scale: Scale,
-) -> Result<Vec<Scenario>, TreeFault>
+) -> Result<Vec<Scenario>, ArithmeticFault>
     ensures { MatchResult result (λ all. rescaled_from name.now own scale [] (scenarios_content scenarios.now)
         ≡ Ok (scenarios_content all.items))
-        (TreeFaultOf (rescaled_from name.now own scale [] (scenarios_content scenarios.now))) }
+        (FaultOf (rescaled_from name.now own scale [] (scenarios_content scenarios.now))) }
 {
     let mut made = Vec::new(alloc);
     for scenario in scenarios {

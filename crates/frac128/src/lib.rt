@@ -2,6 +2,7 @@
 #![tactic(auto)]
 
 mod digits;
+mod fault;
 mod form;
 mod frac_step;
 mod fraction;
@@ -11,10 +12,13 @@ mod passed;
 mod significand;
 mod term;
 mod text;
+mod unfinished;
 
-pub use form::{Form, FormFault, value_in};
+pub use fault::ArithmeticFault;
+pub use form::{Form, value_in};
 pub use fraction::Frac;
 pub use memory::Memory;
 pub use passed::Passed;
 pub use term::Term;
 pub use text::{NumFault, literals_are_exact, parse, print};
+pub use unfinished::Unfinished;

@@ -12,7 +12,7 @@ ghost use Rattle.interval_form.specs.Rows.{HasForm, limit_walk, ends_walk, own_l
 use crate::part::{Part, behind, part_of};
 use crate::place::{right_side, spread_own};
 use cut_defs::ColumnBounds;
-use frac128::{Form, FormFault, Frac};
+use frac128::{ArithmeticFault, Form, Frac};
 use scen_defs::NodeRow;
 use slack_form::Limit;
 use smps_words::RowKind;
@@ -27,7 +27,7 @@ fn limit(
     entries: &Form,
     kind: RowKind,
     end: Frac,
-) -> Result<Limit, FormFault>
+) -> Result<Limit, ArithmeticFault>
     requires parts { AreParts 0 parts.now }
     requires one_each { length bounds.now ≤ length parts.now }
     requires rises { BoundsRise 0 bounds.now }
@@ -52,7 +52,7 @@ fn push_ends(
     trial: &Form,
     row: &NodeRow,
     limits: &mut Vec<Limit>,
-) -> Result<(), FormFault>
+) -> Result<(), ArithmeticFault>
     requires parts { AreParts 0 parts.now }
     requires one_each { length bounds.now ≤ length parts.now }
     requires rises { BoundsRise 0 bounds.now }
@@ -89,7 +89,7 @@ pub fn own_limits(
     parts: &[Part],
     trial: &Form,
     rows: &[NodeRow],
-) -> Result<Vec<Limit>, FormFault>
+) -> Result<Vec<Limit>, ArithmeticFault>
     requires parts { AreParts 0 parts.now }
     requires one_each { length bounds.now ≤ length parts.now }
     requires rises { BoundsRise 0 bounds.now }
@@ -105,7 +105,7 @@ pub fn own_limits(
 }
 
 /// The form with 1 in one column.
-fn unit(alloc: Global, column: u64) -> Result<Form, FormFault>
+fn unit(alloc: Global, column: u64) -> Result<Form, ArithmeticFault>
     ensures { IfNotMemory result (Ok (record { column = column; value = one_ℚ } ∷ [])) }
 {
     let mut form = Form::empty(alloc);
@@ -119,7 +119,7 @@ fn push_bound(
     new: u64,
     bound: &ColumnBounds,
     limits: &mut Vec<Limit>,
-) -> Result<(), FormFault>
+) -> Result<(), ArithmeticFault>
     ensures { MatchResult result (λ _. bound_walk new limits.old.items bound.now.lower bound.now.upper ≡ Ok limits.new.items)
         (FaultOf (bound_walk new limits.old.items bound.now.lower bound.now.upper)) }
 {
@@ -140,7 +140,7 @@ pub fn push_bounds(
     alloc: Global,
     bounds: &[ColumnBounds],
     limits: &mut Vec<Limit>,
-) -> Result<u64, FormFault>
+) -> Result<u64, ArithmeticFault>
     requires { length bounds.now < 2 ^ 60 }
     ensures count { IfOk result (λ new. new ≡ behind_all 0 (parts_from 0 bounds.now)) }
     ensures exact { MatchResult result (λ _. bound_limits_from 0 limits.old.items bounds.now ≡ Ok limits.new.items)

@@ -7,7 +7,7 @@ use basis_factors::Entry;
 use basis_guess::Standing;
 use cut_defs::CutKind;
 use cut_proof::Cut;
-use frac128::{FormFault, Frac};
+use frac128::{ArithmeticFault, Frac};
 use node_lp::Task;
 use std::alloc::Global;
 
@@ -17,7 +17,7 @@ fn entries_of(
     entries: &[Entry<Frac>],
     kind: CutKind,
     cost: usize,
-) -> Result<Vec<Entry<Frac>>, FormFault> {
+) -> Result<Vec<Entry<Frac>>, ArithmeticFault> {
     let mut all = Vec::new(alloc);
     for entry in entries {
         all.push(Entry {
@@ -42,7 +42,7 @@ fn push_cut(
     draft: &mut Draft,
     cut: &Cut,
     child: usize,
-) -> Result<(), FormFault> {
+) -> Result<(), ArithmeticFault> {
     let parts = split_form(alloc, task.datum.bounds(), &task.trial, cut.form().terms())?;
     let low = cut.constant().add(parts.outer)?;
     let cost = draft.own.saturating_add(child);
@@ -76,7 +76,7 @@ pub(crate) fn add_cut(
     task: &Task,
     draft: &mut Draft,
     held: HeldCut,
-) -> Result<(), FormFault> {
+) -> Result<(), ArithmeticFault> {
     let child = held.child as usize;
     let number = held.cut as usize;
     if !is_open(draft, child, number) {
@@ -99,7 +99,7 @@ pub(crate) fn add_cuts(
     task: &Task,
     draft: &mut Draft,
     cuts: &[HeldCut],
-) -> Result<(), FormFault> {
+) -> Result<(), ArithmeticFault> {
     for held in cuts {
         add_cut(alloc, task, draft, *held)?;
     }
@@ -130,7 +130,7 @@ fn add_last(
     draft: &mut Draft,
     place: usize,
     child: u32,
-) -> Result<(), FormFault> {
+) -> Result<(), ArithmeticFault> {
     let Some(cut) = last_bound(draft, place) else {
         return Ok(());
     };
@@ -154,7 +154,7 @@ pub(crate) fn add_first(
     task: &Task,
     draft: &mut Draft,
     hint: &Hint,
-) -> Result<(), FormFault> {
+) -> Result<(), ArithmeticFault> {
     add_cuts(alloc, task, draft, &hint.cuts)?;
     for place in 0..draft.costs {
         if let Ok(child) = u32::try_from(place) {

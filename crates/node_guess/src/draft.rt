@@ -8,7 +8,7 @@ use basis_guess::Standing;
 use basis_values::{ExactProgram, float};
 use cut_defs::CutKind;
 use cut_proof::{ChildCuts, Cut, SharedCut};
-use frac128::{FormFault, Frac, Memory};
+use frac128::{ArithmeticFault, Frac, Memory};
 use node_lp::Task;
 use scen_defs::{Kind, NodeRow};
 use std::alloc::Global;
@@ -68,7 +68,7 @@ fn push_columns(program: &mut ExactProgram, task: &Task) -> Result<(), Memory> {
 }
 
 /// An end less what the other columns come to.
-fn less(end: Option<Frac>, outer: Frac) -> Result<Option<Frac>, FormFault> {
+fn less(end: Option<Frac>, outer: Frac) -> Result<Option<Frac>, ArithmeticFault> {
     match end {
         Some(end) => Ok(Some(end.sub(outer)?)),
         None => Ok(None),
@@ -81,7 +81,7 @@ fn push_row(
     program: &mut ExactProgram,
     task: &Task,
     row: &NodeRow,
-) -> Result<(), FormFault> {
+) -> Result<(), ArithmeticFault> {
     let parts = split_form(alloc, task.datum.bounds(), &task.trial, row.entries.terms())?;
     let low = less(row.low, parts.outer)?;
     let high = less(row.high, parts.outer)?;
@@ -90,7 +90,11 @@ fn push_row(
 }
 
 /// Adds the own rows.
-fn push_rows(alloc: Global, program: &mut ExactProgram, task: &Task) -> Result<(), FormFault> {
+fn push_rows(
+    alloc: Global,
+    program: &mut ExactProgram,
+    task: &Task,
+) -> Result<(), ArithmeticFault> {
     for row in task.datum.rows() {
         push_row(alloc, program, task, row)?;
     }
@@ -190,7 +194,11 @@ fn float_children(alloc: Global, task: &Task) -> Result<Vec<FloatCuts>, Memory> 
 }
 
 /// The program without cuts.
-pub(crate) fn first_draft(alloc: Global, task: &Task, hint: &Hint) -> Result<Draft, FormFault> {
+pub(crate) fn first_draft(
+    alloc: Global,
+    task: &Task,
+    hint: &Hint,
+) -> Result<Draft, ArithmeticFault> {
     let mut program = ExactProgram::new(alloc);
     push_columns(&mut program, task)?;
     push_rows(alloc, &mut program, task)?;

@@ -7,7 +7,7 @@ use crate::draft::{Draft, first_draft};
 use crate::hints::{HeldCut, Hint};
 use basis_guess::{End, Ended, Standing, solve};
 use basis_values::{Guessed, Solution, guess_from};
-use frac128::{FormFault, Memory};
+use frac128::{ArithmeticFault, Memory};
 use node_lp::{Guess, Task};
 use std::alloc::Global;
 use std::mem::replace;
@@ -38,7 +38,7 @@ fn with_point(
     task: &Task,
     draft: &mut Draft,
     solution: &Solution,
-) -> Result<Next, FormFault> {
+) -> Result<Next, ArithmeticFault> {
     let wanting = exactly_broken(alloc, task, draft, &solution.point)?;
     if !wanting.is_empty() {
         add_cuts(alloc, task, draft, &wanting)?;
@@ -55,7 +55,7 @@ fn finish(
     draft: &mut Draft,
     ended: Ended,
     work: &mut u64,
-) -> Result<Next, FormFault> {
+) -> Result<Next, ArithmeticFault> {
     match guess_from(alloc, &draft.program, ended, &mut draft.standings, work)? {
         Guessed::Optimal(solution) => with_point(alloc, task, draft, &solution),
         Guessed::Infeasible(numbers) => {
@@ -67,7 +67,12 @@ fn finish(
 }
 
 /// Solves in floats; then cuts become rows, or it ends.
-fn round(alloc: Global, task: &Task, draft: &mut Draft, work: &mut u64) -> Result<Next, FormFault> {
+fn round(
+    alloc: Global,
+    task: &Task,
+    draft: &mut Draft,
+    work: &mut u64,
+) -> Result<Next, ArithmeticFault> {
     let mut ended = solve(alloc, draft.program.floats(), &draft.standings, *work)?;
     *work = ended.work_left;
     let wanting = wanting(alloc, draft, &ended)?;
@@ -85,7 +90,7 @@ fn rounds(
     task: &Task,
     draft: &mut Draft,
     work: u64,
-) -> Result<Option<Guess>, FormFault> {
+) -> Result<Option<Guess>, ArithmeticFault> {
     let mut left = work;
     for _round in 0..ROUNDS {
         match round(alloc, task, draft, &mut left)? {
@@ -147,14 +152,19 @@ pub(crate) struct Attempt {
 }
 
 /// A guess that begins with a hint, where no number passes.
-fn attempted(alloc: Global, task: &Task, hint: &Hint, work: u64) -> Result<Attempt, FormFault> {
+fn attempted(
+    alloc: Global,
+    task: &Task,
+    hint: &Hint,
+    work: u64,
+) -> Result<Attempt, ArithmeticFault> {
     let mut draft = first_draft(alloc, task, hint)?;
     add_first(alloc, task, &mut draft, hint)?;
     let guess = match rounds(alloc, task, &mut draft, work) {
         Ok(guess) => guess,
-        Err(FormFault::Passed(_)) => None,
-        Err(FormFault::Memory) => {
-            return Err(FormFault::Memory);
+        Err(ArithmeticFault::Passed(_)) => None,
+        Err(ArithmeticFault::Memory) => {
+            return Err(ArithmeticFault::Memory);
         }
     };
     let hint = hint_of(alloc, &draft)?;
@@ -174,10 +184,10 @@ pub(crate) fn try_guess(
     let from = hint.unwrap_or(Hint::blank(alloc));
     match attempted(alloc, task, &from, work) {
         Ok(attempt) => Ok(attempt),
-        Err(FormFault::Passed(_)) => Ok(Attempt {
+        Err(ArithmeticFault::Passed(_)) => Ok(Attempt {
             guess: None,
             hint: None,
         }),
-        Err(FormFault::Memory) => Err(Memory),
+        Err(ArithmeticFault::Memory) => Err(Memory),
     }
 }

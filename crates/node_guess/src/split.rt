@@ -2,7 +2,7 @@
 
 use basis_factors::Entry;
 use cut_defs::ColumnBounds;
-use frac128::{Form, FormFault, Frac, Term};
+use frac128::{ArithmeticFault, Form, Frac, Term};
 use std::alloc::Global;
 
 /// The place of a column among those that rise, by halving.
@@ -63,7 +63,7 @@ pub(crate) fn split_form(
     bounds: &[ColumnBounds],
     trial: &Form,
     terms: &[Term],
-) -> Result<Split, FormFault> {
+) -> Result<Split, ArithmeticFault> {
     let mut entries = Vec::new(alloc);
     let mut outer = Frac::zero();
     for term in terms {

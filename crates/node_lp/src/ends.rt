@@ -14,7 +14,7 @@ ghost use Rattle.node_lp.specs.Walk.{point_from, child_walk, children_from, tota
 
 use cut_defs::{ColumnBounds, Share};
 use cut_proof::push_nonzero;
-use frac128::{Form, FormFault, Frac, Memory, Passed, Term};
+use frac128::{ArithmeticFault, Form, Frac, Memory, Passed, Term};
 use interval_form::{Part, Vector, limit_count, part_at, split, sum, value};
 use scen_defs::NodeRow;
 use std::alloc::Global;
@@ -24,7 +24,7 @@ pub(crate) fn own_multipliers(
     alloc: Global,
     rows: &[NodeRow],
     duals: &[Frac],
-) -> Result<Form, FormFault>
+) -> Result<Form, ArithmeticFault>
     requires { RowsRise 0 rows.now }
     ensures { IfNotMemory result (multipliers_from [] rows.now duals.now) }
 {
@@ -55,7 +55,7 @@ pub(crate) fn point(
     bounds: &[ColumnBounds],
     parts: &[Part],
     found: &Form,
-) -> Result<Form, FormFault>
+) -> Result<Form, ArithmeticFault>
     requires { BoundsRise 0 bounds.now }
     ensures { IfNotMemory result (point_from (coefficient found.now) parts.now [] 0 bounds.now) }
 {

@@ -16,8 +16,8 @@ use crate::solve::is_priced;
 use crate::task::Task;
 use cut_defs::{ColumnBounds, CutKind, Share};
 use cut_proof::{ChildCuts, Cut, SharedCut};
-use cut_sums::{Unfinished, is_own, near};
-use frac128::{Form, FormFault, Frac, Passed, Term};
+use cut_sums::{is_own, near};
+use frac128::{ArithmeticFault, Form, Frac, Passed, Term, Unfinished};
 use interval_form::split;
 use scen_defs::NodeRow;
 
@@ -79,10 +79,10 @@ fn value_at(start: Frac, form: &[Term], values: &Form) -> Result<Frac, Passed>
 }
 
 /// Why there is no sum.
-fn unfinished(fault: FormFault) -> Unfinished {
+fn unfinished(fault: ArithmeticFault) -> Unfinished {
     match fault {
-        FormFault::Passed(_) => Unfinished::Walk,
-        FormFault::Memory => Unfinished::Memory,
+        ArithmeticFault::Passed(_) => Unfinished::Walk,
+        ArithmeticFault::Memory => Unfinished::Memory,
     }
 }
 

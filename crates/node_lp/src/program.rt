@@ -16,7 +16,7 @@ ghost use Rattle.node_lp.specs.Walk.{cut_walk, cuts_from, child_cuts_from, AreCu
 
 use cut_defs::{ColumnBounds, CutKind, Share};
 use cut_proof::{ChildCuts, Cut, SharedCut};
-use frac128::{Form, FormFault, Frac, Memory, Term};
+use frac128::{ArithmeticFault, Form, Frac, Memory, Term};
 use interval_form::{Part, part_at, push_own, push_spread, right_side, spread_own};
 use slack_form::Limit;
 use smps_words::RowKind;
@@ -115,7 +115,7 @@ fn cut_limit(
     trial: &Form,
     child: usize,
     cut: &Cut,
-) -> Result<Limit, FormFault>
+) -> Result<Limit, ArithmeticFault>
     requires parts { AreParts 0 parts.now }
     requires one_each { length bounds.now ≤ length parts.now }
     requires rises { BoundsRise 0 bounds.now }
@@ -157,7 +157,7 @@ fn push_cuts(
     shares: &[Share],
     cuts: &[SharedCut],
     limits: &mut Vec<Limit>,
-) -> Result<(), FormFault>
+) -> Result<(), ArithmeticFault>
     requires parts { AreParts 0 parts.now }
     requires count { length parts.now ≡ length bounds.now + length (pick priced (frees shares.now) []) }
     requires few_bounds { length bounds.now < 2 ^ 32 }
@@ -187,7 +187,7 @@ pub(crate) fn push_children(
     shares: &[Share],
     children: &[ChildCuts],
     limits: &mut Vec<Limit>,
-) -> Result<(), FormFault>
+) -> Result<(), ArithmeticFault>
     requires parts { AreParts 0 parts.now }
     requires count { length parts.now ≡ length bounds.now + length (pick priced (frees shares.now) []) }
     requires few_bounds { length bounds.now < 2 ^ 32 }

@@ -23,7 +23,7 @@ use crate::task::Task;
 use cut_defs::{ColumnBounds, Share};
 use cut_proof::ChildCuts;
 use farkas_ray::is_ray;
-use frac128::{Form, FormFault, Frac, Memory};
+use frac128::{ArithmeticFault, Form, Frac, Memory};
 use interval_form::{Part, behind_own, own_limits, parts, push_bounds};
 use scen_defs::{Kind, NodeRow};
 use simplex_core::{Outcome, Standard, solve};
@@ -62,7 +62,7 @@ fn make_limits(
     shares: &[Share],
     children: &[ChildCuts],
     all: &[ColumnBounds],
-) -> Result<Limited, FormFault>
+) -> Result<Limited, ArithmeticFault>
     requires parts { AreParts 0 parts.now }
     requires one_each { length bounds.now ≤ length parts.now }
     requires rises { BoundsRise 0 bounds.now }
@@ -111,7 +111,7 @@ fn make_rows(
     task: &Task,
     all: &[ColumnBounds],
     parts: &[Part],
-) -> Result<Made, FormFault>
+) -> Result<Made, ArithmeticFault>
     requires problem { IsProblem (problem_of task.now) }
     requires all { all.now ≡ all_bounds (problem_of task.now) }
     requires parts { parts.now ≡ node_parts (problem_of task.now) }
@@ -124,7 +124,7 @@ fn make_rows(
     let priced = is_priced(task.kind);
     let limited = limits_of(alloc, task, priced, all, parts)?;
     if limited.rows.len() >= MANY {
-        return Err(FormFault::Memory);
+        return Err(ArithmeticFault::Memory);
     }
     let cost = cost_of(alloc, task, priced, parts)?;
     Ok(Made {
@@ -144,7 +144,7 @@ fn limits_of(
     priced: bool,
     all: &[ColumnBounds],
     parts: &[Part],
-) -> Result<Limited, FormFault>
+) -> Result<Limited, ArithmeticFault>
     requires problem { IsProblem (problem_of task.now) }
     requires priced { priced ≡ is_priced task.now.kind }
     requires all { all.now ≡ all_bounds (problem_of task.now) }
@@ -196,7 +196,7 @@ fn best(
     rows: &Made,
     found: &Form,
     duals: &[Frac],
-) -> Result<Found, FormFault>
+) -> Result<Found, ArithmeticFault>
     requires problem { IsProblem (problem_of task.now) }
     requires parts { parts.now ≡ node_parts (problem_of task.now) }
     requires cuts { rows.now.cuts ≡ length (problem_of task.now).cuts }
@@ -229,7 +229,7 @@ fn nowhere(
     rows: &Made,
     standard: &Standard,
     duals: &[Frac],
-) -> Result<Found, FormFault>
+) -> Result<Found, ArithmeticFault>
     requires problem { IsProblem (problem_of task.now) }
     requires cuts { rows.now.cuts ≡ length (problem_of task.now).cuts }
     requires one_each { length duals.now ≡ length rows.now.limits.rows.items }
@@ -252,7 +252,7 @@ fn ended(
     rows: &Made,
     standard: &Standard,
     outcome: Outcome,
-) -> Result<Found, FormFault>
+) -> Result<Found, ArithmeticFault>
     requires problem { IsProblem (problem_of task.now) }
     requires parts { parts.now ≡ node_parts (problem_of task.now) }
     requires cuts { rows.now.cuts ≡ length (problem_of task.now).cuts }
@@ -269,12 +269,12 @@ fn ended(
             ray: _ray,
         } => Ok(Found::Loose),
         Outcome::PivotsEnded => Ok(Found::PivotsEnded),
-        Outcome::Passed(_pivot, passed) => Err(FormFault::Passed(passed)),
+        Outcome::Passed(_pivot, passed) => Err(ArithmeticFault::Passed(passed)),
     }
 }
 
 /// Follows the path of the program's standard form.
-fn followed(alloc: Global, task: &Task) -> Result<Found, FormFault>
+fn followed(alloc: Global, task: &Task) -> Result<Found, ArithmeticFault>
     requires { IsProblem (problem_of task.now) }
     ensures exact { IfNotMemory result (solve_walk (problem_of task.now) task.now.pivots) }
     ensures sound { IfOk result (IsSound (problem_of task.now)) }
@@ -297,8 +297,8 @@ pub(crate) fn find(alloc: Global, task: &Task) -> Result<Found, Memory>
     match followed(alloc, task) {
         Ok(found) => Ok(found),
         Err(fault) => match fault {
-            FormFault::Passed(passed) => Ok(Found::Passed(passed)),
-            FormFault::Memory => Err(Memory),
+            ArithmeticFault::Passed(passed) => Ok(Found::Passed(passed)),
+            ArithmeticFault::Memory => Err(Memory),
         },
     }
 }

@@ -13,8 +13,7 @@ use crate::solve::is_priced;
 use crate::solved::Solved;
 use crate::task::Task;
 use cut_defs::CutKind;
-use cut_sums::Unfinished;
-use frac128::{Form, Frac, Memory};
+use frac128::{Form, Frac, Memory, Unfinished};
 use std::alloc::Global;
 
 /// A number is above 0.

@@ -6,8 +6,8 @@ use Rattle.rationals.specs.Forms.{add_scaled_walk}
 use Rattle.rationals.specs.Passes.{Operation, then_value}
 use Rattle.rationals.specs.Sparse.{Entry}
 use Rattle.rationals.specs.Choices.{pick}
-use Rattle.frac128.specs.declared.form.FormFault.{FormFault}
-use Rattle.frac128.specs.declared.form.FormFault.TheVariants as form_fault
+use Rattle.frac128.specs.declared.fault.ArithmeticFault.{ArithmeticFault}
+use Rattle.frac128.specs.declared.fault.ArithmeticFault.TheVariants as form_fault
 use Rattle.frac128.specs.Faults.{FaultOf}
 use Rattle.scen_defs.specs.Program.{Program}
 use Rattle.scen_defs.specs.declared.report.Kind.{Kind}
@@ -310,7 +310,7 @@ offer_passes p frame tree pivots trial cut n pools answer g e o is = go (pool_if
     }
 
 -- ---- an operation before a run opens
-pub assembly_fails : (p : Program) (frame : Frame) (tree : Tree) (pivots : ℕ) (cut : Stored) (f : FormFault) → IsCutOfSolve p frame tree pivots cut
+pub assembly_fails : (p : Program) (frame : Frame) (tree : Tree) (pivots : ℕ) (cut : Stored) (f : ArithmeticFault) → IsCutOfSolve p frame tree pivots cut
     → FaultOf (assembled cut) f → FailsToOpen p frame tree pivots (fault_of f)
 assembly_fails p frame tree pivots cut (form_fault.Passed o) g h = inl (record { cut = cut; given = g; passes = h })
 assembly_fails p frame tree pivots cut form_fault.Memory g h = tt

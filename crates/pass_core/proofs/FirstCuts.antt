@@ -15,8 +15,8 @@ use Rattle.scen_defs.specs.declared.report.Kind.TheVariants.{Recession}
 use Rattle.scen_defs.proofs.SumLaws.{each-map}
 use Rattle.scen_tree.specs.Trees.{Tree, tree_walk}
 use Rattle.edit_defs.proofs.Lists.{passes-within}
-use Rattle.frac128.specs.declared.form.FormFault.{FormFault}
-use Rattle.frac128.specs.declared.form.FormFault.TheVariants as form_fault
+use Rattle.frac128.specs.declared.fault.ArithmeticFault.{ArithmeticFault}
+use Rattle.frac128.specs.declared.fault.ArithmeticFault.TheVariants as form_fault
 use Rattle.frac128.specs.Faults.{FaultOf}
 use Rattle.cut_defs.specs.Data.{Datum}
 use Rattle.cut_defs.specs.Stored.{Stored, source_of}
@@ -146,7 +146,7 @@ module _ (kind : Kind) (p : Program) (tree : Tree) (versions : List Version) (du
   first_fails f (Err e) is h = subst (FaultsFirst kind p tree versions dual) (sym is) h
 
 -- ---- where there are none
-pub dual_faults : (cut : Stored) (f : FormFault) → FaultOf (assembled cut) f → FaultsDual Recession (Some cut) (fault_of f)
+pub dual_faults : (cut : Stored) (f : ArithmeticFault) → FaultOf (assembled cut) f → FaultsDual Recession (Some cut) (fault_of f)
 dual_faults cut (form_fault.Passed o) h = h
 dual_faults cut form_fault.Memory h = tt
 

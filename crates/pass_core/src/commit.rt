@@ -27,7 +27,7 @@ use crate::state::{Begun, State};
 use cut_pool::Offer;
 use cut_proof::SharedCut;
 use dual_assemble::join_policy;
-use frac128::{Form, FormFault, Frac, Memory};
+use frac128::{ArithmeticFault, Form, Frac, Memory};
 use node_lp::Solved;
 use proved_report::Open;
 use run_ends::{Bounded, Priced, cost};
@@ -260,8 +260,8 @@ impl State {
     {
         match self.lasts.keep(node, trial, point) {
             Ok(()) => Ok(true),
-            Err(FormFault::Memory) => Err(Memory),
-            Err(FormFault::Passed(_)) => {
+            Err(ArithmeticFault::Memory) => Err(Memory),
+            Err(ArithmeticFault::Passed(_)) => {
                 self.left_stuck();
                 Ok(false)
             }

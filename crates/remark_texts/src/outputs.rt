@@ -1,6 +1,6 @@
 //! Outputs in pieces of one byte, and in one piece; words that aren't those of a command.
 use run_remarks::{Noted, Watched, put_word_fault};
-use smps_io::{MemorySink, write_all};
+use smps_io::{MemorySink, Sink};
 use std::alloc::Global;
 use std::fmt::Write;
 use std::rt::Runtime;
@@ -25,7 +25,14 @@ REPORT 10001 PASSED ADD 3 4
 /// What an output that takes so many bytes at once notes of the reports.
 fn noted<R: Runtime>(rt: &R, alloc: Global, chunk: u64) -> Result<Noted, Fail> {
     let mut sink = Watched::over(MemorySink::new(alloc, chunk.max(1), Vec::new(alloc)));
-    write_all(rt, &mut sink, REPORTS.as_bytes())?;
+    let mut rest = REPORTS.as_bytes();
+    for _byte in REPORTS.as_bytes() {
+        if rest.is_empty() {
+            break;
+        }
+        let taken = sink.put(rt, rest)?;
+        rest = &rest[taken as usize..];
+    }
     Ok(sink.noted())
 }
 

@@ -5,8 +5,8 @@ use Rattle.rationals.specs.Rational.{one_ℚ}
 use Rattle.rationals.specs.Sparse.{Entry}
 use Rattle.rationals.specs.Forms.{add_scaled_walk}
 use Rattle.rationals.specs.Passes.{Operation, then_value}
-use Rattle.frac128.specs.declared.form.FormFault.{FormFault}
-use Rattle.frac128.specs.Faults.{form_says}
+use Rattle.frac128.specs.declared.fault.ArithmeticFault.{ArithmeticFault}
+use Rattle.frac128.specs.Faults.{arithmetic_says}
 use Rattle.rationals.specs.Replies.{IsReply, reply_by}
 use Rattle.scen_defs.specs.Values.{At}
 use Rattle.dual_assemble.specs.Values.{numbers_by_node, point_entries}
@@ -41,8 +41,8 @@ kept lasts n trial point =
     then_value (λ along. with_last lasts n (Some (record { point = point; along = along }))) (add_scaled_walk trial one_ℚ point)
 
 -- what is left is the walk's value, or the walk ends in the operation, or memory is wanting
-abbrev pub KeepsPoint : Result (List (Option Last)) Operation → Result (Unit {0}) FormFault → List (Option Last) → Type 0
-KeepsPoint walk result new = IsReply walk (reply_by (λ _. new) form_says result)
+abbrev pub KeepsPoint : Result (List (Option Last)) Operation → Result (Unit {0}) ArithmeticFault → List (Option Last) → Type 0
+KeepsPoint walk result new = IsReply walk (reply_by (λ _. new) arithmetic_says result)
 
 -- the points of all nodes by node and column
 abbrev pub joined_points : List (Option Last) → List At

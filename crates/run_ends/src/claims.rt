@@ -10,7 +10,7 @@ use crate::ends::{Bounded, Ends, Priced};
 use crate::settled::Settled;
 use cut_proof::SharedCut;
 use dual_assemble::assemble;
-use frac128::{FormFault, Memory, Passed};
+use frac128::{ArithmeticFault, Memory, Passed};
 use proved_report::{Claim, Open};
 use scen_defs::{Place, Values};
 use std::alloc::Global;
@@ -78,12 +78,12 @@ fn assembled(alloc: Global, cut: &SharedCut) -> Result<Multipliers, Memory>
 }
 
 /// What is found where the assembly of multipliers ends in a fault.
-fn unassembled(fault: FormFault) -> Result<Multipliers, Memory>
+fn unassembled(fault: ArithmeticFault) -> Result<Multipliers, Memory>
     ensures { (walk : Result (List At) Operation) → FaultOf walk fault → IfOk result (λ m. m ≡ found_or walk) }
 {
     match fault {
-        FormFault::Passed(passed) => Ok(Multipliers::Not(passed)),
-        FormFault::Memory => Err(Memory),
+        ArithmeticFault::Passed(passed) => Ok(Multipliers::Not(passed)),
+        ArithmeticFault::Memory => Err(Memory),
     }
 }
 

@@ -5,7 +5,7 @@ ghost use Rattle.rationals.specs.Forms.{add_scaled_walk};
 ghost use Rattle.rationals.specs.Rational.{one_ℚ};
 ghost use Rattle.run_ends.specs.Lasts.{last_at, last_point, along_of, trial_of, with_last, kept, KeepsPoint};
 
-use frac128::{Form, FormFault, Frac, Memory};
+use frac128::{ArithmeticFault, Form, Frac, Memory};
 use std::alloc::Global;
 
 /// What a node's last solve in the present run gave, where it has a point.
@@ -57,7 +57,7 @@ impl Lasts {
     }
 
     /// Keeps a point of a node that was solved at this trial.
-    pub fn keep(&mut self, node: u32, trial: &Form, point: Form) -> Result<(), FormFault>
+    pub fn keep(&mut self, node: u32, trial: &Form, point: Form) -> Result<(), ArithmeticFault>
         ensures walk { KeepsPoint (kept self.old.nodes.items node trial.now point) result self.new.nodes.items }
         ensures err { OnErr result (self.new ≡ self.old) }
     {
@@ -129,7 +129,7 @@ fn along_of(alloc: Global, place: &Option<Last>) -> Result<Form, Memory>
 }
 
 /// A point with the values above it; no column stands in both.
-fn along_with(trial: &Form, point: &Form) -> Result<Form, FormFault>
+fn along_with(trial: &Form, point: &Form) -> Result<Form, ArithmeticFault>
     ensures { IfNotMemory result (add_scaled_walk trial.now one_ℚ point.now) }
 {
     trial.add_scaled(Frac::one(), point)

@@ -14,8 +14,8 @@ use Rattle.scen_defs.specs.Program.{View, Program, is_live, view_of}
 use Rattle.scen_defs.specs.Flat.{up, home}
 use Rattle.scen_model.specs.declared.stop.Stop.{Stop}
 use Rattle.scen_model.specs.declared.stop.Stop.TheVariants.{Decided as DecidedStop}
-use Rattle.scen_model.specs.declared.unfinished.Ended.{Ended}
-use Rattle.scen_model.specs.declared.unfinished.Ended.TheVariants.{Decided, Walk, Memory}
+use Rattle.scen_model.specs.declared.ended.Ended.{Ended}
+use Rattle.scen_model.specs.declared.ended.Ended.TheVariants.{Decided, Walk, Memory}
 use Rattle.rationals.specs.Forms.{product_from}
 use Rattle.scen_model.specs.Walks.{cost_walk, stopping, test, total_walk, worth_step, fold_walk}
 

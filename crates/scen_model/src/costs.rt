@@ -10,8 +10,7 @@ ghost use Rattle.scen_model.specs.Gathered.{cost_step_with, costs_with};
 
 use crate::ends::number_at;
 use crate::totals::{all_totals, total, totals};
-use crate::unfinished::Unfinished;
-use frac128::{Frac, Memory, Passed, Term};
+use frac128::{Frac, Memory, Passed, Term, Unfinished};
 use scen_defs::{Halt, Place, Program, Scenario, Values};
 use std::alloc::Global;
 

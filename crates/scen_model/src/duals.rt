@@ -10,12 +10,12 @@ ghost use Rattle.scen_model.specs.Walks.{costs_of, less_all, reduced_walk};
 ghost use Rattle.scen_model.specs.Walks.{bound_step, columns_step, all_columns, dual_by, dual_walk};
 
 use crate::charges::{Costs, cost_at};
+use crate::ended::Ended;
 use crate::ends::add_worth;
 use crate::quick::quick_value;
 use crate::rows::add_all_rows;
 use crate::stop::Stop;
 use crate::totals::{total, totals};
-use crate::unfinished::Ended;
 use frac128::{Frac, Passed};
 use scen_defs::{Halt, NodeRow, Place, Program, Values};
 use scen_nodes::{is_above, stage};

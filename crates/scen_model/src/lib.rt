@@ -4,6 +4,7 @@
 mod charges;
 mod costs;
 mod duals;
+mod ended;
 mod ends;
 mod feasibility;
 mod laws;
@@ -13,7 +14,6 @@ mod rows;
 mod seats;
 mod stop;
 mod totals;
-mod unfinished;
 
 pub use costs::cost;
 pub use duals::{dual_value, zero_value};

@@ -6,13 +6,13 @@ ghost use Rattle.scen_model.specs.Walks.{fold_walk, costs_of, all_columns, dual_
 ghost use Rattle.scen_model.specs.Gathered.{AreTotals, lists_in, column_number, columns_with, Finishes};
 
 use crate::charges::Costs;
+use crate::ended::Ended;
 use crate::ends::{add_worth, number_at};
 use crate::reduced::{reduced_costs, seat_at};
 use crate::rows::add_all_rows;
 use crate::seats::seated;
 use crate::stop::Stop;
 use crate::totals::all_totals;
-use crate::unfinished::Ended;
 use frac128::Frac;
 use scen_defs::{Program, Values};
 use scen_nodes::stage;

@@ -15,8 +15,7 @@ ghost use Rattle.scen_model.specs.Gathered.{ArePriced, IsPriced, AllPriced, AreA
 use crate::charges::{Costs, cost_at};
 use crate::ends::number_at;
 use crate::seats::Seating;
-use crate::unfinished::Unfinished;
-use frac128::{Frac, Term};
+use frac128::{Frac, Term, Unfinished};
 use scen_defs::{NodeRow, Program, Values};
 use scen_nodes::{find, parent, stage as stage_of};
 use std::alloc::Global;

@@ -2,7 +2,7 @@
 ghost use Rattle.std.specs.Prelude.{IsTrue, IfOk};
 ghost use Rattle.scen_model.specs.Gathered.{lists_in, IsSeated, AreSeated, AreStages};
 
-use crate::unfinished::Unfinished;
+use frac128::Unfinished;
 use scen_defs::{Column, Program};
 use std::alloc::Global;
 

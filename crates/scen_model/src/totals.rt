@@ -9,8 +9,7 @@ ghost use Rattle.scen_defs.specs.Walks.{total_from};
 ghost use Rattle.scen_model.specs.Walks.{totals_walk};
 ghost use Rattle.scen_model.specs.Gathered.{Moves, everywhere, AreTotals};
 
-use crate::unfinished::Unfinished;
-use frac128::{Frac, Passed};
+use frac128::{Frac, Passed, Unfinished};
 use scen_defs::{Program, Scenario};
 use std::alloc::Global;
 

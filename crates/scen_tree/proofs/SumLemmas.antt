@@ -8,12 +8,13 @@ use Rattle.rationals.proofs.OrderMeaning.{mul_walk_zero}
 use Rattle.rationals.proofs.Lowest.{num_zero}
 use Rattle.rationals.specs.Choices.{pick}
 use Rattle.std.specs.Result.{MatchResult, IsErrAnd}
-use Rattle.scen_tree.specs.declared.fault.TreeFault.{TreeFault}
-use Rattle.scen_tree.specs.declared.fault.TreeFault.TheVariants.{Passed}
+use Rattle.frac128.specs.declared.fault.ArithmeticFault.{ArithmeticFault}
+use Rattle.frac128.specs.declared.fault.ArithmeticFault.TheVariants.{Passed}
 use Rattle.scen_defs.specs.Lists.{is_in}
 use Rattle.scen_defs.specs.Program.{Scenario}
 use Rattle.scen_defs.specs.Walks.{total_from}
-use Rattle.scen_tree.specs.Chances.{Sum, gathered_from, TreeFaultOf}
+use Rattle.frac128.specs.Faults.{FaultOf}
+use Rattle.scen_tree.specs.Chances.{Sum, gathered_from}
 use Rattle.scen_tree.specs.Sums.{more, with_path, sums_through}
 
 -- the sums with the probabilities of further scenarios
@@ -161,6 +162,6 @@ pub gathered_ends : (built : List ℚ) (sum : Sum) (p : Operation) (sums : List 
 gathered_ends built sum p sums e = ap (λ s. then_walk s (λ v. gathered_from (built ++ v ∷ []) sums)) e
 
 -- a call that hands on the operation in which its walk ends
-pub passed : {X Y : Type 0} (result : Result X TreeFault) (walk : Result Y Operation) (p : Operation) (Q : X → Type 0) → IsErrAnd result (λ e. e ≡ Passed p) → walk ≡ Err p → MatchResult result Q (TreeFaultOf walk)
+pub passed : {X Y : Type 0} (result : Result X ArithmeticFault) (walk : Result Y Operation) (p : Operation) (Q : X → Type 0) → IsErrAnd result (λ e. e ≡ Passed p) → walk ≡ Err p → MatchResult result Q (FaultOf walk)
 passed (Ok x) walk p Q is e = absurd is
-passed (Err fault) walk p Q is e = subst (TreeFaultOf walk) (sym is) e
+passed (Err fault) walk p Q is e = subst (FaultOf walk) (sym is) e

@@ -1,15 +1,11 @@
 -- The totals of nodes and their shares, operation by operation: the totals by node, each by scenario, and then the shares by node.
-use Rattle.std.specs.Prelude.{◌≡◌, ℕ, suc, List, [], ◌∷◌, ◌++◌, Result, Ok, Err, get_or}
-use Rattle.rationals.specs.Replies.{Reply, IsReply}
-use Rattle.rationals.specs.Replies.Reply.{Says, Silent}
+use Rattle.std.specs.Prelude.{◌≡◌, ℕ, suc, List, [], ◌∷◌, ◌++◌, Result, Ok, get_or}
 use Rattle.rationals.specs.Rational.{ℚ, zero_ℚ, one_ℚ}
 use Rattle.rationals.specs.Passes.{Operation, div_walk, then_walk}
 use Rattle.scen_defs.specs.Program.{Scenario}
 use Rattle.scen_defs.specs.Walks.{total_from}
 use Rattle.scen_tree.specs.declared.position.Position.{Position}
 use Rattle.scen_tree.specs.declared.position.Position.TheVariants.{Dropped, Root, Below}
-use Rattle.scen_tree.specs.declared.fault.TreeFault.{TreeFault}
-use Rattle.scen_tree.specs.declared.fault.TreeFault.TheVariants.{Passed, Memory}
 use Rattle.scen_tree.specs.declared.shares.Chances.{Chances as ChancesOf}
 
 -- a sum, or the operation in which it ends
@@ -63,12 +59,3 @@ abbrev pub chances_walk : List Position → List Scenario → Result Chances Ope
 chances_walk positions scenarios =
     then_walk (totals_walk positions scenarios) (λ totals. then_walk (shares_walk totals positions)
     (λ shares. Ok (record { totals = totals; shares = shares })))
-
--- what an error says: the operation in which the walk ends
-abbrev pub tree_says : {X : Type 0} → TreeFault → Reply (Result X Operation)
-tree_says (Passed p) = Says (Err p)
-tree_says Memory = Silent
-
--- what an error says of a walk
-abbrev pub TreeFaultOf : {X : Type 0} → Result X Operation → TreeFault → Type 0
-TreeFaultOf walk fault = IsReply walk (tree_says fault)

@@ -2,14 +2,12 @@
 #![tactic(auto)]
 
 mod children;
-mod fault;
 mod position;
 mod shares;
 mod totals;
 mod tree;
 
-pub use children::Children;
-pub use fault::TreeFault;
+pub use children::{Children, children_of};
 pub use position::Position;
 pub use shares::{Chances, node_chances};
-pub use tree::Tree;
+pub use tree::{Tree, positions_of};

@@ -3,12 +3,12 @@ ghost use Rattle.std.specs.Prelude.{◌≡◌, ◌<◌, ◌^◌, MatchResult, []
 ghost use Rattle.rationals.specs.Rational.{zero_ℚ};
 ghost use Rattle.rationals.specs.Passes.{div_walk};
 ghost use Rattle.scen_defs.specs.Program.{scenarios_content};
-ghost use Rattle.scen_tree.specs.Chances.{share_walk, shares_from, gathered_from, chances_walk, chances_of, TreeFaultOf};
+ghost use Rattle.frac128.specs.Faults.{FaultOf};
+ghost use Rattle.scen_tree.specs.Chances.{share_walk, shares_from, gathered_from, chances_walk, chances_of};
 
-use crate::fault::TreeFault;
 use crate::position::Position;
 use crate::totals::totals;
-use frac128::{Frac, Passed};
+use frac128::{ArithmeticFault, Frac, Passed};
 use scen_defs::Scenario;
 use std::alloc::Global;
 
@@ -56,10 +56,14 @@ fn share(totals: &[Frac], total: Frac, position: Position) -> Result<Frac, Passe
 }
 
 /// The shares of the nodes; or, by node, the first quotient that passes.
-fn shares(alloc: Global, totals: &[Frac], positions: &[Position]) -> Result<Vec<Frac>, TreeFault>
+fn shares(
+    alloc: Global,
+    totals: &[Frac],
+    positions: &[Position],
+) -> Result<Vec<Frac>, ArithmeticFault>
     requires { length positions.now < 2 ^ 32 }
     ensures { MatchResult result (λ shares. gathered_from [] (shares_from totals.now 0 positions.now) ≡ Ok shares.items)
-        (TreeFaultOf (gathered_from [] (shares_from totals.now 0 positions.now))) }
+        (FaultOf (gathered_from [] (shares_from totals.now 0 positions.now))) }
 {
     let mut shares = Vec::with_capacity(alloc, positions.len())?;
     for (node, position) in positions.iter().enumerate() {
@@ -76,10 +80,10 @@ pub fn node_chances(
     alloc: Global,
     positions: &[Position],
     scenarios: &[Scenario],
-) -> Result<Chances, TreeFault>
+) -> Result<Chances, ArithmeticFault>
     requires { length positions.now < 2 ^ 32 }
     ensures { MatchResult result (λ chances. chances_walk positions.now (scenarios_content scenarios.now) ≡ Ok (chances_of chances))
-        (TreeFaultOf (chances_walk positions.now (scenarios_content scenarios.now))) }
+        (FaultOf (chances_walk positions.now (scenarios_content scenarios.now))) }
 {
     let totals = totals(alloc, positions, scenarios)?;
     let shares = shares(alloc, &totals, positions)?;

@@ -3,12 +3,12 @@ ghost use Rattle.std.specs.Prelude.{◌≡◌, OnOk, IfOk, MatchResult, [], Ok, 
 ghost use Rattle.rationals.specs.Rational.{zero_ℚ};
 ghost use Rattle.scen_defs.specs.Lists.{is_in};
 ghost use Rattle.scen_defs.specs.Program.{scenarios_content};
-ghost use Rattle.scen_tree.specs.Chances.{live_sum, live_sums_from, gathered_from, TreeFaultOf};
+ghost use Rattle.frac128.specs.Faults.{FaultOf};
+ghost use Rattle.scen_tree.specs.Chances.{live_sum, live_sums_from, gathered_from};
 ghost use Rattle.scen_tree.specs.Sums.{more, with_path, sums_through};
 
-use crate::fault::TreeFault;
 use crate::position::Position;
-use frac128::{Frac, Passed};
+use frac128::{ArithmeticFault, Frac, Passed};
 use scen_defs::Scenario;
 use std::alloc::{AllocError, Global};
 
@@ -86,10 +86,10 @@ pub(crate) fn totals(
     alloc: Global,
     positions: &[Position],
     scenarios: &[Scenario],
-) -> Result<Vec<Frac>, TreeFault>
+) -> Result<Vec<Frac>, ArithmeticFault>
     ensures { MatchResult result (λ totals. gathered_from [] (live_sums_from 0 positions.now (scenarios_content scenarios.now))
         ≡ Ok totals.items)
-        (TreeFaultOf (gathered_from [] (live_sums_from 0 positions.now (scenarios_content scenarios.now)))) }
+        (FaultOf (gathered_from [] (live_sums_from 0 positions.now (scenarios_content scenarios.now)))) }
 {
     let sums = sums_through(alloc, positions.len(), scenarios)?;
     let mut totals = Vec::with_capacity(alloc, positions.len())?;

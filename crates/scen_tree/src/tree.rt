@@ -2,14 +2,13 @@
 ghost use Rattle.std.specs.Prelude.{◌≡◌, ◌<◌, ◌^◌, length, map, get_or, [], MatchResult, Ok, IfOk};
 ghost use Rattle.rationals.specs.Rational.{zero_ℚ};
 ghost use Rattle.scen_defs.specs.Program.{content, place_content, nodes_content};
-ghost use Rattle.scen_tree.specs.Chances.{TreeFaultOf};
+ghost use Rattle.frac128.specs.Faults.{FaultOf};
 ghost use Rattle.scen_tree.specs.Trees.{position_by, position_of, tree_walk};
 
 use crate::children::{Children, children_of};
-use crate::fault::TreeFault;
 use crate::position::Position;
 use crate::shares::{Chances, node_chances, number_at};
-use frac128::Frac;
+use frac128::{ArithmeticFault, Frac};
 use scen_defs::{Node, Program};
 use std::alloc::{AllocError, Global};
 use std::marker::Model;
@@ -50,7 +49,7 @@ fn position_of(place: &Option<Node>) -> Position
 }
 
 /// Where each node stands.
-fn positions_of(alloc: Global, nodes: &[Option<Node>]) -> Result<Vec<Position>, AllocError>
+pub fn positions_of(alloc: Global, nodes: &[Option<Node>]) -> Result<Vec<Position>, AllocError>
     ensures { IfOk result (λ positions. positions.items ≡ map position_of (nodes_content nodes.now)) }
 {
     let mut positions = Vec::new(alloc);
@@ -63,10 +62,10 @@ fn positions_of(alloc: Global, nodes: &[Option<Node>]) -> Result<Vec<Position>, 
 impl Tree {
     /// The tree of a program. `Passed` names the first operation that passes: of the totals by node, each by
     /// scenario, and then of the shares by node.
-    pub fn of(alloc: Global, program: &Program) -> Result<Tree, TreeFault>
+    pub fn of(alloc: Global, program: &Program) -> Result<Tree, ArithmeticFault>
         requires { length program.now.nodes.items < 2 ^ 32 }
         ensures { MatchResult result (λ tree. tree_walk (content program.now) ≡ Ok tree)
-            (TreeFaultOf (tree_walk (content program.now))) }
+            (FaultOf (tree_walk (content program.now))) }
     {
         let positions = positions_of(alloc, &program.nodes)?;
         let chances = node_chances(alloc, &positions, &program.scenarios)?;

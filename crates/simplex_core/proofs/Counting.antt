@@ -6,7 +6,7 @@ use Rattle.rationals.specs.Sparse.{Entry}
 use Rattle.std.specs.Prelude.{MatchResult}
 use Rattle.std.specs.Result.{IsErrAnd}
 use Rattle.frac128.specs.Faults.{FaultOf}
-use Rattle.frac128.specs.declared.form.FormFault.{FormFault}
+use Rattle.frac128.specs.declared.fault.ArithmeticFault.{ArithmeticFault}
 use Rattle.lp_defs.specs.Walks.{Walk}
 use Rattle.lp_defs.specs.Lines.{value_at}
 use Rattle.lp_defs.specs.Phases.{unit_duals, first_duals}
@@ -39,6 +39,6 @@ failed_first d whole c e o r one at p h s k q m w =
     sym (first_here d whole c e o h w) ∙ ap (λ (x : Walk ℚ). then_walk x (λ y. first_duals (suc c) (e - (c + 1)) o (d ++ y ∷ []))) z
 
 -- an error that is passed on
-pub passed_on : {A X : Type 0} (w : Walk A) (P : X → Type 0) (r : Result X FormFault) (f : FormFault) → FaultOf w f → IsErrAnd r (λ e. e ≡ f) → MatchResult r P (FaultOf w)
+pub passed_on : {A X : Type 0} (w : Walk A) (P : X → Type 0) (r : Result X ArithmeticFault) (f : ArithmeticFault) → FaultOf w f → IsErrAnd r (λ e. e ≡ f) → MatchResult r P (FaultOf w)
 passed_on w P (Ok x) f h k = absurd k
 passed_on w P (Err e) f h k = subst (FaultOf w) (sym k) h

@@ -1,8 +1,8 @@
 -- How the pivots on artificial columns go on.
 use Rattle.std.proofs.Common.{◌≡◌, ℕ, zero, suc, ◌<◌, ◌+◌, ◌-◌, List, Option, Some, None, Result, Ok, Err, length, get_or, sym, ap, ◌∙◌, subst, arith}
 use Rattle.std.specs.Prelude.{IfOk}
-use Rattle.frac128.specs.declared.form.FormFault.{FormFault}
-use Rattle.frac128.specs.declared.form.FormFault.TheVariants as fault
+use Rattle.frac128.specs.declared.fault.ArithmeticFault.{ArithmeticFault}
+use Rattle.frac128.specs.declared.fault.ArithmeticFault.TheVariants as fault
 use Rattle.frac128.specs.declared.memory.Memory.{Memory}
 use Rattle.frac128.specs.Faults.{FaultOf}
 use Rattle.rationals.specs.Rational.{zero_ℚ}
@@ -48,7 +48,7 @@ pub next_here : (n len i p k j : ℕ) (t u : Tableau) (whole : Driven) → i < l
 next_here n len i p k j t u whole h m e q w =
     sym (ap (λ (x : Result Tableau Operation). driven_by (k + 1) x (λ next. driven n (len - (i + 1)) (i + 1) (p - (k + 1)) (k + 1) next)) q) ∙ pivot_here n len i p k j t whole h m e w
 
-pub stop_here : (n len i p k j : ℕ) (t new : Tableau) (whole : Driven) (f : FormFault) (r : Result End Memory) → i < len → k < p → replacing n (row_at t.rows i) ≡ Some j → FaultOf (pivoted j i t) f → StopsDrive f (k + 1) r
+pub stop_here : (n len i p k j : ℕ) (t new : Tableau) (whole : Driven) (f : ArithmeticFault) (r : Result End Memory) → i < len → k < p → replacing n (row_at t.rows i) ≡ Some j → FaultOf (pivoted j i t) f → StopsDrive f (k + 1) r
     → driven n (len - i) i (p - k) k t ≡ whole → IfOk r (λ e. Drove whole e new)
 stop_here n len i p k j t new whole f r h m e q s w = go r s
   where

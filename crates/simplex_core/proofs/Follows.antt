@@ -1,8 +1,8 @@
 -- What the steps of a path say of the whole.
 use Rattle.std.proofs.Common.{◌≡◌, ℕ, ◌<◌, ◌+◌, ◌-◌, Result, Ok, Err, sym, ap, ◌∙◌, subst}
 use Rattle.std.specs.Prelude.{IfOk}
-use Rattle.frac128.specs.declared.form.FormFault.{FormFault}
-use Rattle.frac128.specs.declared.form.FormFault.TheVariants as fault
+use Rattle.frac128.specs.declared.fault.ArithmeticFault.{ArithmeticFault}
+use Rattle.frac128.specs.declared.fault.ArithmeticFault.TheVariants as fault
 use Rattle.frac128.specs.declared.memory.Memory.{Memory}
 use Rattle.rationals.specs.Passes.{Operation}
 use Rattle.lp_defs.specs.Path.{Tableau, Ending, Done, Open, Stopped, path}
@@ -22,11 +22,11 @@ open_here n p m j t new whole s h e f g = sym (rest n p m t whole h e) ∙ subst
 pub further_here : (n p m : ℕ) (t new : Tableau) (whole : Ending) (s : Step) → m < p → path n (p - m) m t ≡ whole → s ≡ step.Pivoted → Steps n t (Ok s) new → path n (p - (m + 1)) (m + 1) new ≡ whole
 further_here n p m t new whole s h e f g = sym (subst (λ (r : Step). Steps n t (Ok r) new) f g (p - (m + 1)) m) ∙ rest n p m t whole h e
 
-pub stops_here : (n p m : ℕ) (t new : Tableau) (whole : Ending) (f : FormFault) (r : Result End Memory) → m < p → path n (p - m) m t ≡ whole → Steps n t (Err f) new → Stops f (m + 1) r → IfOk r (λ e. Reached whole e new)
+pub stops_here : (n p m : ℕ) (t new : Tableau) (whole : Ending) (f : ArithmeticFault) (r : Result End Memory) → m < p → path n (p - m) m t ≡ whole → Steps n t (Err f) new → Stops f (m + 1) r → IfOk r (λ e. Reached whole e new)
 stops_here n p m t new whole f r h e g s = go r s
   where
     at : (o : Operation) → f ≡ fault.Passed o → whole ≡ Stopped (m + 1) o
-    at o k = sym (rest n p m t whole h e) ∙ subst (λ (x : FormFault). Steps n t (Err x) new) k g (p - (m + 1)) m
+    at o k = sym (rest n p m t whole h e) ∙ subst (λ (x : ArithmeticFault). Steps n t (Err x) new) k g (p - (m + 1)) m
 
     go : (r : Result End Memory) → Stops f (m + 1) r → IfOk r (λ e. Reached whole e new)
     go (Ok (end.Passed k o)) s = at o s.0 ∙ ap (λ (i : ℕ). Stopped i o) (sym s.1)
@@ -35,7 +35,7 @@ stops_here n p m t new whole f r h e g s = go r s
     go (Ok end.PivotsEnded) s = absurd s
     go (Err w) s = tt
 
-pub stops_within : (pivots : ℕ) (f : FormFault) (k : ℕ) (r : Result End Memory) → Stops f k r → IfOk r (EndsWithin pivots)
+pub stops_within : (pivots : ℕ) (f : ArithmeticFault) (k : ℕ) (r : Result End Memory) → Stops f k r → IfOk r (EndsWithin pivots)
 stops_within pivots f k (Ok (end.Passed i o)) s = tt
 stops_within pivots f k (Ok (end.Done i)) s = absurd s
 stops_within pivots f k (Ok (end.Open j)) s = tt

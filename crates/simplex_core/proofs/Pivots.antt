@@ -10,16 +10,16 @@ use Rattle.rationals.specs.Passes.{Operation}
 use Rattle.lp_defs.specs.Lines.{Line, value_at, divided, cleared_form}
 use Rattle.lp_defs.specs.Path.{Row, Tableau, row_at, pivoted, pivoted_by, cleared_rows}
 use Rattle.simplex_core.specs.Gives.{Gives}
-use Rattle.frac128.specs.declared.form.FormFault.{FormFault}
+use Rattle.frac128.specs.declared.fault.ArithmeticFault.{ArithmeticFault}
 use Rattle.frac128.specs.Faults.{FaultOf}
-use Rattle.frac128.specs.declared.form.FormFault.TheVariants as fault
+use Rattle.frac128.specs.declared.fault.ArithmeticFault.TheVariants as fault
 
-ends : {A B : Type 0} (v : Walk A) (w : Walk B) (f : FormFault) → ((p : Operation) → w ≡ Err p → v ≡ Err p) → FaultOf w f → FaultOf v f
+ends : {A B : Type 0} (v : Walk A) (w : Walk B) (f : ArithmeticFault) → ((p : Operation) → w ≡ Err p → v ≡ Err p) → FaultOf w f → FaultOf v f
 ends v w (fault.Passed p) go h = go p h
 ends v w fault.Memory go h = tt
 
 -- the error of a part is that of the whole
-pub carry : {A B C : Type 0} (v : Walk A) (w : Walk B) (r : Result C FormFault) (f : FormFault) (new : A) → ((p : Operation) → w ≡ Err p → v ≡ Err p) → FaultOf w f → IsErrAnd r (λ e. e ≡ f) → Gives v r new
+pub carry : {A B C : Type 0} (v : Walk A) (w : Walk B) (r : Result C ArithmeticFault) (f : ArithmeticFault) (new : A) → ((p : Operation) → w ≡ Err p → v ≡ Err p) → FaultOf w f → IsErrAnd r (λ e. e ≡ f) → Gives v r new
 carry v w (Ok x) f new go h k = absurd k
 carry v w (Err e) f new go h k = subst (FaultOf v) (sym k) (ends v w f go h)
 

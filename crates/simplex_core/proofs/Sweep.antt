@@ -4,8 +4,8 @@ use Rattle.std.proofs.lemmas.List.{append-nil, length-set, length-replicate}
 use Rattle.std.proofs.lemmas.Bool.{le-ltb, lt-ltb, eqb-false}
 use Rattle.std.proofs.Math.Seq.{get_or-append_seam, set-append_seam}
 use Rattle.std.specs.Result.{IsErrAnd}
-use Rattle.frac128.specs.declared.form.FormFault.{FormFault}
-use Rattle.frac128.specs.declared.form.FormFault.TheVariants as fault
+use Rattle.frac128.specs.declared.fault.ArithmeticFault.{ArithmeticFault}
+use Rattle.frac128.specs.declared.fault.ArithmeticFault.TheVariants as fault
 use Rattle.frac128.specs.Faults.{FaultOf, IfNotMemory}
 use Rattle.rationals.specs.Rational.{ℚ, zero_ℚ, one_ℚ, zero_lt_one_ℚ, ne_of_gt_ℚ}
 use Rattle.rationals.specs.Passes.{less_product_walk, then_walk}
@@ -261,11 +261,11 @@ objective_is first count vs rows e a b c =
     ap (λ (f : List Entry). priced (unit_costs first count) rows f) (sym (ap (λ (l : List ℚ). gathered 0 l) e ∙ costs_are first count))
     ∙ rows_less (unit_costs first count) (first + count) vs rows (ap (λ (l : List ℚ). length l) e ∙ costs_long first count) a b c
 
-pub fault_of : (w : Walk (List ℚ)) (v : Walk (List Entry)) (f : FormFault) (r : Result (List Entry) FormFault) → v ≡ then_walk w (λ ws. Ok (gathered 0 ws)) → FaultOf w f → IsErrAnd r (λ e. e ≡ f) → IfNotMemory r v
+pub fault_of : (w : Walk (List ℚ)) (v : Walk (List Entry)) (f : ArithmeticFault) (r : Result (List Entry) ArithmeticFault) → v ≡ then_walk w (λ ws. Ok (gathered 0 ws)) → FaultOf w f → IsErrAnd r (λ e. e ≡ f) → IfNotMemory r v
 fault_of w v f (Ok x) e h k = absurd k
 fault_of w v f (Err g) e h k = subst (FaultOf v) (sym k) (at f h)
   where
-    at : (f : FormFault) → FaultOf w f → FaultOf v f
+    at : (f : ArithmeticFault) → FaultOf w f → FaultOf v f
     at (fault.Passed p) h = e ∙ ap (λ (x : Walk (List ℚ)). then_walk x (λ ws. Ok (gathered 0 ws))) h
     at fault.Memory h = tt
 

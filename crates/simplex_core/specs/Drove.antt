@@ -1,7 +1,7 @@
 -- How the code's pivots on artificial columns tell those of the definition.
 use Rattle.std.specs.Prelude.{◌≡◌, ℕ, ◌≤◌, Result, Ok, Err}
-use Rattle.frac128.specs.declared.form.FormFault.{FormFault}
-use Rattle.frac128.specs.declared.form.FormFault.TheVariants as fault
+use Rattle.frac128.specs.declared.fault.ArithmeticFault.{ArithmeticFault}
+use Rattle.frac128.specs.declared.fault.ArithmeticFault.TheVariants as fault
 use Rattle.frac128.specs.declared.memory.Memory.{Memory}
 use Rattle.lp_defs.specs.Path.{Tableau}
 use Rattle.lp_defs.specs.Phases.{Driven, Driven_out, Driven_long, Driven_stop}
@@ -20,7 +20,7 @@ DroveWithin pivots end.PivotsEnded = Unit {0}
 DroveWithin pivots (end.Passed k p) = Unit {0}
 
 -- the end that a fault makes
-abbrev pub StopsDrive : FormFault → ℕ → Result End Memory → Type 0
+abbrev pub StopsDrive : ArithmeticFault → ℕ → Result End Memory → Type 0
 StopsDrive f pivot (Ok (end.Passed k p)) = (f ≡ fault.Passed p) × (k ≡ pivot)
 StopsDrive f pivot (Ok (end.Out k)) = ⊥
 StopsDrive f pivot (Ok end.PivotsEnded) = ⊥

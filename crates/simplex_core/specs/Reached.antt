@@ -1,7 +1,7 @@
 -- How the code's steps and ends tell the path's.
 use Rattle.std.specs.Prelude.{◌≡◌, ℕ, suc, ◌+◌, ◌≤◌, Result, Ok, Err}
-use Rattle.frac128.specs.declared.form.FormFault.{FormFault}
-use Rattle.frac128.specs.declared.form.FormFault.TheVariants as fault
+use Rattle.frac128.specs.declared.fault.ArithmeticFault.{ArithmeticFault}
+use Rattle.frac128.specs.declared.fault.ArithmeticFault.TheVariants as fault
 use Rattle.frac128.specs.declared.memory.Memory.{Memory}
 use Rattle.lp_defs.specs.Path.{Tableau, Ending, Done, Open, TooLong, Stopped, path}
 use Rattle.simplex_core.specs.declared.tableau.Step.{Step}
@@ -10,7 +10,7 @@ use Rattle.simplex_core.specs.declared.tableau.End.{End}
 use Rattle.simplex_core.specs.declared.tableau.End.TheVariants as end
 
 -- what one step says of the path from a tableau, where a pivot is left
-abbrev pub Steps : ℕ → Tableau → Result Step FormFault → Tableau → Type 0
+abbrev pub Steps : ℕ → Tableau → Result Step ArithmeticFault → Tableau → Type 0
 Steps n t (Ok step.Done) new = (left k : ℕ) → path n (suc left) k t ≡ Done k new
 Steps n t (Ok (step.Open j)) new = (left k : ℕ) → path n (suc left) k t ≡ Open j new
 Steps n t (Ok step.Pivoted) new = (left k : ℕ) → path n (suc left) k t ≡ path n left (k + 1) new
@@ -25,7 +25,7 @@ Reached e end.PivotsEnded t = e ≡ TooLong
 Reached e (end.Passed k p) t = e ≡ Stopped k p
 
 -- the end that a fault makes
-abbrev pub Stops : FormFault → ℕ → Result End Memory → Type 0
+abbrev pub Stops : ArithmeticFault → ℕ → Result End Memory → Type 0
 Stops f pivot (Ok (end.Passed k p)) = (f ≡ fault.Passed p) × (k ≡ pivot)
 Stops f pivot (Ok (end.Done k)) = ⊥
 Stops f pivot (Ok (end.Open j)) = ⊥

@@ -2,8 +2,8 @@
 use Rattle.std.specs.Prelude.{◌≡◌, ℕ, Result, Ok, Err}
 use Rattle.rationals.specs.Rational.{ℚ}
 use Rattle.rationals.specs.Sparse.{coefficient}
-use Rattle.frac128.specs.declared.form.FormFault.{FormFault}
-use Rattle.frac128.specs.declared.form.FormFault.TheVariants as fault
+use Rattle.frac128.specs.declared.fault.ArithmeticFault.{ArithmeticFault}
+use Rattle.frac128.specs.declared.fault.ArithmeticFault.TheVariants as fault
 use Rattle.frac128.specs.declared.memory.Memory.{Memory}
 use Rattle.lp_defs.specs.Program.{Program}
 use Rattle.lp_defs.specs.Solution.{Solution, Optimum, Nowhere, Endless, Cut_off, Passes}
@@ -44,7 +44,7 @@ IsNotPivotsEnded outcome.PivotsEnded = ⊥
 IsNotPivotsEnded (outcome.Passed k o) = Unit {0}
 
 -- the outcome at a fault
-abbrev pub TellsFault : FormFault → ℕ → Result Outcome Memory → Type 0
+abbrev pub TellsFault : ArithmeticFault → ℕ → Result Outcome Memory → Type 0
 TellsFault f pivot (Ok (outcome.Optimal point duals)) = ⊥
 TellsFault f pivot (Ok (outcome.Infeasible duals)) = ⊥
 TellsFault f pivot (Ok (outcome.Unbounded point ray)) = ⊥

@@ -14,7 +14,7 @@ ghost use Rattle.simplex_core.specs.Gives.{Gives};
 use crate::entries::Entries;
 use crate::row::Row;
 use crate::sign::is_zero;
-use frac128::{FormFault, Frac, Memory, Term};
+use frac128::{ArithmeticFault, Frac, Memory, Term};
 use std::alloc::Global;
 
 /// A cost of 0 in each column below `first`, and of 1 in each of `count` columns from it on.
@@ -30,7 +30,7 @@ fn costs(alloc: Global, first: u64, count: u64) -> Result<Vec<Frac>, Memory>
 }
 
 /// Takes a value away from the number of its column.
-fn subtract_at(values: &mut [Frac], column: usize, value: Frac) -> Result<(), FormFault>
+fn subtract_at(values: &mut [Frac], column: usize, value: Frac) -> Result<(), ArithmeticFault>
     requires { column < length values.old }
     ensures { Gives (less_at values.old column value) result values.new }
 {
@@ -39,7 +39,7 @@ fn subtract_at(values: &mut [Frac], column: usize, value: Frac) -> Result<(), Fo
 }
 
 /// Takes entries away from the numbers of their columns.
-fn subtract(values: &mut [Frac], entries: &[Term]) -> Result<(), FormFault>
+fn subtract(values: &mut [Frac], entries: &[Term]) -> Result<(), ArithmeticFault>
     requires { EndsBelow (length values.old) entries.now }
     ensures { Gives (less_all values.old entries.now) result values.new }
 {
@@ -50,7 +50,7 @@ fn subtract(values: &mut [Frac], entries: &[Term]) -> Result<(), FormFault>
 }
 
 /// Takes rows away, in order.
-fn subtract_rows(values: &mut [Frac], rows: &[Row]) -> Result<(), FormFault>
+fn subtract_rows(values: &mut [Frac], rows: &[Row]) -> Result<(), ArithmeticFault>
     requires { AllLines (λ line. EndsBelow (length values.old) line.entries) rows.now }
     ensures { Gives (less_rows values.old rows.now) result values.new }
 {
@@ -84,7 +84,7 @@ pub fn first_objective(
     rows: &[Row],
     first: u64,
     count: u64,
-) -> Result<Entries, FormFault>
+) -> Result<Entries, ArithmeticFault>
     requires room { first + count < 2 ^ 64 }
     requires rise { AllLines (λ line. Ascending 0 line.entries) rows.now }
     requires below { AllLines (λ line. EndsBelow (first + count) line.entries) rows.now }

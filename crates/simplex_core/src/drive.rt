@@ -7,7 +7,7 @@ ghost use Rattle.simplex_core.specs.Drove.{Drove, DroveWithin, StopsDrive};
 use crate::row::Row;
 use crate::sign::{is_above_zero, is_zero};
 use crate::tableau::Tableau;
-use frac128::{FormFault, Memory, Passed, Term};
+use frac128::{ArithmeticFault, Memory, Passed, Term};
 
 /// How these pivots end.
 #[derive(Drop)]
@@ -56,12 +56,12 @@ pub fn has_artificial_above(rows: &[Row], columns: u64) -> bool
 }
 
 /// How the pivots end at a fault.
-fn stopped(fault: FormFault, pivot: u64) -> Result<Driven, Memory>
+fn stopped(fault: ArithmeticFault, pivot: u64) -> Result<Driven, Memory>
     ensures { StopsDrive fault pivot result }
 {
     match fault {
-        FormFault::Passed(passed) => Ok(Driven::Passed(pivot, passed)),
-        FormFault::Memory => Err(Memory),
+        ArithmeticFault::Passed(passed) => Ok(Driven::Passed(pivot, passed)),
+        ArithmeticFault::Memory => Err(Memory),
     }
 }
 

@@ -4,7 +4,7 @@ ghost use Rattle.frac128.specs.Faults.{FaultOf};
 ghost use Rattle.lp_defs.specs.Phases.{first_duals, unit_duals};
 
 use crate::entries::Entries;
-use frac128::{FormFault, Frac, Memory};
+use frac128::{ArithmeticFault, Frac, Memory};
 use std::alloc::Global;
 
 /// The duals of phase one: 1 less the reduced cost, for `count` columns from `first` on.
@@ -13,7 +13,7 @@ pub fn first_duals(
     objective: &Entries,
     first: u64,
     count: u64,
-) -> Result<Vec<Frac>, FormFault>
+) -> Result<Vec<Frac>, ArithmeticFault>
     requires { first + count < 2 ^ 64 }
     ensures { MatchResult result (λ duals. first_duals first count objective.now [] ≡ Ok duals.items)
         (FaultOf (first_duals first count objective.now [])) }

@@ -8,7 +8,7 @@ ghost use Rattle.lp_defs.specs.Lines.{value_at, keep, less_entries, cleared_form
 ghost use Rattle.simplex_core.specs.Gives.{Gives};
 
 use crate::sign::is_zero;
-use frac128::{FormFault, Frac, Memory, Passed, Term, value_in};
+use frac128::{ArithmeticFault, Frac, Memory, Passed, Term, value_in};
 use std::marker::Model;
 
 /// Entries whose columns rise.
@@ -67,7 +67,7 @@ fn subtract_terms(
     row: &[Term],
     pivot: &[Term],
     done: &mut Vec<Term>,
-) -> Result<(), FormFault>
+) -> Result<(), ArithmeticFault>
     ensures { Gives (less_entries factor row.now pivot.now done.old.items) result done.new.items }
 {
     done.reserve(row.len() + pivot.len())?;
@@ -101,7 +101,7 @@ fn subtract_terms(
     Ok(())
 }
 
-fn divide_all(terms: &mut [Term], by: Frac) -> Result<(), FormFault>
+fn divide_all(terms: &mut [Term], by: Frac) -> Result<(), ArithmeticFault>
     requires nonzero { by ≢ zero_ℚ }
     requires rise { Ascending 0 terms.old }
     ensures gives { Gives (divided_entries by terms.old []) result terms.new }
@@ -151,7 +151,7 @@ impl Entries {
         find(self.terms.as_slice(), column)
     }
 
-    pub fn divide(&mut self, by: Frac) -> Result<(), FormFault>
+    pub fn divide(&mut self, by: Frac) -> Result<(), ArithmeticFault>
         requires { by ≢ zero_ℚ }
         ensures { Gives (divided_entries by self.old []) result self.new }
     {
@@ -165,7 +165,7 @@ impl Entries {
         factor: Frac,
         other: &Entries,
         spare: &mut Vec<Term>,
-    ) -> Result<(), FormFault>
+    ) -> Result<(), ArithmeticFault>
         ensures { Gives (less_entries factor self.old other.now []) result self.new }
     {
         spare.clear();
@@ -180,7 +180,7 @@ impl Entries {
         factor: Frac,
         pivot: &Entries,
         spare: &mut Vec<Term>,
-    ) -> Result<(), FormFault>
+    ) -> Result<(), ArithmeticFault>
         ensures { Gives (cleared_form factor pivot.now self.old) result self.new }
     {
         if is_zero(factor) {

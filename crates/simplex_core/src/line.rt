@@ -6,7 +6,7 @@ ghost use Rattle.simplex_core.specs.Gives.{Gives};
 
 use crate::entries::{Entries, over};
 use crate::sign::is_zero;
-use frac128::{FormFault, Frac, Term};
+use frac128::{ArithmeticFault, Frac, Term};
 use std::marker::Model;
 
 /// A sparse row of a tableau with its right side.
@@ -50,7 +50,7 @@ impl Line {
         self.entries.value_at(column)
     }
 
-    pub fn divide(&mut self, by: Frac) -> Result<(), FormFault>
+    pub fn divide(&mut self, by: Frac) -> Result<(), ArithmeticFault>
         requires { by ≢ zero_ℚ }
         ensures { Gives (divided by self.old) result self.new }
     {
@@ -65,7 +65,7 @@ impl Line {
         factor: Frac,
         pivot: &Line,
         spare: &mut Vec<Term>,
-    ) -> Result<(), FormFault>
+    ) -> Result<(), ArithmeticFault>
         ensures { Gives (cleared_by factor pivot.now self.old) result self.new }
     {
         if is_zero(factor) {

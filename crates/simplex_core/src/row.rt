@@ -5,7 +5,7 @@ ghost use Rattle.simplex_core.specs.Gives.{Gives, less_row};
 
 use crate::line::Line;
 use crate::sign::is_zero;
-use frac128::{FormFault, Frac, Term};
+use frac128::{ArithmeticFault, Frac, Term};
 use std::marker::Model;
 
 /// A row of a tableau and its basic column.
@@ -54,7 +54,7 @@ impl Row {
         factor: Frac,
         pivot: &Line,
         spare: &mut Vec<Term>,
-    ) -> Result<(), FormFault>
+    ) -> Result<(), ArithmeticFault>
         ensures { Gives (less_row factor pivot.now self.old) result self.new }
     {
         self.line.clear(factor, pivot, spare)
@@ -67,7 +67,7 @@ pub fn clear_all(
     column: u64,
     pivot: &Line,
     spare: &mut Vec<Term>,
-) -> Result<(), FormFault>
+) -> Result<(), ArithmeticFault>
     ensures { Gives (cleared_rows column pivot.now rows.old []) result rows.new }
 {
     for k in 0..rows.len() {

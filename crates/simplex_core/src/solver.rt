@@ -18,16 +18,16 @@ use crate::point::{point, ray};
 use crate::standard::Standard;
 use crate::start::{artificial_rows, price};
 use crate::tableau::{End, Tableau};
-use frac128::{FormFault, Memory, Term};
+use frac128::{ArithmeticFault, Memory, Term};
 use std::alloc::Global;
 
 /// The outcome at a fault in a pivot.
-fn stopped(fault: FormFault, pivot: u64) -> Result<Outcome, Memory>
+fn stopped(fault: ArithmeticFault, pivot: u64) -> Result<Outcome, Memory>
     ensures { TellsFault fault pivot result }
 {
     match fault {
-        FormFault::Passed(passed) => Ok(Outcome::Passed(pivot, passed)),
-        FormFault::Memory => Err(Memory),
+        ArithmeticFault::Passed(passed) => Ok(Outcome::Passed(pivot, passed)),
+        ArithmeticFault::Memory => Err(Memory),
     }
 }
 

@@ -9,7 +9,7 @@ ghost use Rattle.lp_defs.specs.Phases.{unit_rows, with_units, priced};
 use crate::entries::{Entries, find};
 use crate::line::Line;
 use crate::row::Row;
-use frac128::{Form, FormFault, Frac, Memory, Term};
+use frac128::{ArithmeticFault, Form, Frac, Memory, Term};
 use std::alloc::Global;
 
 /// A form with its artificial column and its right side.
@@ -65,7 +65,7 @@ pub fn price(
     cost: &[Term],
     rows: &[Row],
     spare: &mut Vec<Term>,
-) -> Result<Entries, FormFault>
+) -> Result<Entries, ArithmeticFault>
     requires { Ascending 0 cost.now }
     ensures { IfNotMemory result (priced cost.now rows.now cost.now) }
 {

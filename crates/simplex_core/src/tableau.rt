@@ -10,7 +10,7 @@ use crate::choice::{has_above_zero, leave};
 use crate::entries::Entries;
 use crate::row::{Row, clear_all};
 use crate::sign::is_below_zero;
-use frac128::{FormFault, Memory, Passed, Term};
+use frac128::{ArithmeticFault, Memory, Passed, Term};
 use std::marker::Model;
 
 /// What one step does.
@@ -64,12 +64,12 @@ fn enter(entries: &[Term], columns: u64) -> Option<u64>
 }
 
 /// How a path ends at a fault in a pivot.
-fn stopped(fault: FormFault, pivot: u64) -> Result<End, Memory>
+fn stopped(fault: ArithmeticFault, pivot: u64) -> Result<End, Memory>
     ensures { Stops fault pivot result }
 {
     match fault {
-        FormFault::Passed(passed) => Ok(End::Passed(pivot, passed)),
-        FormFault::Memory => Err(Memory),
+        ArithmeticFault::Passed(passed) => Ok(End::Passed(pivot, passed)),
+        ArithmeticFault::Memory => Err(Memory),
     }
 }
 
@@ -108,7 +108,7 @@ impl Tableau {
         column: u64,
         index: usize,
         spare: &mut Vec<Term>,
-    ) -> Result<(), FormFault>
+    ) -> Result<(), ArithmeticFault>
         requires within { index < length self.old.rows }
         requires nonzero { value_at (row_at self.old.rows index).line.entries column ≢ zero_ℚ }
         ensures { Gives (pivoted column index self.old) result self.new }
@@ -123,7 +123,7 @@ impl Tableau {
     }
 
     /// One pivot by Bland's rule, where there is one.
-    fn step(&mut self, columns: u64, spare: &mut Vec<Term>) -> Result<Step, FormFault>
+    fn step(&mut self, columns: u64, spare: &mut Vec<Term>) -> Result<Step, ArithmeticFault>
         ensures { Steps columns self.old result self.new }
     {
         let Some(column) = enter(self.objective.terms(), columns) else {

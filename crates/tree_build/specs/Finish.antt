@@ -13,8 +13,8 @@ use Rattle.rationals.specs.Rational.{one_ℚ}
 use Rattle.stoch_defs.specs.Random.{Block, Branch}
 use Rattle.scen_tree.specs.declared.position.Position.{Position}
 use Rattle.scen_tree.specs.declared.position.Position.TheVariants.{Dropped, Root, Below}
-use Rattle.scen_tree.specs.declared.fault.TreeFault.{TreeFault}
-use Rattle.scen_tree.specs.declared.fault.TreeFault.TheVariants as tree
+use Rattle.frac128.specs.declared.fault.ArithmeticFault.{ArithmeticFault}
+use Rattle.frac128.specs.declared.fault.ArithmeticFault.TheVariants as tree
 use Rattle.scen_tree.specs.Trees.{position_by}
 use Rattle.scen_tree.specs.Chances.{chances_walk}
 use Rattle.build_defs.specs.Digits.{digits}
@@ -27,7 +27,7 @@ use Rattle.tree_build.specs.Nodes.{node_in, digits_at}
 use Rattle.smps_build.specs.declared.fault.BuildFault.{BuildFault}
 use Rattle.smps_build.specs.declared.fault.BuildFault.TheVariants.{Passed, Memory}
 use Rattle.stoch_defs.specs.Entries.{no_row}
-use Rattle.smps_build.specs.Single.{Interval, interval_walk}
+use Rattle.smps_build.specs.Ends.{Interval, interval_walk}
 use Rattle.tree_build.specs.declared.parts.RowValues.{RowValues}
 use Rattle.tree_build.specs.declared.numbering.Debut.{Debut}
 use Rattle.tree_build.specs.Values.{Values}
@@ -75,7 +75,7 @@ value_nodes defs debuts positions built (d ∷ all) =
 abbrev pub AreStaged : List Debut → Type 0
 AreStaged debuts = (n : ℕ) → (get_or debuts n no_debut).stage < 2 ^ 32
 
-abbrev pub build_fault : TreeFault → BuildFault
+abbrev pub build_fault : ArithmeticFault → BuildFault
 build_fault (tree.Passed p) = Passed p
 build_fault tree.Memory = Memory
 

@@ -4,7 +4,7 @@ ghost use Rattle.scen_defs.specs.Program.{scenarios_content, nodes_content, cont
 ghost use Rattle.scen_tree.specs.declared.position.Position.TheVariants.{Root};
 ghost use Rattle.rationals.specs.Replies.{IsReply, reply_by};
 ghost use Rattle.scen_tree.specs.Chances.{chances_walk, chances_of};
-ghost use Rattle.smps_build.specs.Single.{build_says, BuildFaultOf};
+ghost use Rattle.smps_build.specs.Faults.{build_says, BuildFaultOf};
 ghost use Rattle.build_defs.specs.Built.{columns_from, rows_from};
 ghost use Rattle.time_defs.specs.Periods.{stages};
 ghost use Rattle.tree_build.specs.Values.{all_content};
@@ -17,8 +17,9 @@ use crate::numbering::{Debut, Path};
 use crate::parts::Values;
 use crate::rows::node_rows;
 use core_defs::{Core, RowDef};
+use frac128::ArithmeticFault;
 use scen_defs::{Column, Node, Program, Row, Scenario};
-use scen_tree::{Chances, Position, TreeFault, node_chances};
+use scen_tree::{Chances, Position, node_chances};
 use smps_build::{BuildFault, copied};
 use smps_words::Name;
 use std::alloc::{AllocError, Global};
@@ -51,12 +52,12 @@ pub(crate) fn positions(
 }
 
 /// Why no program is built, where no tree is made.
-fn build_fault(fault: TreeFault) -> BuildFault
+fn build_fault(fault: ArithmeticFault) -> BuildFault
     ensures { result ≡ build_fault fault }
 {
     match fault {
-        TreeFault::Passed(passed) => BuildFault::Passed(passed),
-        TreeFault::Memory => BuildFault::Memory,
+        ArithmeticFault::Passed(passed) => BuildFault::Passed(passed),
+        ArithmeticFault::Memory => BuildFault::Memory,
     }
 }
 

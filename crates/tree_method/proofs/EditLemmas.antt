@@ -2,10 +2,10 @@
 use Rattle.std.proofs.Common.{◌≡◌, ℕ, ◌<◌, ◌^◌, List, length, Option, ap, ap₂, ◌∙◌, arith}
 use Rattle.scen_defs.specs.Program.{Program, view_of}
 use Rattle.scen_defs.specs.declared.program.Program.{Program as ProgramOf}
-use Rattle.scen_tree.specs.Chances.{TreeFaultOf}
+use Rattle.frac128.specs.Faults.{FaultOf}
 use Rattle.scen_tree.specs.Trees.{tree_walk}
-use Rattle.scen_tree.specs.declared.fault.TreeFault.{TreeFault}
-use Rattle.scen_tree.specs.declared.fault.TreeFault.TheVariants.{Memory, Passed as PassedFault}
+use Rattle.frac128.specs.declared.fault.ArithmeticFault.{ArithmeticFault}
+use Rattle.frac128.specs.declared.fault.ArithmeticFault.TheVariants.{Memory, Passed as PassedFault}
 use Rattle.cut_defs.specs.declared.versions.Touch.{Touch}
 use Rattle.cut_defs.specs.declared.versions.Shift.{Shift}
 use Rattle.edit_defs.specs.declared.edit.Edit.{Edit}
@@ -33,7 +33,7 @@ dues_are p e versions places ts version moved a b c d =
     ap₂ (dues (view_of p)) t (d ∙ ap (shift_of p e) (c ∙ ap rows_version t))
 
 -- the program after an edit has no tree
-pub no_tree : (p : Program) (fault : TreeFault) (why : Open) → TreeFaultOf (tree_walk p) fault → IsTreeless fault why
+pub no_tree : (p : Program) (fault : ArithmeticFault) (why : Open) → FaultOf (tree_walk p) fault → IsTreeless fault why
     → HasNoTree p why
 no_tree p (PassedFault o) why f t = record { operation = o; passes = f; why_is = t }
 no_tree p Memory why f t = absurd t

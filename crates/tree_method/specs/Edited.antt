@@ -6,8 +6,8 @@ use Rattle.scen_defs.specs.declared.report.Kind.TheVariants.{Feasible}
 use Rattle.scen_defs.specs.declared.report.Place.TheVariants.{Dual}
 use Rattle.scen_defs.specs.Program.{Node, Program, view_of}
 use Rattle.scen_tree.specs.Trees.{tree_walk}
-use Rattle.scen_tree.specs.declared.fault.TreeFault.{TreeFault}
-use Rattle.scen_tree.specs.declared.fault.TreeFault.TheVariants.{Memory, Passed as PassedFault}
+use Rattle.frac128.specs.declared.fault.ArithmeticFault.{ArithmeticFault}
+use Rattle.frac128.specs.declared.fault.ArithmeticFault.TheVariants.{Memory, Passed as PassedFault}
 use Rattle.cut_defs.specs.declared.versions.Touch.{Touch}
 use Rattle.cut_defs.specs.declared.versions.Due.{Due}
 use Rattle.edit_defs.specs.declared.edit.Edit.{Edit}
@@ -91,7 +91,7 @@ pub record IsEdited (p : Program) (e : Edit) (old new : Working) : Type 0 where
   pub pools : new.state.banks ≡ retired p e old.state.versions old.state.banks
 
 -- why a tree isn't made is told by the operation that passes
-abbrev pub IsTreeless : TreeFault → Open → Type 0
+abbrev pub IsTreeless : ArithmeticFault → Open → Type 0
 IsTreeless (PassedFault o) why = why ≡ Passed Dual o
 IsTreeless Memory why = ⊥
 

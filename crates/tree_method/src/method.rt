@@ -13,11 +13,11 @@ ghost use Rattle.tree_method.specs.Stands.{IsAtEnd, EndsAt, SolvesOnce, WorksByS
 ghost use Rattle.tree_method.specs.Stands.{SolvesAsAsked, WorksAsAsked, SolvesAnew, WorksAnew, is_spent, after_telling};
 
 use crate::found::{Found, nothing};
-use frac128::Memory;
+use frac128::{ArithmeticFault, Memory};
 use pass_core::{Budget, State};
 use proved_report::Open;
 use scen_defs::{Place, Program};
-use scen_tree::{Tree, TreeFault};
+use scen_tree::Tree;
 use std::alloc::Global;
 
 /// More nodes than this have no numbers.
@@ -42,12 +42,12 @@ pub enum Method {
 }
 
 /// Why there is no tree: its totals or shares don't fit, which never comes of a program that was built.
-pub(crate) fn treeless(fault: TreeFault) -> Result<Open, Memory>
+pub(crate) fn treeless(fault: ArithmeticFault) -> Result<Open, Memory>
     ensures { IfOk result (IsTreeless fault) }
 {
     match fault {
-        TreeFault::Passed(passed) => Ok(Open::Passed(Place::Dual, passed)),
-        TreeFault::Memory => Err(Memory),
+        ArithmeticFault::Passed(passed) => Ok(Open::Passed(Place::Dual, passed)),
+        ArithmeticFault::Memory => Err(Memory),
     }
 }
 

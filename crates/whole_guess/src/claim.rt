@@ -6,10 +6,10 @@ use crate::layout::Layout;
 use crate::lists::{point_list, row_list};
 use basis_guess::Standing;
 use basis_values::{ExactProgram, Guessed, Solution, guess};
-use frac128::Memory;
+use frac128::{ArithmeticFault, Memory};
 use proved_report::Claim;
 use scen_defs::{Kind, Program, Values};
-use scen_tree::{Tree, TreeFault};
+use scen_tree::Tree;
 use std::alloc::Global;
 
 /// So much work a guess may take: an entry that is looked at is a unit, and a second has some hundred million.
@@ -41,8 +41,8 @@ fn prepared<'a>(alloc: Global, program: &'a Program) -> Result<Option<Whole<'a>>
             tree,
             layout,
         })),
-        Err(TreeFault::Passed(_)) => Ok(None),
-        Err(TreeFault::Memory) => Err(Memory),
+        Err(ArithmeticFault::Passed(_)) => Ok(None),
+        Err(ArithmeticFault::Memory) => Err(Memory),
     }
 }
 

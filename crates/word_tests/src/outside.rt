@@ -1,7 +1,6 @@
 //! Each shelf and each sink once; what no clause can see behind the system's.
 use smps_io::{
-    MemoryShelf, MemorySink, NeverFails, RealShelf, RealSink, Shelf, ShelfFault, SinkFault,
-    write_all,
+    MemoryShelf, MemorySink, NeverFails, RealShelf, RealSink, Shelf, ShelfFault, Sink, SinkFault,
 };
 use std::alloc::{AllocError, Global};
 use std::fs;
@@ -54,10 +53,12 @@ fn shelves_give_fail_and_refuse(rt: HostRuntime) -> Result<(), Fail> {
 /// A sink that takes two bytes a call and fails at its third one.
 fn a_sink_in_memory(rt: &(impl Runtime + Abort), alloc: Global) -> Result<(), Fail> {
     let mut sink = MemorySink::new(alloc, 2, vec![in alloc; 3u64]?);
-    assert!(rt; write_all(rt, &mut sink, b"whole").err() == Some(SinkFault::Failed));
+    assert!(rt; sink.put(rt, b"whole")? == 2);
+    assert!(rt; sink.put(rt, b"ole")? == 2);
+    assert!(rt; sink.put(rt, b"e").err() == Some(SinkFault::Failed));
     assert!(rt; sink.bytes() == b"whol".as_slice());
-    write_all(rt, &mut sink, b"whole")?;
-    assert!(rt; sink.bytes() == b"wholwhole".as_slice());
+    assert!(rt; sink.put(rt, b"e")? == 1);
+    assert!(rt; sink.bytes() == b"whole".as_slice());
     Ok(())
 }
 
@@ -65,7 +66,6 @@ fn a_sink_in_memory(rt: &(impl Runtime + Abort), alloc: Global) -> Result<(), Fa
 fn sinks_take_bytes_in_pieces(rt: HostRuntime) -> Result<(), Fail> {
     a_sink_in_memory(&rt, rt.alloc())?;
     let mut real = RealSink::new();
-    write_all(&rt, &mut real, b"")?;
-    write_all(&rt, &mut real, b"standard output\n")?;
+    real.put(&rt, b"standard output\n")?;
     Ok(())
 }

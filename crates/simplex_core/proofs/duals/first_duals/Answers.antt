@@ -1,5 +1,5 @@
 use Rattle.std.proofs.Common.{◌+◌, ◌≡◌, [], Ok}
-use Rattle.frac128.specs.declared.form.FormFault.TheVariants as fault
+use Rattle.frac128.specs.declared.fault.ArithmeticFault.TheVariants as fault
 use Rattle.lp_defs.specs.Phases.{first_duals}
 use Rattle.simplex_core.proofs.Counting.{one_more_first, failed_first, passed_on}
 use Rattle.simplex_core.proofs.duals.first_duals.Goals as goal
