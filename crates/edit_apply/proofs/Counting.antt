@@ -12,7 +12,7 @@ use Rattle.scen_defs.specs.Program.{Node, Program, is_live, node_at, place_conte
 use Rattle.scen_defs.specs.declared.program.Scenario.{Scenario as ScenarioOf}
 use Rattle.scen_defs.specs.Valid.{IsProgram, row_at}
 use Rattle.scen_defs.proofs.NodeReads.{drop_read}
-use Rattle.smps_build.specs.Single.{Interval}
+use Rattle.smps_build.specs.Ends.{Interval}
 use Rattle.smps_words.specs.declared.entry.Entry.TheVariants.{Cost, Matrix, Rhs}
 use Rattle.edit_defs.specs.declared.counts.Counts.{Counts}
 use Rattle.edit_defs.specs.declared.edit.Edit.TheVariants.{Set}

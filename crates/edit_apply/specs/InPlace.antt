@@ -4,7 +4,7 @@ use Rattle.rationals.specs.Rational.{ℚ}
 use Rattle.rationals.specs.Sparse.{Entry}
 use Rattle.rationals.specs.Choices.{pick}
 use Rattle.scen_defs.specs.Program.{Node}
-use Rattle.smps_build.specs.Single.{Interval}
+use Rattle.smps_build.specs.Ends.{Interval}
 use Rattle.edit_defs.specs.After.{change_row, with_ends, with_entry, set_entry}
 
 -- the node with these ends of its row i

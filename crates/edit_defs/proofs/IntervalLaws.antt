@@ -10,7 +10,7 @@ use Rattle.smps_words.specs.declared.row_kind.RowKind.TheVariants.{Less, Greater
 use Rattle.rationals.specs.Intervals.{InOrder}
 use Rattle.rationals.specs.Choices.{pick}
 use Rattle.scen_defs.specs.Valid.{has_low, has_high}
-use Rattle.smps_build.specs.Single.{size, Interval, interval_walk}
+use Rattle.smps_build.specs.Ends.{size, Interval, interval_walk}
 use Rattle.edit_defs.specs.Intervals.{interval, right_side, right_walk, width, Apart}
 
 size-nonneg : (r : ℚ) → zero_ℚ ≤ℚ size r

@@ -20,7 +20,7 @@ use Rattle.scen_defs.proofs.Subtrees.{no}
 use Rattle.cut_defs.specs.Repairs.{moved_end, moved_row}
 use Rattle.edit_defs.specs.declared.edit.Edit.{Edit}
 use Rattle.edit_defs.specs.declared.edit.Edit.TheVariants.{Set, Prob, Drop, Add}
-use Rattle.smps_build.specs.Single.{Interval}
+use Rattle.smps_build.specs.Ends.{Interval}
 use Rattle.edit_defs.specs.Intervals.{width, Apart, HasWidth, right_side}
 use Rattle.edit_defs.specs.After.{others, home_of, with_entry, with_ends, change_row, with_value, change_node, copies, after, after_edits}
 use Rattle.edit_defs.specs.Applies.{IsSet, Applies, AllApply}

@@ -14,7 +14,7 @@ use Rattle.scen_defs.specs.Program.{Node, Scenario, Program, node_at, column_at}
 use Rattle.scen_defs.specs.Valid.{row_at, is_reached}
 use Rattle.edit_defs.specs.declared.edit.Edit.{Edit}
 use Rattle.edit_defs.specs.declared.edit.Edit.TheVariants.{Set, Prob, Drop, Add}
-use Rattle.smps_build.specs.Single.{Interval}
+use Rattle.smps_build.specs.Ends.{Interval}
 use Rattle.edit_defs.specs.Intervals.{right_side}
 
 -- ---- the scenario of a name

@@ -7,7 +7,7 @@ use Rattle.smps_words.specs.declared.row_kind.RowKind.{RowKind}
 use Rattle.smps_words.specs.declared.row_kind.RowKind.TheVariants.{Less, Greater, Equal}
 use Rattle.scen_defs.specs.declared.program.Row.{Row}
 use Rattle.scen_defs.specs.declared.program.NodeRow.{NodeRow}
-use Rattle.smps_build.specs.Single.{size, Interval, interval_walk}
+use Rattle.smps_build.specs.Ends.{size, Interval, interval_walk}
 
 -- the low and the high end that `interval_walk` comes to where no operation of it passes
 abbrev pub interval : RowKind → ℚ → Option ℚ → Interval

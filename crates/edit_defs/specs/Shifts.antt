@@ -12,7 +12,7 @@ use Rattle.scen_defs.specs.Program.{Program, node_at}
 use Rattle.scen_defs.specs.Valid.{Lives, row_at}
 use Rattle.cut_defs.specs.declared.versions.Shift.{Shift}
 use Rattle.edit_defs.specs.declared.edit.Edit.{Edit}
-use Rattle.smps_build.specs.Single.{Interval}
+use Rattle.smps_build.specs.Ends.{Interval}
 use Rattle.edit_defs.specs.Intervals.{HasWidth, right_side}
 use Rattle.edit_defs.specs.After.{home_of, after_edits}
 use Rattle.edit_defs.specs.Touches.{touches_rows}

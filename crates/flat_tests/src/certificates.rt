@@ -517,10 +517,7 @@ fn is_solved_so(alloc: Global, program: &Program, expected: &str) -> Result<bool
 
 /// Whether the program of a core file is solved so.
 fn agrees(alloc: Global, text: &str, expected: &str) -> Result<bool, Fail> {
-    if text.len() > 1000 {
-        return Err(Fail::from("a long core file"));
-    }
-    let program = program(alloc, text.as_bytes())?;
+    let program = program(alloc, text)?;
     is_solved_so(alloc, &program, expected)
 }
 

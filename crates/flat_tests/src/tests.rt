@@ -1,32 +1,25 @@
 //! Two rows, A and B at most 4, A and three times B at most 6, at costs -3 and -2: each point and each
 //! dual of a grid, beside plain sums of whole numbers.
-ghost use Rattle.std.specs.Prelude.{◌<◌, ◌-◌, ◌^◌, length};
-
-use core_defs::Core;
 use frac128::Frac;
-use mps_core::read_core;
+use sample_programs::{Source, read_source};
 use scen_model::{Halt, Program, Values, cost, dual_value, feasible, is_direction, zero_value};
-use smps_build::single;
 use std::alloc::Global;
 use std::process::Abort;
 use std::test::Fail;
 
-const MIX: &[u8] =
-    b"NAME MIX\nROWS\n N COST\n L LIM1\n L LIM2\nCOLUMNS\n A COST -3 LIM1 1\n A LIM2 1\n B COST -2 LIM1 1\n B LIM2 3\n\
+const MIX: &str =
+    "NAME MIX\nROWS\n N COST\n L LIM1\n L LIM2\nCOLUMNS\n A COST -3 LIM1 1\n A LIM2 1\n B COST -2 LIM1 1\n B LIM2 3\n\
     RHS\n RHS LIM1 4 LIM2 6\nENDATA\n";
 
-/// The program of a core.
-fn one_period(alloc: Global, core: &Core) -> Result<Program, Fail> {
-    let program = single(alloc, core)?;
-    Ok(program)
-}
-
 /// The program of a core file.
-pub(crate) fn program(alloc: Global, text: &[u8]) -> Result<Program, Fail>
-    requires { length text.now < 2 ^ 32 - 1 }
-{
-    let core = read_core(alloc, text)?;
-    one_period(alloc, &core)
+pub(crate) fn program(alloc: Global, core: &str) -> Result<Program, Fail> {
+    let text = Source {
+        core,
+        time: "",
+        stoch: "",
+    };
+    let read = read_source(alloc, text)?;
+    Ok(read.ok_or("a core file that is refused")?)
 }
 
 fn put(values: &mut Values, index: u32, number: i64) -> Result<(), Fail> {

@@ -12,7 +12,7 @@ use Rattle.stoch_defs.specs.Entries.{no_row}
 use Rattle.stoch_defs.specs.Random.{Sets, Random}
 use Rattle.scen_defs.specs.Program.{Node, Scenario as Path}
 use Rattle.scen_defs.specs.declared.program.NodeRow.{NodeRow}
-use Rattle.smps_build.specs.Single.{Interval, interval_walk}
+use Rattle.smps_build.specs.Ends.{Interval, interval_walk}
 use Rattle.scen_tree.specs.Chances.{chances_walk}
 use Rattle.build_defs.specs.Scenarios.{Scenario, scenarios_of}
 use Rattle.build_defs.specs.Nodes.{Stand, nodes_of, parent_of, last_value, value_in, form_at, costs_at, entries_at, rows_at}

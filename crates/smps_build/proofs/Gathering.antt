@@ -9,8 +9,7 @@ use Rattle.core_defs.specs.declared.parts.RowDef.{RowDef}
 use Rattle.core_defs.specs.declared.parts.ColumnDef.{ColumnDef}
 use Rattle.core_defs.proofs.TermLemmas.{none_below}
 use Rattle.scen_defs.specs.Lists.{Each}
-use Rattle.smps_build.specs.Single.{entries_from}
-use Rattle.smps_build.specs.Gathered.{with_column, forms_from}
+use Rattle.smps_build.specs.Gathered.{with_column, entries_from, forms_from}
 use Rattle.smps_build.proofs.BelowLemmas.{below-more, below-push}
 
 -- the forms of rows, each with the row's entries in these columns, the first of which has the number j; the first row has the number i
@@ -111,8 +110,3 @@ put_below j v form h = go (is_zero v)
 pub column_below : (j i : ℕ) (es : List Entry) (forms : List (List Entry)) → Each (EndsBelow j) forms → Each (EndsBelow (suc j)) (with_column j es i forms)
 column_below j i es [] h = tt
 column_below j i es (form ∷ forms) h = (put_below j (coefficient es i) form h.0, column_below j (suc i) es forms h.1)
-
--- where no form is left, no row is
-pub no_form : (cs : List ColumnDef) (i : ℕ) (rs : List RowDef) (forms : List (List Entry)) → length forms ≡ 0 → forms ≡ forms_from cs i rs → rs ≡ []
-no_form cs i [] forms none e = refl
-no_form cs i (r ∷ rs) forms none e = absurd (omega (arith, ap length e))

@@ -1,5 +1,5 @@
 pub mod BelowLemmas
 pub mod CoreFits
 pub mod Gathering
-pub mod SingleLaws
+pub mod EndLaws
 pub mod MapLoops

@@ -1,3 +1,3 @@
-pub mod Single
+pub mod Ends
+pub mod Faults
 pub mod Gathered
-pub mod Laws

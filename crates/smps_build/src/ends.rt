@@ -1,7 +1,7 @@
 // The interval of a row.
 ghost use Rattle.std.specs.Prelude.{◌≡◌};
 ghost use Rattle.rationals.specs.Rational.{at_most, zero_ℚ};
-ghost use Rattle.smps_build.specs.Single.{size, interval_walk};
+ghost use Rattle.smps_build.specs.Ends.{size, interval_walk};
 
 use frac128::{Frac, Passed};
 use smps_words::RowKind;

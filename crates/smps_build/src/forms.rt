@@ -1,10 +1,9 @@
-// Costs and rows as forms over the columns.
+// Rows as forms over the columns.
 ghost use Rattle.std.specs.Prelude.{◌≡◌, ◌++◌, [], suc, IfOk, OnOk, map};
 ghost use Rattle.rationals.specs.Sparse.{Ascending};
 ghost use Rattle.rationals.specs.Forms.{EndsBelow, put};
 ghost use Rattle.scen_defs.specs.Lists.{Each};
 ghost use Rattle.smps_build.specs.Gathered.{with_column, forms_from};
-ghost use Rattle.smps_build.specs.Single.{costs_from};
 
 use core_defs::{ColumnDef, RowDef};
 use frac128::{Form, Frac, Memory, Term};
@@ -20,17 +19,6 @@ pub fn put(form: &mut Form, column: u64, value: Frac) -> Result<(), Memory>
         form.push(column, value)?;
     }
     Ok(())
-}
-
-/// The costs by column.
-pub(crate) fn costs_of(alloc: Global, columns: &[ColumnDef]) -> Result<Form, Memory>
-    ensures { IfOk result (λ form. form ≡ costs_from 0 columns.now) }
-{
-    let mut form = Form::empty(alloc);
-    for (place, column) in columns.iter().enumerate() {
-        put(&mut form, place as u64, column.cost)?;
-    }
-    Ok(form)
 }
 
 /// A form without entries for each row.

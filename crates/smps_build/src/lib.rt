@@ -1,14 +1,12 @@
-//! Programs from what the files of a problem say.
+//! What the program that files mean is built of: intervals of rows, and the entries of rows.
 #![tactic(auto)]
 
 mod ends;
 mod fault;
 mod forms;
-mod laws;
-mod one_period;
+mod name;
 
 pub use ends::interval;
 pub use fault::BuildFault;
 pub use forms::{put, row_forms};
-pub use laws::singles_are_programs;
-pub use one_period::{copied, single};
+pub use name::copied;

@@ -12,8 +12,7 @@ use Rattle.core_defs.specs.declared.parts.ColumnDef.{ColumnDef}
 use Rattle.core_defs.specs.declared.parts.RowDef.{RowDef}
 use Rattle.time_defs.specs.Means.{Stages}
 use Rattle.stoch_defs.specs.Entries.{no_column, no_row}
-use Rattle.smps_build.specs.Single.{entries_from}
-use Rattle.smps_build.specs.Gathered.{forms_from}
+use Rattle.smps_build.specs.Gathered.{entries_from, forms_from}
 use Rattle.build_defs.specs.Nodes.{value_in, form_at}
 use Rattle.build_defs.specs.Scenarios.{stages_from}
 use Rattle.tree_build.specs.declared.parts.RowValues.{RowValues}

@@ -11,7 +11,7 @@ use Rattle.scen_defs.specs.declared.program.Program.{Program as ProgramOf}
 use Rattle.scen_defs.specs.Program.{Program, Scenario, content}
 use Rattle.smps_build.specs.declared.fault.BuildFault.{BuildFault}
 use Rattle.smps_build.specs.declared.fault.BuildFault.TheVariants.{Limit, Passed, Memory}
-use Rattle.smps_build.specs.Single.{BuildFaultOf}
+use Rattle.smps_build.specs.Faults.{BuildFaultOf}
 use Rattle.build_defs.specs.Scenarios.{stages_from}
 use Rattle.build_defs.specs.Built.{most_nodes, most_scenarios}
 use Rattle.scen_tree.specs.declared.position.Position.{Position}

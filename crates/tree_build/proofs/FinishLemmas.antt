@@ -19,7 +19,7 @@ use Rattle.scen_tree.specs.declared.position.Position.TheVariants.{Root}
 use Rattle.stoch_defs.specs.Random.{Block, Branch}
 use Rattle.smps_build.specs.declared.fault.BuildFault.{BuildFault}
 use Rattle.smps_build.specs.declared.fault.BuildFault.TheVariants.{Limit, Passed, Memory}
-use Rattle.smps_build.specs.Single.{BuildFaultOf}
+use Rattle.smps_build.specs.Faults.{BuildFaultOf}
 use Rattle.build_defs.specs.Digits.{digits}
 use Rattle.build_defs.specs.Scenarios.{no_branch}
 use Rattle.build_defs.specs.Built.{product_from, columns_from, rows_from, program_of}

@@ -13,8 +13,8 @@ use Rattle.scen_defs.specs.Valid.{has_low, has_high}
 use Rattle.scen_tree.specs.declared.position.Position.{Position}
 use Rattle.scen_tree.specs.declared.position.Position.TheVariants.{Root}
 use Rattle.stoch_defs.specs.Entries.{no_row}
-use Rattle.smps_build.specs.Single.{Interval, interval_walk, node_row, rows_from}
-use Rattle.smps_build.proofs.SingleLaws.{Lines, IsInterval, rows_built}
+use Rattle.smps_build.specs.Ends.{Interval, interval_walk}
+use Rattle.smps_build.proofs.EndLaws.{IsInterval, interval_is}
 use Rattle.build_defs.proofs.ChanceLemmas.{then_is, fine_is}
 use Rattle.build_defs.proofs.EachLemmas.{each_append}
 use Rattle.time_defs.specs.Means.{Stages}
@@ -28,25 +28,6 @@ use Rattle.tree_build.proofs.ValueLaws.{IsUpTo, IsLine}
 -- ---- rows
 
 -- the ends of an interval are in order, and those that the kind and the range give
-interval_ends : (kind : RowKind) (b : ℚ) (range : Option ℚ) (ends : Interval) → interval_walk kind b range ≡ Ok ends → IsInterval kind range ends
-interval_ends kind b range ends e =
-    let r : RowDef = record { name = []; kind = kind; rhs = b; range = range } in
-    let walk : rows_from [] [] 0 (r ∷ []) ≡ Ok (node_row [] 0 ends ∷ []) = ap (λ w. then_walk w (λ ends. rows_from [] ([] ++ node_row [] 0 ends ∷ []) 1 [])) e in
-    let built = rows_built [] [] 0 (r ∷ []) (node_row [] 0 ends ∷ []) walk in
-    from built.more built.lines built.rows_are
-  where
-    from : (more : List NodeRow) → Lines [] 0 (record { name = []; kind = kind; rhs = b; range = range } ∷ []) more → node_row [] 0 ends ∷ [] ≡ more → IsInterval kind range ends
-    from [] lines is = absurd lines
-    from (q ∷ more) lines is =
-        let first : node_row [] 0 ends ≡ q = cc in
-        let same = first ∙ lines.0.1 in
-        let h = lines.0.2 in
-        record {
-          in_order = subst (λ (row : NodeRow). InOrder row.low row.high) (sym same) h.in_order;
-          low = subst (λ (row : NodeRow). is_some row.low ≡ has_low kind range) (sym same) h.low;
-          high = subst (λ (row : NodeRow). is_some row.high ≡ has_high kind range) (sym same) h.high;
-        }
-
 -- a row has entries of columns up to its stage, ends in order, and those that its kind and its range give
 pub record IsMadeRow (p : Stages) (stage : ℕ) (defs : List RowDef) (r : NodeRow) : Type 0 where
   pub stage_is : get_or p.rows r.row 0 ≡ stage
@@ -60,7 +41,7 @@ pub rows_made : (p : Stages) (stage : ℕ) (defs : List RowDef) (built : List No
 rows_made p stage defs built [] made before all e = subst (Each (IsMadeRow p stage defs)) (sym (fine_is built made e)) before
 rows_made p stage defs built (r ∷ rows) made before all e =
     let here = then_is (value_interval defs r) _ made e in
-    let ends = interval_ends (get_or defs r.row no_row).kind r.rhs (get_or defs r.row no_row).range here.0 here.1 in
+    let ends = interval_is (get_or defs r.row no_row).kind r.rhs (get_or defs r.row no_row).range here.0 here.1 in
     rows_made p stage defs (built ++ value_row r here.0 ∷ []) rows made
     (each_append (IsMadeRow p stage defs) built (value_row r here.0 ∷ []) before (record { stage_is = all.0.stage_is; entries = all.0.entries; in_order = ends.in_order; low = ends.low; high = ends.high }, tt)) all.1 here.2
 

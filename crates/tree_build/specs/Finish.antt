@@ -27,7 +27,7 @@ use Rattle.tree_build.specs.Nodes.{node_in, digits_at}
 use Rattle.smps_build.specs.declared.fault.BuildFault.{BuildFault}
 use Rattle.smps_build.specs.declared.fault.BuildFault.TheVariants.{Passed, Memory}
 use Rattle.stoch_defs.specs.Entries.{no_row}
-use Rattle.smps_build.specs.Single.{Interval, interval_walk}
+use Rattle.smps_build.specs.Ends.{Interval, interval_walk}
 use Rattle.tree_build.specs.declared.parts.RowValues.{RowValues}
 use Rattle.tree_build.specs.declared.numbering.Debut.{Debut}
 use Rattle.tree_build.specs.Values.{Values}

@@ -4,7 +4,7 @@ ghost use Rattle.scen_defs.specs.Program.{scenarios_content, nodes_content, cont
 ghost use Rattle.scen_tree.specs.declared.position.Position.TheVariants.{Root};
 ghost use Rattle.rationals.specs.Replies.{IsReply, reply_by};
 ghost use Rattle.scen_tree.specs.Chances.{chances_walk, chances_of};
-ghost use Rattle.smps_build.specs.Single.{build_says, BuildFaultOf};
+ghost use Rattle.smps_build.specs.Faults.{build_says, BuildFaultOf};
 ghost use Rattle.build_defs.specs.Built.{columns_from, rows_from};
 ghost use Rattle.time_defs.specs.Periods.{stages};
 ghost use Rattle.tree_build.specs.Values.{all_content};

@@ -1,7 +1,7 @@
 //! The rows of a node with their intervals.
 ghost use Rattle.std.specs.Prelude.{◌≡◌, [], Ok, get_or, MatchResult};
 ghost use Rattle.stoch_defs.specs.Entries.{no_row};
-ghost use Rattle.smps_build.specs.Single.{BuildFaultOf};
+ghost use Rattle.smps_build.specs.Faults.{BuildFaultOf};
 ghost use Rattle.tree_build.specs.Finish.{value_rows};
 
 use crate::parts::RowValues;

@@ -3,7 +3,7 @@ ghost use Rattle.std.specs.Prelude.{◌≡◌, [], Ok, map, length, get_or, IfOk
 ghost use Rattle.rationals.specs.Rational.{one_ℚ};
 ghost use Rattle.stoch_defs.specs.Random.{block_content, branch_content};
 ghost use Rattle.scen_defs.specs.Program.{scenarios_content};
-ghost use Rattle.smps_build.specs.Single.{BuildFaultOf};
+ghost use Rattle.smps_build.specs.Faults.{BuildFaultOf};
 ghost use Rattle.build_defs.specs.Built.{product_from};
 ghost use Rattle.build_defs.specs.Scenarios.{no_branch};
 ghost use Rattle.tree_build.specs.Wheels.{product, sizes_of};

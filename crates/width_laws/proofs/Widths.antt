@@ -14,7 +14,7 @@ use Rattle.scen_defs.specs.Valid.{row_at}
 use Rattle.scen_defs.proofs.SumLaws.{each-map}
 use Rattle.scen_tree.specs.declared.position.Position.{Position}
 use Rattle.scen_tree.specs.Chances.{chances_walk}
-use Rattle.smps_build.specs.Single.{Interval, interval_walk}
+use Rattle.smps_build.specs.Ends.{Interval, interval_walk}
 use Rattle.build_defs.specs.Built.{rows_from, program_of}
 use Rattle.build_defs.proofs.ChanceLemmas.{then_is, fine_is}
 use Rattle.build_defs.proofs.EachLemmas.{each_append}

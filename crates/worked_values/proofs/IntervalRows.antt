@@ -5,7 +5,7 @@ use Rattle.rationals.specs.Rational.{ℚ, ◌÷◌, ◌+ℚ◌, ◌-ℚ◌, ◌�
 use Rattle.rationals.specs.Passes.{Operation, too_wide, answer, then_walk}
 use Rattle.rationals.specs.Choices.{pick}
 use Rattle.smps_words.specs.declared.row_kind.RowKind.TheVariants.{Less, Greater, Equal}
-use Rattle.smps_build.specs.Single.{Interval, size, interval_walk}
+use Rattle.smps_build.specs.Ends.{Interval, size, interval_walk}
 use Rattle.worked_values.specs.IntervalValues.{IntervalsAreAsDocumented}
 
 is_upward : (r : ℚ) → zero_ℚ ≤ℚ r → at_most zero_ℚ r ≡ true

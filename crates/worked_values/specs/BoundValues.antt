@@ -6,7 +6,7 @@ use Rattle.refusals.specs.Results.{unless_refused}
 use Rattle.core_defs.specs.declared.bounds.ColumnBounds.{ColumnBounds}
 use Rattle.core_defs.specs.declared.kinds.BoundKind.TheVariants as bounds
 use Rattle.core_defs.specs.Bounds.{bound_kind, bounds_in}
-use Rattle.smps_build.specs.Single.{Interval}
+use Rattle.smps_build.specs.Ends.{Interval}
 use Rattle.worked_values.specs.Told.{whole_ℚ, minus_ℚ, lines_told, refused_behind}
 
 -- a file with the columns A and B, up to the header BOUNDS

@@ -12,7 +12,7 @@ use Rattle.reader_defs.specs.Reader.{IsFault}
 use Rattle.core_defs.specs.Stated.{free_rows, constraints, constraint_kinds, columns, entry_in, rhs_in, range_in}
 use Rattle.core_defs.specs.Bounds.{bounds_in}
 use Rattle.core_defs.specs.Fault.{core_file, IsCoreFile}
-use Rattle.smps_build.specs.Single.{Interval, interval_walk}
+use Rattle.smps_build.specs.Ends.{Interval, interval_walk}
 use Rattle.worked_values.specs.Told.{whole_ℚ, minus_ℚ, lines_told}
 use Rattle.worked_values.specs.BoundValues.{both_bounds}
 

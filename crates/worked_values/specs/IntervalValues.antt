@@ -5,7 +5,7 @@ use Rattle.rationals.specs.Rational.{ℚ, zero_ℚ, ◌+ℚ◌, ◌-ℚ◌, ◌�
 use Rattle.rationals.specs.Passes.{Operation, too_wide}
 use Rattle.smps_words.specs.declared.row_kind.RowKind.{RowKind}
 use Rattle.smps_words.specs.declared.row_kind.RowKind.TheVariants.{Less, Greater, Equal}
-use Rattle.smps_build.specs.Single.{Interval, interval_walk}
+use Rattle.smps_build.specs.Ends.{Interval, interval_walk}
 use Rattle.worked_values.specs.Told.{whole_ℚ, minus_ℚ}
 
 -- the interval where the right-hand side is 4
