@@ -9,7 +9,7 @@ ghost use Rattle.cut_banks.specs.Pools.{numbers_of, cuts_of, cuts_at, numbers_at
 ghost use Rattle.cut_banks.specs.Pools.{may_change, may_take, may_put, pool_if, with_pool, fitting, swept_for};
 
 use cut_defs::{Due, Shift, Touch};
-use cut_pool::{Offer, Pool, SharedCut, Swept, may_sweep};
+use cut_pool::{Offer, Pool, SharedCut, may_sweep};
 use cut_proof::ChildCuts;
 use frac128::{Form, Memory};
 use pass_table::Reading;
@@ -66,7 +66,7 @@ fn fitting(touch: &Touch, shift: Option<Shift>) -> Option<Shift>
 }
 
 /// Sweeps a touch from a pool, with its shift where it has one. The cuts that rest on it go, or are repaired.
-fn swept(alloc: Global, pool: &mut Pool, due: &Due) -> Result<Swept, Memory>
+fn swept(alloc: Global, pool: &mut Pool, due: &Due) -> Result<(), Memory>
     requires { pool.old.number < 2 ^ 64 - 1 }
     ensures ok { OnOk result (pool.new ≡ swept pool.old due.now.touch (fitting due.now.touch due.now.shift)) }
     ensures err { OnErr result (pool.new ≡ pool.old) }

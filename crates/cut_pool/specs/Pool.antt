@@ -91,37 +91,14 @@ abbrev pub repaired_on : Option Stored → List Stored → List Stored
 repaired_on None cs = cs
 repaired_on (Some r) cs = r ∷ cs
 
-abbrev pub retired_on : Option Stored → Stored → List Stored → List Stored
-retired_on None c cs = c ∷ cs
-retired_on (Some r) c cs = cs
-
-abbrev pub one_more : Option Stored → ℕ → ℕ
-one_more None n = n
-one_more (Some r) n = suc n
-
 -- each cut that rests on the touch is replaced in its place by its repair, or goes
 abbrev pub kept_of : Touch → Option Shift → List Stored → List Stored
 kept_of t shift [] = []
 kept_of t shift (c ∷ cs) = pick (cut_rests c t) (repaired_on (repair_of shift c) (kept_of t shift cs)) (c ∷ kept_of t shift cs)
 
--- those that go
-abbrev pub retired_of : Touch → Option Shift → List Stored → List Stored
-retired_of t shift [] = []
-retired_of t shift (c ∷ cs) = pick (cut_rests c t) (retired_on (repair_of shift c) c (retired_of t shift cs)) (retired_of t shift cs)
-
--- how many are repaired
-abbrev pub repaired_of : Touch → Option Shift → List Stored → ℕ
-repaired_of t shift [] = 0
-repaired_of t shift (c ∷ cs) = pick (cut_rests c t) (one_more (repair_of shift c) (repaired_of t shift cs)) (repaired_of t shift cs)
-
 -- the touch stands last among the known ones
 abbrev pub swept : Held → Touch → Option Shift → Held
 swept p t shift = record p { known = p.known ++ t ∷ []; cuts = kept_of t shift p.cuts; number = suc p.number }
-
--- how many cuts rest on a touch
-abbrev pub resting_of : Touch → List Stored → ℕ
-resting_of t [] = 0
-resting_of t (c ∷ cs) = pick (cut_rests c t) (suc (resting_of t cs)) (resting_of t cs)
 
 abbrev pub VersionIsAbove : Option Shift → Type 0
 VersionIsAbove None = Unit {0}

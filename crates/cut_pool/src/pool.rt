@@ -3,14 +3,13 @@ ghost use Rattle.std.specs.Prelude.{◌≡◌, ◌<◌, ◌^◌, IfOk, OnOk, OnE
 ghost use Rattle.cut_defs.specs.Support.{RestsOnNone};
 ghost use Rattle.cut_defs.specs.Stored.{source_of};
 ghost use Rattle.cut_pool.specs.Held.{IsPool};
-ghost use Rattle.cut_pool.specs.Pool.{offer_of, after_offer, with_cut, swept, retired_of, repaired_of};
-ghost use Rattle.cut_pool.specs.Pool.{resting_of, ShiftFits, VersionIsAbove};
+ghost use Rattle.cut_pool.specs.Pool.{offer_of, after_offer, with_cut, swept, ShiftFits, VersionIsAbove};
 ghost use Rattle.cut_pool.specs.declared.offer.Offer.TheVariants.{Added};
 
 use crate::judging::judge;
 use crate::known::Known;
 use crate::offer::Offer;
-use crate::sweeping::{resting, split};
+use crate::sweeping::left;
 use cut_proof::{Cut, SharedCut, Shift, Touch};
 use frac128::{Form, Memory};
 use std::alloc::Global;
@@ -39,15 +38,6 @@ impl Model for Pool {
     ghost view = { pool_content };
 
     ghost invariant = { λ p. IsPool (pool_content p) };
-}
-
-/// What a sweep did.
-#[derive(Drop)]
-pub struct Swept {
-    /// The cuts that went, in their order.
-    pub retired: Vec<SharedCut>,
-    /// How many were repaired.
-    pub repaired: u64,
 }
 
 /// The cuts and the number of a pool.
@@ -176,40 +166,23 @@ impl Pool {
         Ok(answer)
     }
 
-    /// How many cuts rest on a touch.
-    pub fn resting(&self, touch: &Touch) -> u64
-        ensures { result ≡ resting_of touch.now self.now.cuts }
-    {
-        resting(&self.cuts, touch)
-    }
-
     /// Sweeps a touch: each cut that rests on it is replaced in its place by its repair where there is a shift and a
-    /// repair, and is handed back otherwise. The others stay in their order. The touch stands last among the known
+    /// repair, and goes otherwise. The others stay in their order. The touch stands last among the known
     /// ones, and the number rises by 1. Where memory is wanting the pool stays as it was.
     ///
     /// Time: the supports of all cuts, one more owner for each cut that stays, and the repairs.
-    pub fn sweep(
-        &mut self,
-        alloc: Global,
-        touch: Touch,
-        shift: Option<Shift>,
-    ) -> Result<Swept, Memory>
+    pub fn sweep(&mut self, alloc: Global, touch: Touch, shift: Option<Shift>) -> Result<(), Memory>
         requires number { self.old.number < 2 ^ 64 - 1 }
         requires version { VersionIsAbove shift }
         requires shift { ShiftFits touch shift }
-        ensures ok { IfOk result (λ s. self.new ≡ swept self.old touch shift) }
-        ensures retired { IfOk result (λ s. s.retired.items ≡ retired_of touch shift self.old.cuts) }
-        ensures repaired { IfOk result (λ s. s.repaired ≡ repaired_of touch shift self.old.cuts) }
+        ensures ok { OnOk result (self.new ≡ swept self.old touch shift) }
         ensures err { OnErr result (self.new ≡ self.old) }
     {
-        let parts = split(alloc, &self.cuts, &touch, &shift)?;
+        let cuts = left(alloc, &self.cuts, &touch, &shift)?;
         self.known.push(touch)?;
-        self.cuts = parts.kept;
+        self.cuts = cuts;
         self.number += 1;
-        Ok(Swept {
-            retired: parts.retired,
-            repaired: parts.repaired,
-        })
+        Ok(())
     }
 
     /// The cuts in their order, and the number.
