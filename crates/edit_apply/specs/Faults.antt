@@ -1,4 +1,4 @@
--- What an error of `apply` says.
+-- Why an edit isn't applied, as an error says it.
 use Rattle.std.specs.Prelude.{Option, Some}
 use Rattle.rationals.specs.Replies.{Reply, IsReply}
 use Rattle.rationals.specs.Replies.Reply.{Says, Silent}

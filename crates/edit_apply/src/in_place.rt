@@ -12,7 +12,6 @@ use crate::apply_add::apply_add;
 use crate::apply_drop::apply_drop;
 use crate::apply_prob::apply_prob;
 use crate::apply_set::apply_set;
-use crate::counts::count;
 use crate::fault::ApplyFault;
 use edit_defs::{Counts, Edit};
 use scen_defs::Program;
@@ -54,7 +53,10 @@ pub fn apply_near(
     }
 }
 
-/// Applies an edit in place, as `apply` does, where the counts of the program are known; they become those of the program after it.
+/// Applies an edit in place. The counts are those of the program, and become those of the program after it.
+///
+/// `Refused` says why it doesn't apply: the first test that it fails. Where it applies, memory alone can be wanting. After an
+/// error the program is as it was. An ADD that finds no 16 numbers of 32 bits for new nodes is answered by `Memory`.
 pub fn apply_counted(
     alloc: Global,
     program: &mut Program,
@@ -70,19 +72,4 @@ pub fn apply_counted(
     ensures counted { counted.new ≡ counts (content program.new).nodes }
 {
     apply_near(alloc, program, counted, edit, 0)
-}
-
-/// Applies an edit in place.
-///
-/// `Refused` says why it doesn't apply: the first test that it fails. Where it applies, memory alone can be wanting. After an
-/// error the program is as it was. An ADD that finds no 16 numbers of 32 bits for new nodes is answered by `Memory`.
-pub fn apply(alloc: Global, program: &mut Program, edit: &Edit) -> Result<(), ApplyFault>
-    requires asks { Asks (content program.old) edit.now }
-    ensures ok { OnOk result (content program.new ≡ after (content program.old) edit.now) }
-    ensures cause { MatchResult result (λ _. refused (content program.old) edit.now ≡ None)
-        (ApplyFaultOf (refused (content program.old) edit.now)) }
-    ensures same { OnErr result (content program.new ≡ content program.old) }
-{
-    let mut counted = count(&program.nodes)?;
-    apply_counted(alloc, program, &mut counted, edit)
 }

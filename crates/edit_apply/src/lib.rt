@@ -22,4 +22,4 @@ mod sets;
 pub use counts::count;
 pub use facts::{is_inner, is_known, is_late};
 pub use fault::ApplyFault;
-pub use in_place::{apply, apply_counted, apply_near};
+pub use in_place::{apply_counted, apply_near};
