@@ -4,6 +4,7 @@
 mod bounds;
 mod kinds;
 mod laws;
+mod number;
 mod parts;
 mod place;
 mod program;
@@ -12,6 +13,7 @@ mod section;
 pub use bounds::ColumnBounds;
 pub use kinds::{BoundKind, RowUse};
 pub use laws::core_file_laws;
+pub use number::number_of;
 pub use parts::{ColumnDef, ColumnPart, RowDef};
 pub use place::RowPlace;
 pub use program::Core;

@@ -10,9 +10,9 @@ ghost use Rattle.reader_defs.specs.Stops.{Gives};
 ghost use Rattle.edit_script.specs.Tables.{HasTables};
 
 use crate::entries::{known_entry, later_period};
-use crate::numbers::{inner_number, number_of};
+use crate::numbers::inner_number;
 use crate::tables::Tables;
-use core_defs::Cause;
+use core_defs::{Cause, number_of};
 use edit_apply::is_known;
 use edit_defs::{Edit, place_near};
 use reader_defs::Stop;

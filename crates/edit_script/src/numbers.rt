@@ -1,23 +1,11 @@
 // The numbers of commands.
 ghost use Rattle.std.specs.Prelude.{◌≡◌, ◌≤◌, ◌+◌, ◌*◌, ◌-◌, IfOk};
 ghost use Rattle.frac128.specs.Numbers.{is_digit};
-ghost use Rattle.core_defs.specs.Number.{number_of};
 ghost use Rattle.edit_script.specs.Numbers.{count_of, if_inner, inner_number};
 
-use core_defs::Cause;
+use core_defs::{Cause, number_of};
 use edit_apply::is_inner;
-use frac128::{Frac, NumFault, parse};
-
-/// The number that a field is.
-pub(crate) fn number_of(word: &[u8]) -> Result<Frac, Cause>
-    ensures { result ≡ number_of word.now }
-{
-    match parse(word) {
-        Ok(value) => Ok(value),
-        Err(NumFault::Bad) => Err(Cause::NumberBad),
-        Err(NumFault::Wide) => Err(Cause::NumberWide),
-    }
-}
+use frac128::Frac;
 
 /// The number, where it is above 0 and below 1.
 fn if_inner(value: Frac) -> Result<Frac, Cause>

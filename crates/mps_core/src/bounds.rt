@@ -2,10 +2,9 @@
 use crate::draft::Draft;
 use crate::keywords::{bound_kind, has_value};
 use crate::limits::{are_crossed, bounded, is_sudden};
-use crate::number::number_of;
 use crate::sets::choose;
 use crate::values::{bounds_at, set_bounds};
-use core_defs::{BoundKind, Cause};
+use core_defs::{BoundKind, Cause, number_of};
 use frac128::Frac;
 use reader_defs::Stop;
 use smps_words::Line;

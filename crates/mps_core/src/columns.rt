@@ -1,9 +1,9 @@
 //! The lines of COLUMNS.
 use crate::draft::Draft;
-use crate::number::{is_zero, number_of};
+use crate::number::is_zero;
 use crate::places::{is_last, row_at};
 use crate::values::first_bounds;
-use core_defs::{Cause, ColumnPart, RowPlace};
+use core_defs::{Cause, ColumnPart, RowPlace, number_of};
 use frac128::Frac;
 use reader_defs::Stop;
 use smps_words::Line;

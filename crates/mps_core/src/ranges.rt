@@ -1,10 +1,9 @@
 //! The lines of RANGES.
 use crate::draft::Draft;
-use crate::number::number_of;
 use crate::places::row_at;
 use crate::sets::choose;
 use crate::values::{state, stated};
-use core_defs::{Cause, RowPlace};
+use core_defs::{Cause, RowPlace, number_of};
 use reader_defs::Stop;
 use smps_words::Line;
 use std::alloc::AllocError;

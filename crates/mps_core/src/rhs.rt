@@ -1,10 +1,10 @@
 //! The lines of RHS.
 use crate::draft::Draft;
-use crate::number::{is_zero, number_of};
+use crate::number::is_zero;
 use crate::places::row_at;
 use crate::sets::choose;
 use crate::values::{state, stated};
-use core_defs::{Cause, RowPlace};
+use core_defs::{Cause, RowPlace, number_of};
 use frac128::Frac;
 use reader_defs::Stop;
 use smps_words::Line;
