@@ -6,16 +6,10 @@ use Rattle.scen_defs.specs.Lists.{places}
 use Rattle.scen_defs.specs.declared.program.Column.{Column}
 use Rattle.scen_defs.specs.declared.program.Node.{Node as NodeOf}
 use Rattle.scen_defs.specs.Program.{Program, view_of, column_at, nodes_content}
-use Rattle.scen_tree.specs.declared.position.Position.{Position}
-use Rattle.scen_tree.specs.Trees.{empty_lists}
 use Rattle.cut_defs.specs.declared.datum.ColumnBounds.{ColumnBounds}
 use Rattle.cut_defs.specs.Data.{bounds_of}
 use Rattle.run_data.specs.declared.frame.StageColumns.{StageColumns}
 use Rattle.run_data.specs.Frames.{Frame, columns_from, stage_lists, with_column, columns_in}
-
-pub empty_is : (rest : List Position) → replicate (length rest) [] ≡ empty_lists rest
-empty_is [] = refl
-empty_is (position ∷ rest) = ap (λ (all : List (List ℕ)). [] ∷ all) (empty_is rest)
 
 both : {one other : List ColumnBounds} {rest others : List (List ColumnBounds)} → one ≡ other → rest ≡ others → one ∷ rest ≡ other ∷ others
 both a b = ap₂ (λ (s : List ColumnBounds) (ss : List (List ColumnBounds)). s ∷ ss) a b

@@ -2,15 +2,13 @@
 //! Nodes that were dropped keep their places, and are no node's children.
 ghost use Rattle.std.specs.Prelude.{◌≡◌, ◌<◌, ◌-◌, ◌^◌, [], min, map, length, replicate, IfOk, OnOk};
 ghost use Rattle.scen_defs.specs.Program.{content, place_content, nodes_content, view_of};
-ghost use Rattle.scen_tree.specs.Trees.{lists, position_by, position_of, with_child, children_from};
-ghost use Rattle.scen_tree.specs.declared.position.Position.TheVariants.{Below};
 ghost use Rattle.run_data.specs.Frames.{parent_of, stage_of, columns_from, frame_of, parent_in, children_in, columns_in};
 ghost use Rattle.run_data.specs.Frames.{stage_lists, with_column};
 
 use cut_proof::ColumnBounds;
 use frac128::Memory;
 use scen_defs::{Column, Node, Program};
-use scen_tree::{Children, Position};
+use scen_tree::{Children, children_of, positions_of};
 use std::alloc::Global;
 use std::marker::Model;
 
@@ -69,25 +67,6 @@ fn parent_of(place: &Option<Node>) -> u32
     }
 }
 
-fn position_by(parent: Option<u32>) -> Position
-    ensures { result ≡ position_by parent }
-{
-    match parent {
-        Some(number) => Position::Below(number),
-        None => Position::Root,
-    }
-}
-
-/// Where the node at a place stands.
-fn position_of(place: &Option<Node>) -> Position
-    ensures { result ≡ position_of (place_content place.now) }
-{
-    match place {
-        Some(node) => position_by(node.parent),
-        None => Position::Dropped,
-    }
-}
-
 /// The stage of the node at a place.
 fn stage_of(place: &Option<Node>) -> u32
     ensures { result ≡ stage_of (place_content place.now) }
@@ -118,54 +97,6 @@ fn stages_of(alloc: Global, nodes: &[Option<Node>]) -> Result<Vec<u32>, Memory>
         stages.push(stage_of(place))?;
     }
     Ok(stages)
-}
-
-/// No children, for so many nodes.
-fn childless(alloc: Global, count: usize) -> Result<Vec<Children>, Memory>
-    ensures { IfOk result (λ all. lists all.items ≡ replicate count []) }
-{
-    let mut all = Vec::new(alloc);
-    for _node in 0..count {
-        all.push(Children {
-            nodes: Vec::new(alloc),
-        })?;
-    }
-    Ok(all)
-}
-
-/// Adds a node to the children of that parent, where there is one of that number.
-fn push_child(all: &mut Vec<Children>, node: u32, parent: u32) -> Result<(), Memory>
-    ensures { OnOk result (lists all.new.items ≡ with_child node (Below parent) 0 (lists all.old.items)) }
-{
-    let place = parent as usize;
-    if place < all.len() {
-        all[place].nodes.push(node)?;
-    }
-    Ok(())
-}
-
-/// Adds a node to the children of its parent.
-fn add_child(all: &mut Vec<Children>, node: u32, position: Position) -> Result<(), Memory>
-    ensures { OnOk result (lists all.new.items ≡ with_child node position 0 (lists all.old.items)) }
-{
-    match position {
-        Position::Dropped => Ok(()),
-        Position::Root => Ok(()),
-        Position::Below(parent) => push_child(all, node, parent),
-    }
-}
-
-/// The children of each node.
-fn children_of(alloc: Global, nodes: &[Option<Node>]) -> Result<Vec<Children>, Memory>
-    ensures { let positions = map position_of (nodes_content nodes.now) in
-        IfOk result (λ all. length nodes.now < 2 ^ 32 → lists all.items ≡ children_from positions 0 positions) }
-{
-    let mut all = childless(alloc, nodes.len())?;
-    for number in 0..numbered(nodes.len()) {
-        let position = position_of(&nodes[number]);
-        add_child(&mut all, number as u32, position)?;
-    }
-    Ok(all)
 }
 
 /// No columns, for so many stages.
@@ -215,7 +146,8 @@ impl Frame {
         ensures { IfOk result (λ frame. frame ≡ frame_of (content program.now)) }
     {
         let parents = parents_of(alloc, &program.nodes)?;
-        let children = children_of(alloc, &program.nodes)?;
+        let positions = positions_of(alloc, &program.nodes)?;
+        let children = children_of(alloc, &positions)?;
         let stages = stages_of(alloc, &program.nodes)?;
         let columns = columns_of(alloc, program)?;
         Ok(Frame {

@@ -49,10 +49,7 @@ fn push_child(all: &mut Vec<Children>, node: u32, parent: u32) -> Result<(), All
 }
 
 /// The children of each node.
-pub(crate) fn children_of(
-    alloc: Global,
-    positions: &[Position],
-) -> Result<Vec<Children>, AllocError>
+pub fn children_of(alloc: Global, positions: &[Position]) -> Result<Vec<Children>, AllocError>
     requires { length positions.now < 2 ^ 32 }
     ensures { IfOk result (λ all. lists all.items ≡ children_from positions.now 0 positions.now) }
 {

@@ -7,7 +7,7 @@ mod shares;
 mod totals;
 mod tree;
 
-pub use children::Children;
+pub use children::{Children, children_of};
 pub use position::Position;
 pub use shares::{Chances, node_chances};
-pub use tree::Tree;
+pub use tree::{Tree, positions_of};

@@ -49,7 +49,7 @@ fn position_of(place: &Option<Node>) -> Position
 }
 
 /// Where each node stands.
-fn positions_of(alloc: Global, nodes: &[Option<Node>]) -> Result<Vec<Position>, AllocError>
+pub fn positions_of(alloc: Global, nodes: &[Option<Node>]) -> Result<Vec<Position>, AllocError>
     ensures { IfOk result (λ positions. positions.items ≡ map position_of (nodes_content nodes.now)) }
 {
     let mut positions = Vec::new(alloc);
