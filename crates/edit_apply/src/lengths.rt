@@ -5,9 +5,10 @@ ghost use Rattle.edit_defs.specs.After.{set_entry};
 ghost use Rattle.edit_defs.specs.Shifts.{find_row};
 
 use crate::entry::length_with;
-use edit_defs::{node_of, row_of};
+use edit_defs::row_of;
 use frac128::{Form, Frac};
 use scen_defs::{Node, NodeRow};
+use scen_nodes::find;
 use std::alloc::Global;
 
 /// How many terms a form has, and how many with the value in the column.
@@ -29,7 +30,7 @@ pub(crate) fn cost_lengths(
     ensures less { result.0 ≡ length (node_at (nodes_content nodes.now) node).cost }
     ensures more { result.1 ≡ length (set_entry column value (node_at (nodes_content nodes.now) node).cost) }
 {
-    match node_of(nodes, node) {
+    match find(nodes, node as u64) {
         Some(found) => lengths(&found.cost, column, value),
         None => {
             let bare = Form::empty(alloc);
@@ -70,7 +71,7 @@ pub(crate) fn entry_lengths(
     ensures less { result.0 ≡ length (find_row row (node_at (nodes_content nodes.now) node).rows).entries }
     ensures more { result.1 ≡ length (set_entry column value (find_row row (node_at (nodes_content nodes.now) node).rows).entries) }
 {
-    match node_of(nodes, node) {
+    match find(nodes, node as u64) {
         Some(found) => row_lengths(alloc, &found.rows, row, column, value),
         None => row_lengths(alloc, &[], row, column, value),
     }

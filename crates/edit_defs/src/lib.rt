@@ -13,5 +13,5 @@ pub use laws::{
     edits_keep_programs, edits_without_cause_apply, gone_are_dropped, right_sides_shift,
     scripts_make_books, untouched_stays, widths_stay, worked_script,
 };
-pub use look::{find, home, home_near, node_of, path, place_near, probability, row_of, stage_of};
+pub use look::{find, home, home_near, path, place_near, probability, row_of, stage_of};
 pub use right::right_ends;

@@ -1,7 +1,6 @@
 // The scenario of a name, and the node and the row that an entry belongs to.
-ghost use Rattle.std.specs.Prelude.{◌≡◌, ◌<◌, true, map, length, is_some, IfSome, IfNone, MatchOption, get_or};
+ghost use Rattle.std.specs.Prelude.{◌≡◌, ◌<◌, true, map, length, is_some, IfSome, IfNone, get_or};
 ghost use Rattle.scen_defs.specs.Lists.{passes_at};
-ghost use Rattle.scen_defs.specs.Program.{is_live, node_at, node_content, nodes_content, no_node};
 ghost use Rattle.scen_defs.specs.Program.{Scenario as ScenarioContent, scenario_content, scenarios_content, content, column_at};
 ghost use Rattle.scen_defs.specs.Valid.{row_at, Differ};
 ghost use Rattle.edit_defs.specs.After.{is_known, is_named, scenario_named, no_scenario, stage_of_entry, home_of};
@@ -9,7 +8,7 @@ ghost use Rattle.edit_defs.specs.Shifts.{find_row, no_row};
 ghost use Rattle.edit_defs.specs.Touches.{path_of};
 
 use frac128::Frac;
-use scen_defs::{Column, Node, NodeRow, Program, Row, Scenario};
+use scen_defs::{Column, NodeRow, Program, Row, Scenario};
 use smps_words::{Entry, Name};
 
 /// The scenario of a name.
@@ -175,22 +174,6 @@ pub fn home_near(program: &Program, guess: usize, name: &Name, entry: Entry) -> 
     match find_near(&program.scenarios, guess, name) {
         Some(scenario) => node_on(&scenario.path, stage),
         None => node_on(&[], stage),
-    }
-}
-
-/// The node of that number, where it is live.
-pub fn node_of(nodes: &[Option<Node>], node: u32) -> Option<&Node>
-    ensures live { is_some result ≡ passes_at is_live node (nodes_content nodes.now) }
-    ensures node { MatchOption result (node_at (nodes_content nodes.now) node ≡ no_node)
-        (λ found. node_at (nodes_content nodes.now) node ≡ node_content found.now) }
-{
-    let place = node as usize;
-    if place >= nodes.len() {
-        return None;
-    }
-    match &nodes[place] {
-        Some(found) => Some(found),
-        None => None,
     }
 }
 

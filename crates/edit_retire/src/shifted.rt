@@ -9,9 +9,10 @@ ghost use Rattle.edit_defs.specs.Shifts.{find_row, side, old_side, new_side};
 ghost use Rattle.edit_retire.specs.Shifted.{entry_shift, shift_of};
 
 use cut_defs::Shift;
-use edit_defs::{Edit, home, node_of, right_ends, row_of};
+use edit_defs::{Edit, home, right_ends, row_of};
 use frac128::Frac;
 use scen_defs::{NodeRow, Program};
+use scen_nodes::find;
 use smps_words::{Entry, Name};
 
 /// The number of an end, 0 where it is absent.
@@ -49,7 +50,7 @@ fn side_before(program: &Program, name: &Name, row: u32) -> Frac
     ensures { result ≡ old_side (content program.now) name.now row }
 {
     let place = home(program, name, Entry::Rhs { row });
-    match node_of(&program.nodes, place) {
+    match find(&program.nodes, place as u64) {
         Some(node) => row_side(&node.rows, row),
         None => row_side(&[], row),
     }
