@@ -1,11 +1,14 @@
 -- More than six fields fit no line.
-use Rattle.std.proofs.Common.{◌≡◌, ◌<◌, ℕ, suc, Bool, true, false, List, ◌∷◌, length, Some, Err, refl, sym, ap, ◌∙◌, arith}
+use Rattle.std.proofs.Common.{◌≡◌, ◌<◌, ℕ, suc, Bool, true, false, List, ◌∷◌, [], length, Some, Err, refl, sym, ap, ◌∙◌, arith}
 use Rattle.std.specs.Prelude.{if◌then◌else◌}
 use Rattle.refusals.specs.declared.cause.Cause.TheVariants as cause
 use Rattle.core_defs.specs.declared.kinds.BoundKind.{BoundKind}
 use Rattle.core_defs.specs.Bounds.{bound_kind, has_value}
 use Rattle.core_defs.specs.Filed.{Filed}
 use Rattle.core_defs.specs.Step.{row_line, column_line, rhs_line, range_line, value_line, plain_line, bound_line}
+use Rattle.mps_core.specs.declared.pairs.PairSection.{PairSection}
+use Rattle.mps_core.specs.declared.pairs.PairSection.TheVariants.{Rhs, Ranges}
+use Rattle.mps_core.specs.Pairs.{pairs_line}
 use Rattle.reader_defs.proofs.ManyFields.{many_fields}
 
 pub long_row : (f : Filed) (fields : List (List ℕ)) → length fields ≡ 7 → row_line f fields ≡ Err cause.FieldCount
@@ -16,13 +19,29 @@ pub long_column : (f : Filed) (fields : List (List ℕ)) → length fields ≡ 7
 unfolding column_line
 long_column f fields seven = many_fields 6 (λ all. column_line f all ≡ Err cause.FieldCount) fields (omega arith) (λ a b c d e g rest. refl)
 
-pub long_rhs : (f : Filed) (fields : List (List ℕ)) → length fields ≡ 7 → rhs_line f fields ≡ Err cause.FieldCount
-unfolding rhs_line
-long_rhs f fields seven = many_fields 6 (λ all. rhs_line f all ≡ Err cause.FieldCount) fields (omega arith) (λ a b c d e g rest. refl)
+pub long_pairs : (section : PairSection) (f : Filed) (fields : List (List ℕ)) → length fields ≡ 7 → pairs_line section f fields ≡ Err cause.FieldCount
+long_pairs section f fields seven = many_fields 6 (λ all. pairs_line section f all ≡ Err cause.FieldCount) fields (omega arith) (λ a b c d e g rest. refl)
 
-pub long_range : (f : Filed) (fields : List (List ℕ)) → length fields ≡ 7 → range_line f fields ≡ Err cause.FieldCount
+-- The lines of pairs are those of RHS and of RANGES.
+pub rhs_pairs : (f : Filed) (fields : List (List ℕ)) → pairs_line Rhs f fields ≡ rhs_line f fields
+unfolding rhs_line
+rhs_pairs f [] = refl
+rhs_pairs f (a ∷ []) = refl
+rhs_pairs f (a ∷ b ∷ []) = refl
+rhs_pairs f (a ∷ b ∷ c ∷ []) = refl
+rhs_pairs f (a ∷ b ∷ c ∷ d ∷ []) = refl
+rhs_pairs f (a ∷ b ∷ c ∷ d ∷ e ∷ []) = refl
+rhs_pairs f (a ∷ b ∷ c ∷ d ∷ e ∷ g ∷ rest) = refl
+
+pub range_pairs : (f : Filed) (fields : List (List ℕ)) → pairs_line Ranges f fields ≡ range_line f fields
 unfolding range_line
-long_range f fields seven = many_fields 6 (λ all. range_line f all ≡ Err cause.FieldCount) fields (omega arith) (λ a b c d e g rest. refl)
+range_pairs f [] = refl
+range_pairs f (a ∷ []) = refl
+range_pairs f (a ∷ b ∷ []) = refl
+range_pairs f (a ∷ b ∷ c ∷ []) = refl
+range_pairs f (a ∷ b ∷ c ∷ d ∷ []) = refl
+range_pairs f (a ∷ b ∷ c ∷ d ∷ e ∷ []) = refl
+range_pairs f (a ∷ b ∷ c ∷ d ∷ e ∷ g ∷ rest) = refl
 
 -- Nor do more than three behind a kind of bounds.
 pub long_value : (f : Filed) (kind : BoundKind) (fields : List (List ℕ)) → 3 < length fields → value_line f kind fields ≡ Err cause.FieldCount

@@ -1,6 +1,7 @@
 //! Headers, and the lines of all sections.
 use crate::draft::Draft;
 use crate::keywords::{rank, section_of};
+use crate::pairs::PairSection;
 use core_defs::{Cause, Section};
 use reader_defs::Stop;
 use smps_words::Line;
@@ -53,6 +54,7 @@ impl Draft {
     }
 
     /// A data line of the section.
+    #[tactic(auto, using(crate::proofs::StepLemmas::rhs_pairs, crate::proofs::StepLemmas::range_pairs))]
     fn data_line(&mut self, line: &Line) -> Result<(), Stop>
         requires { self.old.entries ≤ most_entries }
         ensures filed { Files self.new result (data_line self.old.section (filed self.old) (seen line.now).fields) }
@@ -61,8 +63,8 @@ impl Draft {
         match self.section {
             Section::Rows => self.row_line(line),
             Section::Columns => self.column_line(line),
-            Section::Rhs => self.rhs_line(line),
-            Section::Ranges => self.range_line(line),
+            Section::Rhs => self.pairs_line(PairSection::Rhs, line),
+            Section::Ranges => self.pairs_line(PairSection::Ranges, line),
             Section::Bounds => self.bound_line(line),
             Section::Start | Section::Name | Section::End => {
                 Err(Stop::Fault(Cause::SectionOrder))
