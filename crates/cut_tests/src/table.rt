@@ -23,6 +23,12 @@ fn commit(table: &mut Table, worker: u32, numbers: &[u64], readings: &[Reading],
     }
 }
 
+fn forget(table: &mut Table, worker: u32) {
+    if table.commits() < 1000 && table.has_flight(worker) {
+        table.forget(worker);
+    }
+}
+
 fn raise(table: &mut Table, pool: u32) {
     if 0 < pool && (pool as usize) < table.places() {
         table.raise(pool);
@@ -41,6 +47,11 @@ fn read(first: u64, second: u64) -> [Reading; 2] {
             number: second,
         },
     ]
+}
+
+/// The pool of the one child of a node, with this number.
+fn read_one(child: u32, number: u64) -> [Reading; 1] {
+    [Reading { child, number }]
 }
 
 /// A worker begins this node, or none.
@@ -67,6 +78,7 @@ fn first_round(rt: &impl Abort, table: &mut Table) {
     commit(table, 0, &[0, 0, 0], &[], true);
     raise(table, 1);
     answers(rt, table, (false, false), "node 2 is in flight");
+    begins(rt, table, 0, None, "no round begins beside node 2");
     commit(table, 1, &[0, 1, 0], &[], true);
     answers(rt, table, (false, true), "each node once");
 }
@@ -95,5 +107,38 @@ fn three_nodes(rt: HostRuntime) -> Result<(), Fail> {
     let mut table = start(rt.alloc())?;
     first_round(&rt, &mut table);
     second_round(&rt, &mut table);
+    Ok(())
+}
+
+/// The nodes 0, 1 and 2, each below the one before, once each, with an offer of node 2 and one of node 1 added.
+fn down_the_path(rt: &impl Abort, table: &mut Table) {
+    begins(rt, table, 0, Some(0), "the root");
+    commit(table, 0, &[0, 0, 0], &read_one(1, 0), true);
+    begins(rt, table, 0, Some(1), "node 1");
+    begins(rt, table, 1, None, "nothing below node 1");
+    commit(table, 0, &[0, 0, 0], &read_one(2, 0), true);
+    raise(table, 1);
+    begins(rt, table, 1, Some(2), "node 2");
+    begins(rt, table, 0, None, "nothing above node 2");
+    commit(table, 1, &[0, 1, 0], &[], true);
+    raise(table, 2);
+}
+
+/// Nodes 0 and 1 may be begun: the root is, and node 1 has to wait for it. Where the root's solve leaves nothing, node 1 doesn't
+/// wait any more.
+fn below_a_flight(rt: &impl Abort, table: &mut Table) {
+    begins(rt, table, 0, Some(0), "the root again");
+    begins(rt, table, 1, None, "node 1 is below it");
+    forget(table, 0);
+    begins(rt, table, 1, Some(1), "node 1 comes before the root");
+    begins(rt, table, 0, None, "the root is above it");
+}
+
+#[test]
+fn three_on_a_path(rt: HostRuntime) -> Result<(), Fail> {
+    let parents = vec![in rt.alloc(); 0u32, 0, 1]?;
+    let mut table = Table::start(rt.alloc(), parents, 2)?;
+    down_the_path(&rt, &mut table);
+    below_a_flight(&rt, &mut table);
     Ok(())
 }

@@ -1,17 +1,18 @@
 -- What Reads leave, what a commit is given behind them, and that a turn keeps a machine valid and idle.
-use Rattle.std.proofs.Common.{◌≡◌, ℕ, zero, suc, ◌<◌, ◌⊎◌, inl, inr, Bool, Some, None, List, [], ◌∷◌, length, get_or, map, arith, refl, sym, ap, subst, ◌∙◌}
+use Rattle.std.proofs.Common.{◌≡◌, ℕ, zero, suc, ◌<◌, ◌≤◌, ◌⊎◌, inl, inr, Bool, Option, Some, None, List, [], ◌∷◌, length, get_or, map, arith, refl, sym, ap, subst, ◌∙◌}
 use Rattle.std.specs.List.{Contains}
 use Rattle.std.proofs.lemmas.Bool.{cases_eq}
 use Rattle.std.proofs.lemmas.List.{get_or-map, length-map, get_or_default}
 use Rattle.pass_table.specs.declared.table.Reading.{Reading}
 use Rattle.pass_table.specs.declared.table.Table.{Table}
-use Rattle.pass_table.specs.Machine.{Flight, Machine, IsChild, IsFlown, IsNext, IsValid, with_at, begun, read_by, read, committed}
-use Rattle.pass_table.specs.Fits.{Fits, HasRead}
+use Rattle.pass_table.specs.Machine.{Flight, Machine, IsChild, IsFlown, IsFlying, MayBegin, IsFree, IsNext, HasNoNext, IsValid, with_at, begun, read_by, read, committed}
+use Rattle.pass_table.specs.Fits.{Fits, AnswersBegin, HasRead}
 use Rattle.pass_table.specs.Readings.{reading_at, no_reading, IsRead}
 use Rattle.pass_table.proofs.Stale.{same_at, other_at}
+use Rattle.pass_table.proofs.Begins.{fits_none}
 use Rattle.pass_table.proofs.Valid.{valid_begun, valid_read, valid_committed, valid_dropped, valid_raised}
 use Rattle.pass_table.proofs.ReadLaws.{read_fits}
-use Rattle.one_worker.specs.Turn.{IsIdle, AreChildren, first_flight, read_by_each, read_each, EndsTurn, drops, commits, adds, TakesTurn}
+use Rattle.one_worker.specs.Turn.{AnswersTurn, IsIdle, AreChildren, first_flight, read_by_each, read_each, EndsTurn, drops, commits, adds, TakesTurn}
 
 -- ---- Reads
 -- what Reads leave as it was, and the flight
@@ -22,7 +23,7 @@ pub record AreReads (m : Machine) (f : Flight) (cs : List ℕ) (k : Machine) : T
   pub commits : k.commits ≡ m.commits
   pub last : k.last ≡ m.last
   pub number : k.number ≡ m.number
-  pub from : k.from ≡ m.from
+  pub waits : k.waits ≡ m.waits
   pub flight : k.flight 0 ≡ Some (read_by_each m.number f cs)
   pub others : (w : ℕ) → (w ≡ 0 → ⊥) → k.flight w ≡ m.flight w
   pub valid : IsValid k
@@ -36,7 +37,7 @@ reads_are m f [] valid has = record {
   commits = refl;
   last = refl;
   number = refl;
-  from = refl;
+  waits = refl;
   flight = has;
   others = λ w ne. refl;
   valid = valid;
@@ -51,7 +52,7 @@ reads_are m f (c ∷ cs) valid has =
       commits = rest.commits;
       last = rest.last;
       number = rest.number;
-      from = rest.from;
+      waits = rest.waits;
       flight = rest.flight;
       others = λ w ne. rest.others w ne ∙ other_at m.flight 0 _ w ne;
       valid = rest.valid;
@@ -146,6 +147,34 @@ has_read m k f cs numbers children reads present = record {
         subst P (sym (at i less)) (present i less ∙ ap (λ (n : ℕ → ℕ). n (get_or cs i 0)) (sym reads.number))
 
 -- ---- a whole turn
+none_flown : (x : Option Flight) (f : Flight) → x ≡ None → x ≡ Some f → ⊥
+none_flown x f e d = cc
+
+-- where no solve is in flight a node that may be begun is free
+pub idle_free : (m : Machine) (n : ℕ) → IsIdle m → MayBegin m n → IsFree m n
+idle_free m n idle may = record { may = may; above = λ a up (w, (f, flown)). none_flown (m.flight w) f (idle w) flown.flight }
+
+-- and where none is next none may be begun
+pub none_next : (m : Machine) → IsIdle m → HasNoNext m → (n : ℕ) → MayBegin m n → ⊥
+none_next m idle none n may = by (none n (idle_free m n idle may)).1
+  where
+    by : (k : ℕ) × IsFlying m k → ⊥
+    by (k, (w, (f, flown))) = none_flown (m.flight w) f (idle w) flown.flight
+
+pub answers_turn : (m : Machine) (answer : Option ℕ) (t : Table) → IsIdle m → AnswersBegin m 0 answer t → AnswersTurn m answer t
+answers_turn m None t idle h = (none_next m idle h.0, h.1)
+answers_turn m (Some n) t idle h = h
+
+past : {A : Type 0} (xs : List A) (n : ℕ) (d : A) → length xs ≤ n → get_or xs n d ≡ d
+past [] n d out = refl
+past (x ∷ xs) zero d out = absurd (omega (arith, out))
+past (x ∷ xs) (suc n) d out = past xs n d (omega (arith, out))
+
+-- a table with a place for one solve in flight fits a machine that has no other one
+pub idle_by_table : (t : Table) (m : Machine) → Fits t m → length t.flights.items ≡ 1 → m.flight 0 ≡ None → IsIdle m
+idle_by_table t m fits one none zero = none
+idle_by_table t m fits one none (suc w) = fits_none m _ _ (past t.flights.items (suc w) None (omega (arith, one))) (fits.agrees.flights (suc w))
+
 -- behind a Begin: no other worker has a solve in flight
 pub begun_others : (m : Machine) (n w : ℕ) → IsIdle m → (w ≡ 0 → ⊥) → (begun m 0 n).flight w ≡ None
 begun_others m n w idle ne = other_at m.flight 0 _ w ne ∙ idle w

@@ -1,19 +1,19 @@
 -- Turns that add no cut: those of the round that is under way, of one node each, and those behind it, which are a stretch of events.
-use Rattle.std.proofs.Common.{◌≡◌, ℕ, zero, suc, ◌+◌, ◌*◌, ◌<◌, ◌≤◌, ◌⊎◌, inl, inr, Bool, true, false, Option, Some, None, List, [], ◌∷◌, length, get_or, arith, refl, sym, ap, subst, ◌∙◌}
-use Rattle.std.proofs.lemmas.Bool.{cases_eq, cases_lt}
-use Rattle.pass_table.specs.Machine.{IsAbove, Last, Flight, Machine, IsLive, IsChild, IsFresh, IsOpen, IsFlown, MayBegin, IsValid, with_at, begun, read_by, read, committed}
+use Rattle.std.proofs.Common.{◌≡◌, ℕ, zero, suc, ◌+◌, ◌*◌, ◌<◌, ◌≤◌, ◌⊎◌, inl, inr, Bool, true, false, cond, Option, Some, None, List, [], ◌∷◌, length, get_or, arith, refl, sym, ap, subst, ◌∙◌}
+use Rattle.std.proofs.lemmas.Bool.{cases_eq, cases_lt, false≢true}
+use Rattle.pass_table.specs.Machine.{IsAbove, Last, Flight, Machine, IsLive, IsChild, IsFresh, IsOpen, IsFlown, MayBegin, IsValid, with_at, begun_waits, begun, read_by, read, committed}
 use Rattle.pass_table.specs.Progress.{count_below, Stretch, empty, begins, reads, commits}
 use Rattle.pass_table.proofs.Stale.{same_at, other_at, above_live, above_less, may_before}
 use Rattle.pass_table.proofs.Above.{above_above}
 use Rattle.pass_table.proofs.Agree.{fresh_told}
 use Rattle.pass_table.proofs.Events.{may_begun}
 use Rattle.pass_table.proofs.ReadLaws.{may_read}
-use Rattle.pass_table.proofs.CountBelow.{count_next, count_rises}
+use Rattle.pass_table.proofs.CountBelow.{count_less, count_more}
 use Rattle.pass_table.proofs.Progressing.{progress}
 use Rattle.pass_table.proofs.Valid.{valid_committed}
-use Rattle.one_worker.specs.Turn.{IsIdle, AreChildren, first_flight, read_by_each, read_each}
+use Rattle.one_worker.specs.Turn.{IsIdle, first_flight, read_by_each, read_each}
 use Rattle.one_worker.specs.Work.{TakesVainTurn, VainTurns, none, more}
-use Rattle.one_worker.proofs.Turning.{AreReads, node_read, below_read, turn_reads, turn_flown, freed, begun_others}
+use Rattle.one_worker.proofs.Turning.{AreReads, node_read, below_read, turn_reads, turn_flown, idle_free, freed, begun_others}
 
 -- ---- Reads
 -- a stretch goes on by Reads of these pools by the worker's solve, which has none of them left to read
@@ -93,7 +93,7 @@ above_read number f (c ∷ cs) = above_read number (read_by f c (number c)) cs
 -- what stands behind a turn that adds no cut
 record IsBehind (m k : Machine) (n : ℕ) : Type 0 where
   live : k.live ≡ m.live
-  from : k.from ≡ n + 1
+  waits : k.waits ≡ begun_waits m.waits n
   node : IsLive m n
   valid : IsValid k
   idle : IsIdle k
@@ -102,7 +102,7 @@ record IsBehind (m k : Machine) (n : ℕ) : Type 0 where
 behind : (m k : Machine) → IsValid m → IsIdle m → (turn : TakesVainTurn m k) → IsBehind m k turn.node
 behind m k valid idle turn = subst (λ (x : Machine). IsBehind m x turn.node) (sym turn.is) (record {
   live = all.live;
-  from = all.from;
+  waits = all.waits;
   node = turn.next.may.live;
   valid = valid_committed reached 0 flight turn.point all.valid flown;
   idle = freed reached (λ w ne. all.others w ne ∙ begun_others m turn.node w idle ne);
@@ -213,12 +213,23 @@ one_more start m k turns before turn opens = subst (λ (x : Machine). GoesOn sta
     whole : (c : ℕ) → IsChild at flight.node c → on.left 0 c ≡ false
     whole c h = let here = (turn.are_children c).0 (child_of c h) in on.read_all c here.0 here.1 here.2
 
--- how turns that add no cut have gone on: within the round that was under way, or a whole one has begun since
+-- the live nodes that wait
+abbrev WaitsAlive : Machine → Machine → ℕ → Bool
+WaitsAlive start m k = cond (m.waits k) (start.live k) false
+
+waits_most : (start m : Machine) (nodes : ℕ) → count_below (WaitsAlive start m) nodes ≤ count_below start.live nodes
+waits_most start m nodes = count_less (WaitsAlive start m) start.live nodes (λ j h. alive (m.waits j) (start.live j) h)
+  where
+    alive : (a b : Bool) → cond a b false ≡ true → b ≡ true
+    alive true b h = h
+    alive false b h = absurd (false≢true h)
+
+-- how turns that add no cut have gone on: within the round that was under way, each of another node, which waits from then on; or a whole
+-- round has begun since, and goes on from this number
 data HasGone (start : Machine) (nodes : ℕ) : ℕ → Machine → Type 0 where
-  in_round : (turns : ℕ) (m : Machine) → turns + count_below start.live start.from ≤ count_below start.live m.from → turns ≤ count_below start.live nodes
-      → HasGone start nodes turns m
-  behind_it : (turns since : ℕ) (j m : Machine) → turns ≤ count_below start.live nodes → j.live ≡ start.live → IsValid j → IsIdle j → IsSwept m m.from → GoesOn j m since
-      → HasGone start nodes (turns + since) m
+  in_round : (turns : ℕ) (m : Machine) → turns ≤ count_below (WaitsAlive start m) nodes → HasGone start nodes turns m
+  behind_it : (turns since from : ℕ) (j m : Machine) → turns ≤ count_below start.live nodes → j.live ≡ start.live → IsValid j → IsIdle j → IsSwept m from
+      → ((k : ℕ) → m.waits k ≡ true → k < from) → GoesOn j m since → HasGone start nodes (turns + since) m
 
 record Goes (start : Machine) (nodes turns : ℕ) (m : Machine) : Type 0 where
   valid : IsValid m
@@ -241,52 +252,79 @@ step start nodes within turns m k goes turn = record {
     n : ℕ
     n = turn.node
 
-    -- a node that comes before none of the round is the first of all
-    swept_at : IsSwept m m.from → IsSwept m n
-    swept_at swept j less may = go (cases_lt j m.from)
-      where
-        go : (j < m.from) ⊎ (m.from ≤ j) → ⊥
-        go (inl low) = swept j low may
-        go (inr high) = turn.next.first j (inl (high, inl less)) may
-
-    swept_round : n < m.from → IsSwept m n
-    swept_round early j less may = turn.next.first j (inr (less, early)) may
-
-    on : IsSwept m n → IsSwept k k.from
-    on swept = subst (IsSwept k) (sym to.from) (to.swept swept)
-
     live_at : start.live n ≡ true
     live_at = ap (λ (l : ℕ → Bool). l n) (sym goes.live) ∙ to.node
 
-    one : count_below start.live (n + 1) ≡ count_below start.live n + 1
-    one = count_next start.live n live_at
+    waits_at : (b : Bool) → m.waits n ≡ b → (j : ℕ) → k.waits j ≡ with_at (cond b (λ x. false) m.waits) n true j
+    waits_at b e j = ap (λ (w : ℕ → Bool). w j) to.waits ∙ ap (λ x. with_at (cond x (λ y. false) m.waits) n true j) e
 
-    last : count_below start.live (n + 1) ≤ count_below start.live nodes
-    last = count_rises start.live (n + 1) nodes (let h = within n live_at in omega (arith, h))
+    -- the node that begins a round is the first of all
+    swept_round : m.waits n ≡ true → IsSwept m n
+    swept_round e j less may = go (m.waits j) refl
+      where
+        go : (b : Bool) → m.waits j ≡ b → ⊥
+        go true t = turn.next.first j (inr (t ∙ sym e, less)) (idle_free m j goes.idle may)
+        go false f = turn.next.first j (inl (f, e)) (idle_free m j goes.idle may)
 
-    at_from : count_below start.live k.from ≡ count_below start.live (n + 1)
-    at_from = ap (count_below start.live) to.from
-
-    begin_round : (turns : ℕ) → turns ≤ count_below start.live nodes → IsSwept m n → HasGone start nodes (turns + 1) k
-    begin_round turns few swept = behind_it turns 1 m k few goes.live goes.valid goes.idle (on swept)
+    begin_round : (turns : ℕ) → turns ≤ count_below start.live nodes → m.waits n ≡ true → HasGone start nodes (turns + 1) k
+    begin_round turns few e = behind_it turns 1 (n + 1) m k few goes.live goes.valid goes.idle (to.swept (swept_round e)) low
         (one_more m m k 0 (record { unread = λ w c. false; stretch = empty; valid = goes.valid; idle = goes.idle; count = omega arith }) turn
-        (below_open m n goes.valid goes.idle turn.next.may swept))
+        (below_open m n goes.valid goes.idle turn.next.may (swept_round e)))
+      where
+        low : (j : ℕ) → k.waits j ≡ true → j < n + 1
+        low j t = go (cases_eq j n)
+          where
+            go : (j ≡ n) ⊎ (j ≡ n → ⊥) → j < n + 1
+            go (inl same) = omega (arith, same)
+            go (inr ne) = absurd (false≢true (sym (other_at (λ (x : ℕ). false) n true j ne) ∙ sym (waits_at true e j) ∙ t))
+
+    -- one more node waits
+    one_waits : m.waits n ≡ false → count_below (WaitsAlive start k) nodes ≡ count_below (WaitsAlive start m) nodes + 1
+    one_waits e = count_more (WaitsAlive start m) (WaitsAlive start k) n nodes (within n live_at)
+        (ap (λ b. cond b (start.live n) false) e)
+        (ap (λ b. cond b (start.live n) false) (waits_at false e n ∙ same_at m.waits n true n refl) ∙ live_at)
+        (λ j ne. ap (λ b. cond b (start.live j) false) (sym (waits_at false e j ∙ other_at m.waits n true j ne)))
 
     by_gone : (turns : ℕ) → HasGone start nodes turns m → HasGone start nodes (turns + 1) k
-    by_gone t (in_round turns i few most) = go (cases_lt n m.from)
+    by_gone t (in_round turns i few) = go (m.waits n) refl
       where
-        go : (n < m.from) ⊎ (m.from ≤ n) → HasGone start nodes (turns + 1) k
-        go (inl early) = begin_round turns most (swept_round early)
-        go (inr late) =
-            let rise = count_rises start.live m.from n late in
-            in_round (turns + 1) k (omega (arith, few, rise, one, at_from)) (omega (arith, few, rise, one, last))
-    by_gone t (behind_it first since j i few same valid idle swept goes) = subst (λ (t : ℕ). HasGone start nodes t k) (omega arith)
-        (behind_it first (since + 1) j k few same valid idle (on (swept_at swept)) (one_more j m k since goes turn
-        (below_open m n goes.valid goes.idle turn.next.may (swept_at swept))))
+        go : (b : Bool) → m.waits n ≡ b → HasGone start nodes (turns + 1) k
+        go true e = begin_round turns (omega (arith, few, waits_most start m nodes)) e
+        go false e = in_round (turns + 1) k (omega (arith, few, one_waits e))
+    by_gone t (behind_it first since from j i few same valid idle swept low on) = subst (λ (t : ℕ). HasGone start nodes t k) (omega arith)
+        (behind_it first (since + 1) (n + 1) j k few same valid idle (to.swept here) low_on (one_more j m k since on turn (below_open m n goes.valid goes.idle turn.next.may here)))
+      where
+        late : from ≤ n
+        late = go (cases_lt n from)
+          where
+            go : (n < from) ⊎ (from ≤ n) → from ≤ n
+            go (inl early) = absurd (swept n early turn.next.may)
+            go (inr z) = z
+
+        off : (x : ℕ) → from ≤ x → m.waits x ≡ false
+        off x high = go (m.waits x) refl
+          where
+            go : (b : Bool) → m.waits x ≡ b → m.waits x ≡ false
+            go true t = absurd (omega (arith, low x t, high))
+            go false f = f
+
+        here : IsSwept m n
+        here x less may = go (cases_lt x from)
+          where
+            go : (x < from) ⊎ (from ≤ x) → ⊥
+            go (inl early) = swept x early may
+            go (inr high) = turn.next.first x (inr (off x high ∙ sym (off n late), less)) (idle_free m x goes.idle may)
+
+        low_on : (x : ℕ) → k.waits x ≡ true → x < n + 1
+        low_on x t = go (cases_eq x n)
+          where
+            go : (x ≡ n) ⊎ (x ≡ n → ⊥) → x < n + 1
+            go (inl e) = omega (arith, e)
+            go (inr ne) = omega (arith, late, low x (sym (other_at m.waits n true x ne) ∙ sym (waits_at false (off n late) x) ∙ t))
 
 have_gone : (m : Machine) (nodes : ℕ) → IsValid m → IsIdle m → ((n : ℕ) → IsLive m n → n < nodes) → (k : Machine) (turns : ℕ) → VainTurns m turns k → Goes m nodes turns k
 have_gone m nodes valid idle within k turns none =
-    record { valid = valid; idle = idle; live = refl; gone = in_round 0 m (omega arith) (omega arith) }
+    record { valid = valid; idle = idle; live = refl; gone = in_round 0 m (omega arith) }
 have_gone m nodes valid idle within k turns (more before j l all turn) = step m nodes within before j l (have_gone m nodes valid idle within j before all) turn
 
 pub turns_add_cuts : (m k : Machine) (turns nodes : ℕ) → IsValid m → IsIdle m → ((n : ℕ) → IsLive m n → n < nodes) → VainTurns m turns k
@@ -294,7 +332,7 @@ pub turns_add_cuts : (m k : Machine) (turns nodes : ℕ) → IsValid m → IsIdl
 turns_add_cuts m k turns nodes valid idle live all = by_gone turns k (have_gone m nodes valid idle live k turns all).gone
   where
     by_gone : (turns : ℕ) (k : Machine) → HasGone m nodes turns k → turns ≤ 2 * count_below m.live nodes
-    by_gone t i (in_round turns k few most) = omega (arith, most)
-    by_gone t i (behind_it first since j k few same valid' idle' swept on) =
+    by_gone t i (in_round turns k few) = omega (arith, few, waits_most m k nodes)
+    by_gone t i (behind_it first since from j k few same valid' idle' swept low on) =
         let bound = progress.from_idle j k nodes 1 on.unread false valid' (record { live = λ n h. live n (ap (λ (l : ℕ → Bool). l n) (sym same) ∙ h); flown = λ w f e. absurd (none_flown (j.flight w) f (idle' w) e) }) idle' on.stretch in
         omega (arith, few, bound, on.count, ap (λ (l : ℕ → Bool). count_below l nodes) same)

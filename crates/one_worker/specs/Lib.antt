@@ -1,3 +1,4 @@
 pub mod Parents
 pub mod Turn
 pub mod Work
+pub mod Order

@@ -4,5 +4,5 @@
 mod laws;
 mod turns;
 
-pub use laws::{turns_add_cuts, turns_keep_valid};
+pub use laws::{turns_add_cuts, turns_go_round, turns_keep_valid};
 pub use turns::Turns;

@@ -2,9 +2,10 @@
 ghost use Rattle.std.specs.Prelude.{◌≡◌, ◌+◌, ◌<◌, ◌^◌, ◌↔◌, ℕ, IsTrue, IsSome, None, Some, IfOk, IfSome, length};
 ghost use Rattle.pass_table.specs.Machine.{Machine, Flight, IsValid, IsLive, IsClosed, IsComplete, IsFlown};
 ghost use Rattle.pass_table.specs.Machine.{dropped, committed, raised, opened};
-ghost use Rattle.pass_table.specs.Fits.{Fits, AnswersBegin, IsHeld, HasRead, IsStart};
+ghost use Rattle.pass_table.specs.Fits.{Fits, IsHeld, HasRead, IsStart};
 ghost use Rattle.pass_table.specs.Readings.{AreWithin};
 ghost use Rattle.one_worker.specs.Parents.{AreParents};
+ghost use Rattle.one_worker.specs.Turn.{AnswersTurn};
 
 use frac128::Memory;
 use pass_table::{Reading, Table, are_rising, are_within};
@@ -69,7 +70,7 @@ impl Turns {
 
     /// Begins the node that is next, and answers it. None too where a solve is in flight.
     pub fn begin(&mut self) -> Option<u32>
-        ensures { (m : Machine) → IsValid m → Fits self.old m → m.flight 0 ≡ None → AnswersBegin m 0 result self.new }
+        ensures { (m : Machine) → IsValid m → Fits self.old m → m.flight 0 ≡ None → AnswersTurn m result self.new }
     {
         if self.table.flight(WORKER).is_none() {
             self.table.begin(WORKER)

@@ -197,7 +197,7 @@ first_machine p s = record {
   last = λ n. unsolved;
   number = pool_number s;
   flight = λ w. None;
-  from = 0;
+  waits = λ n. false;
 }
 
 pub first_tabled : (p : Program) (s : State) → IsProgram p → s.frame ≡ frame_of p → HasPools (length s.frame.parents) s.banks → IsUnused s
@@ -229,7 +229,7 @@ first_tabled p s i f pools unused = record {
       commits = refl;
       last = λ n. refl;
       flight = λ w. refl;
-      from = refl;
+      waits = λ n. refl;
     }
 
     rooted : (n : ℕ) → 0 < n → IsLive (first_machine p s) n → IsLive (first_machine p s) ((first_machine p s).parent n)

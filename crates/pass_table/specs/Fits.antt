@@ -1,13 +1,13 @@
--- What ties a table to the machine. The lists of the table answer for the machine's functions; three sets hold every node
--- that may be begun, every uppermost node that isn't open, and every uppermost node that isn't good, and others besides.
+-- What ties a table to the machine. The lists of the table answer for the machine's functions; four sets hold every free node,
+-- every node that may be begun, every uppermost node that isn't open, and every uppermost node that isn't good, and others besides.
 use Rattle.std.specs.Prelude.{◌≡◌, ℕ, ◌<◌, ◌≤◌, ◌⊎◌, ◌↔◌, Bool, true, false, Option, Some, None, List, length}
 use Rattle.std.specs.Prelude.{slice_index, slice_index_or}
 use Rattle.pass_table.specs.declared.table.Solve.{Solve}
 use Rattle.pass_table.specs.declared.table.Underway.{Underway}
 use Rattle.pass_table.specs.declared.table.Reading.{Reading}
 use Rattle.pass_table.specs.declared.table.Table.{Table}
-use Rattle.pass_table.specs.Machine.{Flight, Machine, IsLive, IsChild, IsOpen, IsGood, IsClosed, IsComplete, IsFlying, MayBegin, IsNext}
-use Rattle.pass_table.specs.Machine.{IsTop, begun, unsolved}
+use Rattle.pass_table.specs.Machine.{Flight, Machine, IsLive, IsChild, IsOpen, IsGood, IsClosed, IsComplete, IsFlying, MayBegin}
+use Rattle.pass_table.specs.Machine.{IsFree, IsNext, HasNoNext, IsTop, begun, unsolved}
 use Rattle.pass_table.specs.Walks.{solve_at}
 use Rattle.pass_table.specs.Readings.{reading_at, IsRead}
 
@@ -40,11 +40,12 @@ pub record Lists : Type 0 where
   pub flying : List Bool
   pub flights : List (Option Underway)
   pub candidates : List Bool
+  pub met : List Bool
+  pub waits : List Bool
   pub unopen : List Bool
   pub ungood : List Bool
   pub commits : ℕ
   pub run : ℕ
-  pub from : ℕ
 
 -- the children's pools still have the numbers that the last solve read
 abbrev pub AreRead : Machine → ℕ → Type 0
@@ -60,12 +61,14 @@ pub record Agrees (l : Lists) (m : Machine) : Type 0 where
   pub low : (n : ℕ) → IsLive m n → 0 < (m.last n).commit → ((solve_at l.solves n).low ≡ true) ↔ AreRead m n
   pub flights : (worker : ℕ) → FlightFits m (slice_index_or l.flights worker None) (m.flight worker)
   pub flying : (n : ℕ) → IsLive m n → (slice_index_or l.flying n false ≡ true) ↔ IsFlying m n
-  pub candidates : Covers m l.candidates (MayBegin m)
+  pub candidates : Covers m l.candidates (IsFree m)
+  -- where a solve leaves no last solve, nodes below it are free again
+  pub met : Covers m l.met (MayBegin m)
+  pub waits : (n : ℕ) → slice_index_or l.waits n false ≡ m.waits n
   pub unopen : Covers m l.unopen (IsTop m (IsOpen m))
   pub ungood : Covers m l.ungood (IsTop m (IsGood m))
   pub commits : l.commits ≡ m.commits
   pub run : l.run ≡ m.run
-  pub from : l.from ≡ m.from
 
 abbrev pub lists_of : Table → Lists
 lists_of t = record {
@@ -74,11 +77,12 @@ lists_of t = record {
   flying = t.flying.items;
   flights = t.flights.items;
   candidates = t.candidates.flags;
+  met = t.candidates.met;
+  waits = t.candidates.waits;
   unopen = t.unopen;
   ungood = t.ungood;
   commits = t.commits;
   run = t.run;
-  from = t.candidates.from;
 }
 
 -- and the two answers are right
@@ -86,6 +90,10 @@ pub record Fits (t : Table) (m : Machine) : Type 0 where
   pub agrees : Agrees (lists_of t) m
   pub closed : (t.closed ≡ true) ↔ IsClosed m
   pub complete : (t.complete ≡ true) ↔ IsComplete m
+
+-- a worker has a solve of this run in flight
+abbrev pub IsUnderWay : List (Option Underway) → ℕ → Type 0
+IsUnderWay flights run = (worker : ℕ) × ((u : Underway) × ((slice_index_or flights worker None ≡ Some u) × (u.run ≡ run)))
 
 -- a worker has a solve in flight, of a node with a place
 abbrev pub IsHeld : List (Option Underway) → ℕ → ℕ → Type 0
@@ -97,7 +105,7 @@ pub record IsStart (parents : List ℕ) (m : Machine) : Type 0 where
   pub places : (n : ℕ) → IsLive m n → n < length parents
   pub root : IsLive m 0
   pub run : m.run ≡ 1
-  pub from : m.from ≡ 0
+  pub waits : (n : ℕ) → m.waits n ≡ false
   pub commits : m.commits ≡ 0
   pub last : (n : ℕ) → m.last n ≡ unsolved
   pub flight : (worker : ℕ) → m.flight worker ≡ None
@@ -111,7 +119,7 @@ pub record HasRead (m : Machine) (f : Flight) (numbers : List ℕ) (readings : L
   pub present : (i : ℕ) → i < length readings
       → slice_index numbers (reading_at readings i).child ≡ m.number (reading_at readings i).child
 
--- what a Begin answers and leaves: the node that is begun next, or that none may be begun
+-- what a Begin answers and leaves: the node that is begun next, or that none is
 abbrev pub AnswersBegin : Machine → ℕ → Option ℕ → Table → Type 0
-AnswersBegin m worker None t = ((n : ℕ) → MayBegin m n → ⊥) × Fits t m
+AnswersBegin m worker None t = HasNoNext m × Fits t m
 AnswersBegin m worker (Some n) t = IsNext m n × Fits t (begun m worker n)

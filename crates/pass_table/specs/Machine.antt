@@ -37,8 +37,8 @@ pub record Machine : Type 0 where
   pub number : ℕ → ℕ
   -- by worker
   pub flight : ℕ → Option Flight
-  -- nodes are begun in rounds, each by rising numbers; the present round goes on from this number
-  pub from : ℕ
+  -- nodes are begun in rounds, each by rising numbers; these have to wait for the next one
+  pub waits : ℕ → Bool
 
 abbrev pub IsLive : Machine → ℕ → Type 0
 IsLive m n = m.live n ≡ true
@@ -91,21 +91,36 @@ pub record MayBegin (m : Machine) (n : ℕ) : Type 0 where
   pub idle : ¬ IsFlying m n
   pub above : (a : ℕ) → IsAbove m.parent a n → IsGood m a
 
--- number k comes before number n in rounds that go on from this number: those from it on come first, and then those below it
-abbrev pub ComesBefore : ℕ → ℕ → ℕ → Type 0
-ComesBefore from k n = ((from ≤ k) × ((k < n) ⊎ (n < from))) ⊎ ((k < n) × (n < from))
+-- and no solve of a node above it is in flight
+pub record IsFree (m : Machine) (n : ℕ) : Type 0 where
+  pub may : MayBegin m n
+  pub above : (a : ℕ) → IsAbove m.parent a n → ¬ IsFlying m a
 
--- the node that is begun next: no other one that may be begun comes before it
+-- number k comes before number n in rounds for which these wait: it doesn't wait, and n does; or it is less, and both wait or neither
+abbrev pub ComesBefore : (ℕ → Bool) → ℕ → ℕ → Type 0
+ComesBefore waits k n = ((waits k ≡ false) × (waits n ≡ true)) ⊎ ((waits k ≡ waits n) × (k < n))
+
+-- the node that is begun next: no other free one comes before it, and where it waited no solve is in flight, so that a round begins
 pub record IsNext (m : Machine) (n : ℕ) : Type 0 where
   pub may : MayBegin m n
-  pub first : (k : ℕ) → ComesBefore m.from k n → ¬ MayBegin m k
+  pub above : (a : ℕ) → IsAbove m.parent a n → ¬ IsFlying m a
+  pub round : m.waits n ≡ true → (k : ℕ) → ¬ IsFlying m k
+  pub first : (k : ℕ) → ComesBefore m.waits k n → ¬ IsFree m k
+
+-- no node is next: each free one waits for the next round, and a solve is in flight
+abbrev pub HasNoNext : Machine → Type 0
+HasNoNext m = (n : ℕ) → IsFree m n → (m.waits n ≡ true) × ((k : ℕ) × IsFlying m k)
 
 -- ---- the events
 -- a function with one value changed
 unfoldable pub with_at : {A : Type 0} → (ℕ → A) → ℕ → A → ℕ → A
 with_at f at v n = cond (eqb n at) v (f n)
 
--- a Begin: the commit numbers of all present last solves are noted, and the round goes on behind the node
+-- which nodes wait behind a Begin of this one: a node that waited begins a round; it waits for the next one from then on
+abbrev pub begun_waits : (ℕ → Bool) → ℕ → ℕ → Bool
+begun_waits waits node = with_at (cond (waits node) (λ k. false) waits) node true
+
+-- a Begin: the commit numbers of all present last solves are noted, and the node waits for the next round
 abbrev pub begun : Machine → ℕ → ℕ → Machine
 begun m worker node = record m {
   flight = with_at m.flight worker (Some (record {
@@ -114,7 +129,7 @@ begun m worker node = record m {
     above = λ a. (m.last a).commit;
     below = λ c. 0;
   }));
-  from = node + 1;
+  waits = begun_waits m.waits node;
 }
 
 -- a Read of a child's pool, by a solve in flight
@@ -136,9 +151,12 @@ committed m worker f point = record m {
   last = with_at m.last f.node (record { commit = m.commits + 1; point = point; above = f.above; below = f.below });
 }
 
--- a pool's number rises: an offer was Added, a Sweep, or a ground cut
+-- a pool's number rises: an offer was Added, a Sweep, or a ground cut; the node above it waits for the next round
 abbrev pub raised : Machine → ℕ → Machine
-raised m pool = record m { number = with_at m.number pool (m.number pool + 1) }
+raised m pool = record m {
+  number = with_at m.number pool (m.number pool + 1);
+  waits = with_at m.waits (m.parent pool) true;
+}
 
 -- no last solve
 abbrev pub unsolved : Last
@@ -146,7 +164,7 @@ unsolved = record { commit = 0; point = false; above = λ a. 0; below = λ c. 0 
 
 -- a new run: all last solves are forgotten; the pools are those of its bank; a round begins
 abbrev pub opened : Machine → (ℕ → ℕ) → Machine
-opened m number = record m { run = m.run + 1; last = λ n. unsolved; number = number; from = 0 }
+opened m number = record m { run = m.run + 1; last = λ n. unsolved; number = number; waits = λ n. false }
 
 -- ---- what each event keeps
 pub record IsValid (m : Machine) : Type 0 where

@@ -4,14 +4,14 @@ ghost use Rattle.std.specs.Prelude.{◌≡◌, ℕ, ◌<◌, ◌↔◌, ◌⊎�
 ghost use Rattle.std.specs.Prelude.{MatchOption};
 ghost use Rattle.pass_table.specs.Marks.{HasNone};
 ghost use Rattle.pass_table.specs.Rounds.{IsFirst};
-ghost use Rattle.pass_table.specs.Walks.{IsRising, IsGoodAt, IsFreshAt, IsOpenAt, IsReachedAt, IsReadyAt, KeepsAll};
+ghost use Rattle.pass_table.specs.Walks.{IsRising, IsGoodAt, IsFreshAt, IsOpenAt, IsClearAt, IsFreeAt, KeepsAll};
 
 use crate::table::Solve;
-use crate::walks::{is_fresh, is_good, is_open, is_reached};
+use crate::walks::{is_clear, is_fresh, is_good, is_open};
 use crate::{Marks, Rounds};
 
-/// The node of the set that comes first of those that may be begun.
-pub fn next_ready(
+/// The node of the set that comes first of the free ones.
+pub fn next_free(
     candidates: &mut Rounds,
     parents: &[u32],
     solves: &[Solve],
@@ -20,13 +20,14 @@ pub fn next_ready(
     requires sizes { (length solves.now ≡ length parents.now) × (length flying.now ≡ length parents.now)
         × (length candidates.old.flags ≡ length parents.now) }
     requires rising { IsRising parents.now }
-    ensures keeps { KeepsAll (IsReadyAt parents.now solves.now flying.now) candidates.old.flags candidates.new.flags }
-    ensures from { candidates.new.from ≡ candidates.old.from }
+    ensures keeps { KeepsAll (IsFreeAt parents.now solves.now flying.now) candidates.old.flags candidates.new.flags }
+    ensures met { candidates.new.met ≡ candidates.old.met }
+    ensures waits { candidates.new.waits ≡ candidates.old.waits }
     ensures first { MatchOption result (HasNone candidates.new.flags) (λ n. IsFirst candidates.new n
-        × IsReadyAt parents.now solves.now flying.now n) }
+        × IsFreeAt parents.now solves.now flying.now n) }
 {
     'look: while let Some(node) = candidates.first() {
-        if is_ready(parents, solves, flying, node) {
+        if is_free(parents, solves, flying, node) {
             return Some(node);
         }
         candidates.remove(node);
@@ -34,14 +35,16 @@ pub fn next_ready(
     None
 }
 
-/// Whether a node may be begun.
-fn is_ready(parents: &[u32], solves: &[Solve], flying: &[bool], node: u32) -> bool
+/// Whether a node may be begun, and no solve of a node above it is in flight.
+fn is_free(parents: &[u32], solves: &[Solve], flying: &[bool], node: u32) -> bool
     requires sizes { (length solves.now ≡ length parents.now) × (length flying.now ≡ length parents.now) }
     requires within { node < length parents.now }
     requires rising { IsRising parents.now }
-    ensures { IsTrue result ↔ IsReadyAt parents.now solves.now flying.now node }
+    ensures { IsTrue result ↔ IsFreeAt parents.now solves.now flying.now node }
 {
-    !flying[node as usize] && !is_fresh(parents, solves, node) && is_reached(parents, solves, node)
+    !flying[node as usize]
+        && !is_fresh(parents, solves, node)
+        && is_clear(parents, solves, flying, node)
 }
 
 /// Whether every node of the set is open; takes open ones out up to the first that isn't.

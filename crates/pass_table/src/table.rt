@@ -4,8 +4,10 @@ ghost use Rattle.std.specs.Prelude.{slice_index_or, slice_set, true, false};
 ghost use Rattle.pass_table.specs.Marks.{nothing};
 ghost use Rattle.pass_table.specs.Walks.{IsRising, blank};
 ghost use Rattle.pass_table.specs.Readings.{AreWithin};
+ghost use Rattle.pass_table.specs.Rounds.{root_round};
 
-use crate::looks::{are_good, are_open, next_ready};
+use crate::flights::is_under_way;
+use crate::looks::{are_good, are_open, next_free};
 use crate::readings::{are_present, insert_family, insert_in_rounds};
 use crate::{Marks, Rounds};
 use std::alloc::{AllocError, Global};
@@ -53,7 +55,7 @@ pub struct Table {
     solves: Vec<Solve>,
     flying: Vec<bool>,
     flights: Vec<Option<Underway>>,
-    /// Has every node that may be begun.
+    /// Has every node that may be begun with no solve of a node above it in flight.
     candidates: Rounds,
     /// Has every uppermost node that isn't fresh with a point.
     unopen: Marks,
@@ -66,6 +68,8 @@ pub struct Table {
     ghost solves_long: { length solves.items ≡ length parents.items },
     ghost flying_long: { length flying.items ≡ length parents.items },
     ghost candidates_long: { length candidates.flags ≡ length parents.items },
+    ghost met_long: { length candidates.met ≡ length parents.items },
+    ghost waits_long: { length candidates.waits ≡ length parents.items },
     ghost unopen_long: { length unopen ≡ length parents.items },
     ghost ungood_long: { length ungood ≡ length parents.items },
     ghost rising: { IsRising parents.items },
@@ -168,14 +172,15 @@ impl Table {
         }
     }
 
-    /// Begins the node that is next, and answers it.
+    /// Begins the node that is next, and answers it. A node above or below one in flight has to wait; so have those of the next
+    /// round, while a solve of this one is in flight.
     pub fn begin(&mut self, worker: u32) -> Option<u32>
         requires worker { worker < length self.old.flights.items }
         requires idle { slice_index_or self.old.flights.items worker None ≡ None }
         ensures fits { (m : Machine) → IsValid m → Fits self.old m → AnswersBegin m worker result self.new }
         ensures workers { length self.new.flights.items ≡ length self.old.flights.items }
     {
-        let Some(node) = next_ready(
+        let Some(node) = next_free(
             &mut self.candidates,
             &self.parents,
             &self.solves,
@@ -183,6 +188,9 @@ impl Table {
         ) else {
             return None;
         };
+        if self.candidates.is_waiting(node) && is_under_way(&self.flights, self.run) {
+            return None;
+        }
         self.candidates.pass(node);
         self.flying[node as usize] = true;
         self.flights[worker as usize] = Some(Underway {
@@ -243,6 +251,7 @@ impl Table {
         if flight.run == self.run {
             self.flying[flight.node as usize] = false;
             self.candidates.insert(flight.node);
+            self.candidates.restore();
         }
     }
 
@@ -257,7 +266,7 @@ impl Table {
         let mut solve = self.solves[parent as usize];
         solve.low = false;
         self.solves[parent as usize] = solve;
-        self.candidates.insert(parent);
+        self.candidates.hold(parent);
         self.unopen.insert(parent);
         self.answer();
     }
@@ -296,7 +305,7 @@ impl Table {
 fn round_of_root(alloc: Global, places: u32) -> Result<Rounds, AllocError>
     requires places { 0 < places }
     requires few { places < nothing }
-    ensures { IfOk result (λ r. r ≡ record { flags = slice_set (replicate places false) 0 true; from = 0 }) }
+    ensures { IfOk result (λ r. r ≡ root_round places) }
 {
     let mut round = Rounds::new(alloc, places)?;
     round.insert(0);
@@ -318,7 +327,7 @@ fn marks_of_root(alloc: Global, places: u32) -> Result<Marks, AllocError>
 fn sets_of_root(alloc: Global, places: u32) -> Result<(Rounds, Marks, Marks), AllocError>
     requires places { 0 < places }
     requires few { places < nothing }
-    ensures round { IfOk result (λ sets. sets.0 ≡ record { flags = slice_set (replicate places false) 0 true; from = 0 }) }
+    ensures round { IfOk result (λ sets. sets.0 ≡ root_round places) }
     ensures first { IfOk result (λ sets. sets.1 ≡ slice_set (replicate places false) 0 true) }
     ensures second { IfOk result (λ sets. sets.2 ≡ slice_set (replicate places false) 0 true) }
 {

@@ -58,7 +58,7 @@ unused_counts p s m i frame table idle =
       last = λ n. unsolved;
       number = λ n. 0;
       flight = λ w. None;
-      from = 0;
+      waits = λ n. false;
     }
 
     long : length s.frame.parents ≡ length p.nodes
@@ -70,7 +70,7 @@ unused_counts p s m i frame table idle =
       places = λ j l. let q = passes-within is_live j p.nodes (sym (table.machine.live j) ∙ l) in omega (arith, q, long);
       root = table.machine.live 0 ∙ root_lives p i;
       run = refl;
-      from = refl;
+      waits = λ n. refl;
       commits = refl;
       last = λ j. refl;
       flight = λ w. refl;
