@@ -77,10 +77,7 @@ fn factors(
 
 impl System {
     /// The system with these rows, each by column from 0 on, unless a number is too wide or the matrix is singular.
-    pub fn of(
-        alloc: Global,
-        fractions: &[Vec<Entry<Frac>>],
-    ) -> Result<Option<System>, Memory> {
+    pub fn of(alloc: Global, fractions: &[Vec<Entry<Frac>>]) -> Result<Option<System>, Memory> {
         let Some(WholeRows { rows, scales }) = whole_rows(alloc, fractions)? else {
             return Ok(None);
         };
