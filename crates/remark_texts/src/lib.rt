@@ -1,7 +1,6 @@
-//! Tests of what standard error says of refused lines, with the fields that it quotes, of outputs, and of words that are no command.
+//! Tests of what no whole run shows: lines of an output that comes in pieces, and that the library for command lines finds nothing wrong
+//! with the words of commands.
 #![tactic(auto)]
 
 #[cfg(test)]
 mod outputs;
-#[cfg(test)]
-mod tests;

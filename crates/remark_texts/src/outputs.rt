@@ -1,8 +1,7 @@
-//! Outputs in pieces of one byte, and in one piece; words that aren't those of a command.
+//! Outputs in pieces of one byte, and in one piece; words of commands.
 use run_remarks::{Noted, Watched, put_word_fault};
 use smps_io::{MemorySink, Sink};
 use std::alloc::Global;
-use std::fmt::Write;
 use std::rt::Runtime;
 use std::test::Fail;
 
@@ -51,26 +50,6 @@ fn lines_are_seen_however_they_are_cut(rt: HostRuntime) -> Result<(), Fail> {
     Ok(())
 }
 
-/// Words, and behind a bar what is said of them first.
-const WORDS: &str = "\
-|'tidzgheba' requires a subcommand but one was not provided
-resolve --core F|unrecognized subcommand 'resolve'
-solve --cor F|unexpected argument '--cor' found
-show --core F --solves=3|unexpected argument '--solves' found
-solve --core F more|unexpected argument 'more' found
-solve --core|a value is required for '--core <FILE>' but none was supplied
-solve --core F --time --solves 3|a value is required for '--time <FILE>' but none was supplied
-solve|the following required arguments were not provided:
-check --core F|the following required arguments were not provided:
-solve --core F --core=F|the argument '--core <FILE>' cannot be used multiple times
-show --core F --stoch F|the following required arguments were not provided:
-solve --core F --solves 0|invalid value '0' for '--solves <N>': 0 is not in 1..=1000000000
-solve --core F --workers=2|invalid value '2' for '--workers <N>': 2 is not in 1..=1
-make --start 1 --stages 2 --branches 2 --size 1 --text foo|invalid value 'foo' for '--text <TEXT>'
-solve --core F --solves +3|each word is an option or its value, a file name isn't empty and doesn't begin with '-', \
-and a number has digits alone, at most ten
-";
-
 /// Words that are those of a command, in each form of an option.
 const TAKEN: &str = "\
 solve --core F
@@ -98,21 +77,6 @@ fn word_fault(alloc: Global, line: &str) -> Result<String, Fail> {
     put_word_fault(alloc, &mut said, &words)?;
     let first = said.lines().next().ok_or("nothing is said")?;
     Ok(String::from_str(alloc, first)?)
-}
-
-#[test]
-fn faults_of_words_are_told(rt: HostRuntime) -> Result<(), Fail> {
-    let alloc = rt.alloc();
-    let mut others = String::new(alloc);
-    for row in WORDS.lines() {
-        let (words, wanted) = row.split_once('|').ok_or("a row without a bar")?;
-        let said = word_fault(alloc, words)?;
-        if said.as_str() != wanted {
-            writeln!(others, "{words}: {said}")?;
-        }
-    }
-    assert!(rt; others.is_empty(), "{others}");
-    Ok(())
 }
 
 /// The library knows the same commands and options as the program.

@@ -1,8 +1,8 @@
-//! Programs that tests are made of, as texts and read.
+//! A program that tests and benchmarks are made of, as texts and read.
 #![tactic(auto)]
 
 mod reading;
 mod samples;
 
 pub use reading::read_source;
-pub use samples::{ALONE, BOUNDED, COVER, FALLING, PARTS, Source, THREE, TRIO, named};
+pub use samples::{COVER, Source};
