@@ -4,10 +4,10 @@ ghost use Rattle.std.specs.Prelude.{◌≡◌, ℕ, ◌<◌, ◌↔◌, ◌⊎�
 ghost use Rattle.std.specs.Prelude.{MatchOption};
 ghost use Rattle.pass_table.specs.Marks.{HasNone};
 ghost use Rattle.pass_table.specs.Rounds.{IsFirst};
-ghost use Rattle.pass_table.specs.Walks.{IsRising, IsGoodAt, IsFreshAt, IsOpenAt, IsClearAt, IsFreeAt, KeepsAll};
+ghost use Rattle.pass_table.specs.Walks.{IsRising, IsGoodAt, IsFreshAt, IsOpenAt, IsFreeAbove, IsFreeAt, KeepsAll};
 
 use crate::table::Solve;
-use crate::walks::{is_clear, is_fresh, is_good, is_open};
+use crate::walks::{is_free_above, is_fresh, is_good, is_open};
 use crate::{Marks, Rounds};
 
 /// The node of the set that comes first of the free ones.
@@ -44,7 +44,7 @@ fn is_free(parents: &[u32], solves: &[Solve], flying: &[bool], node: u32) -> boo
 {
     !flying[node as usize]
         && !is_fresh(parents, solves, node)
-        && is_clear(parents, solves, flying, node)
+        && is_free_above(parents, solves, flying, node)
 }
 
 /// Whether every node of the set is open; takes open ones out up to the first that isn't.

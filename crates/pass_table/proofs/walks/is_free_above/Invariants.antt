@@ -1,7 +1,7 @@
 use Rattle.std.proofs.Common.{◌≡◌, ◌≤◌, ◌⊎◌, ℕ, false, slice_index, slice_index_or}
 use Rattle.pass_table.specs.Walks.{IsGoodAt}
 use Rattle.pass_table.specs.Machine.{IsAbove}
-use Rattle.pass_table.proofs.walks.is_clear.Given as goal
+use Rattle.pass_table.proofs.walks.is_free_above.Given as goal
 
 abbrev pub invariant-up : goal.invariant-up
 invariant-up l = (l.at ≤ l.node)

@@ -2,7 +2,7 @@ use Rattle.std.proofs.Common.{◌≡◌, ℕ, false, inr, slice_index, slice_ind
 use Rattle.std.proofs.lemmas.Bool.{false≢true}
 use Rattle.pass_table.specs.Walks.{IsGoodAt}
 use Rattle.pass_table.proofs.Above.{walk_step, walk_keeps, walk_all}
-use Rattle.pass_table.proofs.walks.is_clear.Goals as goal
+use Rattle.pass_table.proofs.walks.is_free_above.Goals as goal
 
 pub returns-then-flying-at : goal.returns-then-flying-at
 returns-then-flying-at c = (

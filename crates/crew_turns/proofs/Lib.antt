@@ -1,0 +1,5 @@
+pub mod Fair
+pub mod Turned
+pub mod Sheltered
+pub mod Reading
+pub mod Crewing

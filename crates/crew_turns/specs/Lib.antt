@@ -1,0 +1,5 @@
+pub mod Clear
+pub mod Alike
+pub mod Rounds
+pub mod Reads
+pub mod Crew
