@@ -15,8 +15,7 @@ children_of-requires c =
 
 pub returns : goal.returns
 returns c =
-    let places = λ ns. map position_of (nodes_content ns) in
-    let positions = c.deref-3.ensures.value ∙ c.in_ok-positions.ensures ∙ ap places c.deref-2.ensures.value in
+    let positions = c.deref-3.ensures.value ∙ c.in_ok-positions.ensures ∙ ap (λ ns. map position_of (nodes_content ns)) c.deref-2.ensures.value in
     same_frame
     (c.in_ok-parents.ensures ∙ ap (λ ns. map parent_of (nodes_content ns)) c.deref.ensures.value)
     (c.in_ok-children.ensures ∙ ap (λ ps. children_from ps 0 ps) positions)
