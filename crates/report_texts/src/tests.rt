@@ -51,7 +51,7 @@ fn judged(
 {
     let mut given = Vec::new(alloc);
     let checks = check_script(alloc, program, script, reports)?;
-    print_checks(&checks, &mut given)?;
+    print_checks(alloc, &checks, &mut given)?;
     if all_hold(&checks) {
         given.extend_from_slice(b"held\n")?;
     }
