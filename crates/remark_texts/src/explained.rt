@@ -58,6 +58,8 @@ show --core T|tidzgheba: T, line 1: 'TIME': that header isn't a section of the f
 show --core C --time T --stoch S|
 make --start 1 --stages 2 --branches 2 --size 1|
 solve --core C --stoch S|tidzgheba: the words aren't those of a command: the following required arguments were not provided:
+--help|Tidzgheba solves multistage stochastic linear programs exactly and proves each report that it prints.
+show --help|usage: tidzgheba show OPTIONS
 ";
 
 /// The words of a line.

@@ -1,5 +1,6 @@
 //! What standard error says of a run.
 use crate::checked::put_checked;
+use crate::help::{ask_help, put_help};
 use crate::refusal::{file_start, put_refusal, put_too_long, put_unread};
 use crate::reported::{put_made, put_reported};
 use crate::whole::{put_only_whole, put_whole};
@@ -35,6 +36,7 @@ pub fn explanation<R: Files>(
 ) -> Result<String, AllocError> {
     let mut text = String::new(alloc);
     match ran.status {
+        Status::Words if ask_help(words) => put_help(&mut text, words)?,
         Status::Words => {
             text.push_str(NO_COMMAND)?;
             put_word_fault(alloc, &mut text, words)?;

@@ -3,6 +3,7 @@
 
 mod checked;
 mod explain;
+mod help;
 mod refusal;
 mod reported;
 mod unread;
