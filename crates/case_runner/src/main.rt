@@ -10,7 +10,6 @@ mod faults;
 mod meant;
 mod reading;
 mod runs;
-mod said;
 mod told;
 
 use cases::Case;

@@ -1,9 +1,9 @@
 //! Runs a case.
 use crate::cases::{Case, Part};
 use crate::meant::program_of;
-use crate::said::standard_error;
 use frac128::Memory;
 use program_notes::{nodes_text, stated_text};
+use run_remarks::explanation;
 use scen_defs::Program;
 use smps_cli::{Ran, run};
 use smps_io::{MemoryShelf, MemorySink, NeverFails, Shelf};
@@ -100,7 +100,7 @@ pub fn run_case(rt: &impl Runtime, alloc: Global, case: &Case) -> Result<Came, M
     let (ran, program) = ran(rt, alloc, case, &words, &mut sink)?;
     let number = ran.status.number();
     let error = if looks_at(case, Part::Error) {
-        standard_error(rt, alloc, &words, &case.files, &ran, sink.bytes())?
+        explanation(rt, alloc, &words, &ran)?
     } else {
         String::new(alloc)
     };

@@ -10,7 +10,8 @@ use Rattle.command_words.specs.declared.flag.Flag.{Flag}
 use Rattle.command_words.specs.declared.flag.Flag.TheVariants.{Core, Time, Stoch, Edits, Report, Solves, Pivots, Workers}
 use Rattle.command_words.specs.declared.flag.Flag.TheVariants.{Start, Stages, Branches, Size, Text}
 use Rattle.command_words.specs.declared.command.Verb.{Verb}
-use Rattle.command_words.specs.Words.{ArePlain, Given, after_cut, cut, flag_named, flag_text, is_equals, is_value, plain_word, same_flag}
+use Rattle.command_words.specs.Table.{flag_text}
+use Rattle.command_words.specs.Words.{ArePlain, Given, after_cut, cut, flag_named, is_equals, is_value, plain_word, same_flag}
 use Rattle.command_words.specs.Words.{setting_of, settings_from, settings_of, then_some, valued}
 use Rattle.command_words.specs.Commands.{Asked, command_by, command_with}
 use Rattle.command_words.proofs.WordLemmas.{joined}

@@ -19,10 +19,11 @@ use Rattle.command_words.specs.declared.flag.Flag.TheVariants.{Start, Stages, Br
 use Rattle.command_words.specs.declared.command.Command.{Command}
 use Rattle.command_words.specs.declared.command.Verb.{Verb}
 use Rattle.command_words.specs.declared.command.Verb.TheVariants.{Solve, Check, Show, Make}
-use Rattle.command_words.specs.Words.{Given, are_once, flag_text, plain_word, same_flag, settings_of, value_with}
-use Rattle.command_words.specs.Commands.{all_allowed, allows, asked_with, command_by, command_with}
+use Rattle.command_words.specs.Table.{all_flags, flag_text}
+use Rattle.command_words.specs.Words.{Given, are_once, plain_word, same_flag, settings_of, value_with}
+use Rattle.command_words.specs.Commands.{all_allowed, allows, are_options, asked_with, command_by, command_with}
 use Rattle.command_words.specs.Views.{asked}
-use Rattle.command_words.specs.Options.{all_flags, option_rule, reader_of, with_options}
+use Rattle.command_words.specs.Options.{option_rule, reader_of, with_options}
 use Rattle.command_words.proofs.PlainLemmas.{both_true, same_is}
 
 -- ---- the command as it is built
@@ -299,12 +300,15 @@ row_of_flag (g ∷ gs) flag = go (same_flag g.flag flag) refl (row_of_flag gs fl
 
 -- ---- what the words were made of
 
-allowed_once : (verb : Verb) (gs : List Given) → is_some (command_with verb gs) ≡ true → (all_allowed verb gs && are_once gs) ≡ true
-allowed_once verb gs e = go (all_allowed verb gs && are_once gs) e
+are_options_of : (verb : Verb) (gs : List Given) → is_some (command_with verb gs) ≡ true → are_options verb gs ≡ true
+are_options_of verb gs e = go (are_options verb gs) e
   where
     go : (b : Bool) → is_some (cond b (asked_with verb (λ flag. value_with flag gs)) None) ≡ true → b ≡ true
     go true h = refl
     go false h = cc
+
+allowed_once : (verb : Verb) (gs : List Given) → is_some (command_with verb gs) ≡ true → (all_allowed verb gs && are_once gs) ≡ true
+allowed_once verb gs e = (both (all_allowed verb gs && are_once gs) _ (are_options_of verb gs e)).0
 
 -- plain words of a command are those of some settings
 module _ (verb : Verb) (words : List (List ℕ)) (plain : option_map (map plain_word) (settings_of words) ≡ Some words) (command : is_some (command_by verb words) ≡ true) where
@@ -342,7 +346,7 @@ module _ (verb : Verb) (words : List (List ℕ)) (plain : option_map (map plain_
   asks_same m finds =
       let gs = some_settings.0 in
       let made = made_of gs some_settings.1 in
-      let ok = allowed_once verb gs made.1 in
+      let ok = are_options_of verb gs made.1 in
       let same : (flag : Flag) → first_value (found_of m) (flag_text flag) ≡ value_with flag gs = finds gs some_settings.1 in
       (λ i. asked_with verb (λ flag. same flag i)) ∙ rw (some_settings.1, ok) refl
 

@@ -1,8 +1,7 @@
 -- The command that words are.
-use Rattle.std.specs.Prelude.{ℕ, Bool, true, false, List, [], ◌∷◌, Option, Some, None, if◌then◌else◌, ◌&&◌, codes}
+use Rattle.std.specs.Prelude.{ℕ, Bool, true, List, [], ◌∷◌, Option, Some, None, is_some, if◌then◌else◌, ◌&&◌, ◌||◌, codes}
 use Rattle.command_words.specs.declared.flag.Flag.{Flag}
-use Rattle.command_words.specs.declared.flag.Flag.TheVariants.{Core, Time, Stoch, Edits, Report, Solves, Pivots, Workers}
-use Rattle.command_words.specs.declared.flag.Flag.TheVariants.{Start, Stages, Branches, Size, Text}
+use Rattle.command_words.specs.declared.flag.Flag.TheVariants.{Core, Time, Stoch, Edits, Report, Start, Stages, Branches, Size, Text}
 use Rattle.command_words.specs.declared.command.Verb.{Verb}
 use Rattle.command_words.specs.declared.command.Verb.TheVariants.{Solve, Check, Show, Make}
 use Rattle.command_words.specs.declared.command.Task.{Task}
@@ -10,41 +9,39 @@ use Rattle.command_words.specs.declared.command.Task.TheVariants as task
 use Rattle.command_words.specs.declared.command.Page.{Page}
 use Rattle.command_words.specs.declared.command.Page.TheVariants as page
 use Rattle.command_words.specs.declared.command.Plan.{Plan}
+use Rattle.command_words.specs.Table.{further_flags, goes_with, needed_flags}
 use Rattle.command_words.specs.Words.{Given, Values, same_text, then_some, settings_of, value_with, are_once}
-use Rattle.command_words.specs.Words.{verb_named, option_number, budget_of}
+use Rattle.command_words.specs.Words.{has_flag, verb_named, number_given, budget_of}
 
--- a task takes the names of the files, `check` also that of reports; `solve` takes numbers, and `make` others
+-- ---- which options there are
+
+-- a command takes those that it needs, and further ones
 abbrev pub allows : Verb → Flag → Bool
-allows Make Core = false
-allows Make Time = false
-allows Make Stoch = false
-allows Make Edits = false
-allows verb Core = true
-allows verb Time = true
-allows verb Stoch = true
-allows verb Edits = true
-allows Check Report = true
-allows verb Report = false
-allows Solve Solves = true
-allows Solve Pivots = true
-allows Solve Workers = true
-allows verb Solves = false
-allows verb Pivots = false
-allows verb Workers = false
-allows Make Start = true
-allows Make Stages = true
-allows Make Branches = true
-allows Make Size = true
-allows Make Text = true
-allows verb Start = false
-allows verb Stages = false
-allows verb Branches = false
-allows verb Size = false
-allows verb Text = false
+allows verb flag = has_flag flag (needed_flags verb) || has_flag flag (further_flags verb)
 
 abbrev pub all_allowed : Verb → List Given → Bool
 all_allowed verb [] = true
 all_allowed verb (s ∷ settings) = allows verb s.flag && all_allowed verb settings
+
+-- these options are there
+abbrev pub are_there : List Given → List Flag → Bool
+are_there settings [] = true
+are_there settings (flag ∷ flags) = is_some (value_with flag settings) && are_there settings flags
+
+-- the option without which one isn't taken is there, where there is one
+abbrev pub is_there_if : List Given → Option Flag → Bool
+is_there_if settings None = true
+is_there_if settings (Some flag) = is_some (value_with flag settings)
+
+-- so for each of some options
+abbrev pub go_together : List Given → List Given → Bool
+go_together settings [] = true
+go_together settings (s ∷ others) = is_there_if settings (goes_with s.flag) && go_together settings others
+
+-- each is taken, and stands once; all are there that are needed, and those without which others aren't taken
+abbrev pub are_options : Verb → List Given → Bool
+are_options verb settings =
+    (all_allowed verb settings && are_once settings) && (are_there settings (needed_flags verb) && go_together settings settings)
 
 -- ---- tasks on files
 
@@ -59,21 +56,13 @@ pub record FileNames : Type 0 where
 abbrev pub file_names : List ℕ → Option (List ℕ) → Option (List ℕ) → Option (List ℕ) → Option (List ℕ) → FileNames
 file_names core time stoch edits report = record { core = core; time = time; stoch = stoch; edits = edits; report = report }
 
--- a core is needed, and a stoch file goes with a time file alone
-abbrev pub sources_by :
-    Option (List ℕ) → Option (List ℕ) → Option (List ℕ) → Option (List ℕ) → Option (List ℕ) → Option FileNames
-sources_by None time stoch edits report = None
-sources_by (Some core) None (Some stoch) edits report = None
-sources_by (Some core) None None edits report = Some (file_names core None None edits report)
-sources_by (Some core) (Some time) stoch edits report = Some (file_names core (Some time) stoch edits report)
-
 abbrev pub sources_of : Values → Option FileNames
-sources_of value = sources_by (value Core) (value Time) (value Stoch) (value Edits) (value Report)
+sources_of value = then_some (value Core) (λ core. Some (file_names core (value Time) (value Stoch) (value Edits) (value Report)))
 
--- `check` needs reports; `make` is no task on files
+-- `make` is no task on files
 abbrev pub task_of : Verb → Values → Option Task
 task_of Solve value = then_some (budget_of value) (λ budget. Some (task.Solve budget))
-task_of Check value = then_some (value Report) (λ name. Some task.Check)
+task_of Check value = Some task.Check
 task_of Show value = Some task.Show
 task_of Make value = None
 
@@ -93,13 +82,13 @@ page_by (Some word) = then_some (page_named word) (λ found. Some (Some found))
 abbrev pub page_of : Values → Option (Option Page)
 page_of value = page_by (value Text)
 
--- all four numbers are needed, each within its range
+-- four numbers, each within its range
 abbrev pub plan_of : Values → Option Plan
 plan_of value =
-    then_some (option_number 0 65536 (value Start)) (λ s.
-    then_some (option_number 2 6 (value Stages)) (λ t.
-    then_some (option_number 2 4 (value Branches)) (λ b.
-    then_some (option_number 1 20 (value Size)) (λ k.
+    then_some (number_given Start (value Start)) (λ s.
+    then_some (number_given Stages (value Stages)) (λ t.
+    then_some (number_given Branches (value Branches)) (λ b.
+    then_some (number_given Size (value Size)) (λ k.
     then_some (page_of value) (λ found.
     Some (record { start = s; stages = t; branches = b; size = k; page = found }))))))
 
@@ -122,7 +111,7 @@ asked_with Make value = then_some (plan_of value) (λ plan. Some (MakeThis plan)
 
 abbrev pub command_with : Verb → List Given → Option Asked
 command_with verb settings =
-    if all_allowed verb settings && are_once settings then asked_with verb (λ flag. value_with flag settings) else None
+    if are_options verb settings then asked_with verb (λ flag. value_with flag settings) else None
 
 -- the command of a verb with the words of its options
 abbrev pub command_by : Verb → List (List ℕ) → Option Asked

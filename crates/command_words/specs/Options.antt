@@ -4,14 +4,9 @@ use Rattle.clap.specs.Words.{App, Rule, new_app, new_rule, with_rule}
 use Rattle.clap.specs.Simple.{on_top}
 use Rattle.clap.specs.declared.builder.action.ArgAction.TheVariants.{Set}
 use Rattle.command_words.specs.declared.flag.Flag.{Flag}
-use Rattle.command_words.specs.declared.flag.Flag.TheVariants.{Core, Time, Stoch, Edits, Report, Solves, Pivots, Workers}
-use Rattle.command_words.specs.declared.flag.Flag.TheVariants.{Start, Stages, Branches, Size, Text}
 use Rattle.command_words.specs.declared.command.Verb.{Verb}
-use Rattle.command_words.specs.Words.{flag_text}
+use Rattle.command_words.specs.Table.{all_flags, flag_text}
 use Rattle.command_words.specs.Commands.{allows}
-
-abbrev pub all_flags : List Flag
-all_flags = Core ∷ Time ∷ Stoch ∷ Edits ∷ Report ∷ Solves ∷ Pivots ∷ Workers ∷ Start ∷ Stages ∷ Branches ∷ Size ∷ Text ∷ []
 
 -- an option of this name, which takes one value
 abbrev pub option_rule : List ℕ → Rule

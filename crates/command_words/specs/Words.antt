@@ -1,17 +1,18 @@
 -- The words of a command.
 use Rattle.std.specs.Prelude.{◌≡◌, ℕ, Bool, true, false, List, [], ◌∷◌, ◌++◌, length, Option, Some, None}
 use Rattle.std.specs.Prelude.{is_none, is_some, map, option_map}
-use Rattle.std.specs.Prelude.{if◌then◌else◌, nat_eq, leb, ltb, ◌==◌, not, ◌&&◌, codes}
+use Rattle.std.specs.Prelude.{if◌then◌else◌, nat_eq, leb, ltb, ◌==◌, not, ◌&&◌, ◌||◌}
 use Rattle.std.specs.Cmp.Lexicographic.{pointwise}
 use Rattle.std.specs.Coded.{Coded-set, coded_list, coded_option, coded_ℕ}
 use Rattle.std.specs.List.{position_or_len, before_first, after_first}
 use Rattle.frac128.specs.Numbers.{is_digit, number_from}
 use Rattle.command_words.specs.declared.flag.Flag.{Flag}
-use Rattle.command_words.specs.declared.flag.Flag.TheVariants.{Core, Time, Stoch, Edits, Report, Solves, Pivots, Workers}
-use Rattle.command_words.specs.declared.flag.Flag.TheVariants.{Start, Stages, Branches, Size, Text}
+use Rattle.command_words.specs.declared.flag.Flag.TheVariants.{Solves, Pivots, Workers}
+use Rattle.command_words.specs.declared.table.ValueKind.{ValueKind}
+use Rattle.command_words.specs.declared.table.ValueKind.TheVariants.{File, Number, Page}
 use Rattle.command_words.specs.declared.command.Verb.{Verb}
-use Rattle.command_words.specs.declared.command.Verb.TheVariants.{Solve, Check, Show, Make}
 use Rattle.command_words.specs.declared.command.Budget.{Budget}
+use Rattle.command_words.specs.Table.{all_flags, all_verbs, flag_text, value_kind, verb_text}
 
 -- ---- values
 
@@ -42,21 +43,13 @@ number_within word least most = kept_within least most (number_of word)
 abbrev pub same_text : List ℕ → List ℕ → Bool
 same_text = pointwise nat_eq
 
+-- the one of some options that has this name, with its two minuses (45)
+abbrev pub flag_among : List ℕ → List Flag → Option Flag
+flag_among word [] = None
+flag_among word (flag ∷ flags) = if same_text word (45 ∷ 45 ∷ flag_text flag) then Some flag else flag_among word flags
+
 abbrev pub flag_named : List ℕ → Option Flag
-flag_named name =
-    if same_text name (codes "--core") then Some Core
-    else (if same_text name (codes "--time") then Some Time
-    else (if same_text name (codes "--stoch") then Some Stoch
-    else (if same_text name (codes "--edits") then Some Edits
-    else (if same_text name (codes "--report") then Some Report
-    else (if same_text name (codes "--solves") then Some Solves
-    else (if same_text name (codes "--pivots") then Some Pivots
-    else (if same_text name (codes "--workers") then Some Workers
-    else (if same_text name (codes "--start") then Some Start
-    else (if same_text name (codes "--stages") then Some Stages
-    else (if same_text name (codes "--branches") then Some Branches
-    else (if same_text name (codes "--size") then Some Size
-    else (if same_text name (codes "--text") then Some Text else None))))))))))))
+flag_named word = flag_among word all_flags
 
 -- an option with its value
 pub record Given : Type 0 where
@@ -70,25 +63,13 @@ valued (Some flag) value = if is_value value then Some (record { flag = flag; va
 abbrev pub setting_of : List ℕ → List ℕ → Option Given
 setting_of name value = valued (flag_named name) value
 
--- the name of an option, without its two minuses
-abbrev pub flag_text : Flag → List ℕ
-flag_text Core = codes "core"
-flag_text Time = codes "time"
-flag_text Stoch = codes "stoch"
-flag_text Edits = codes "edits"
-flag_text Report = codes "report"
-flag_text Solves = codes "solves"
-flag_text Pivots = codes "pivots"
-flag_text Workers = codes "workers"
-flag_text Start = codes "start"
-flag_text Stages = codes "stages"
-flag_text Branches = codes "branches"
-flag_text Size = codes "size"
-flag_text Text = codes "text"
-
 -- options are told apart by their names
 abbrev pub same_flag : Flag → Flag → Bool
 same_flag one other = same_text (flag_text one) (flag_text other)
+
+abbrev pub has_flag : Flag → List Flag → Bool
+has_flag flag [] = false
+has_flag flag (other ∷ flags) = same_flag other flag || has_flag flag flags
 
 -- an option with its value in one word, `--name=value`
 abbrev pub plain_word : Given → List ℕ
@@ -145,22 +126,28 @@ are_once (s ∷ settings) = is_none (value_with s.flag settings) && are_once set
 
 -- ---- verbs and numbers
 
+abbrev pub verb_among : List ℕ → List Verb → Option Verb
+verb_among word [] = None
+verb_among word (verb ∷ verbs) = if same_text word (verb_text verb) then Some verb else verb_among word verbs
+
 abbrev pub verb_named : List ℕ → Option Verb
-verb_named word =
-    if same_text word (codes "solve") then Some Solve
-    else (if same_text word (codes "check") then Some Check
-    else (if same_text word (codes "show") then Some Show
-    else (if same_text word (codes "make") then Some Make else None)))
+verb_named word = verb_among word all_verbs
 
--- the number of an option, at most so much, or the number that stands for an absent one
-abbrev pub number_or : ℕ → ℕ → Option (List ℕ) → Option ℕ
-number_or absent most None = Some absent
-number_or absent most (Some value) = number_within value 1 most
+-- the number of a value of this kind, within its range
+abbrev pub number_for : ValueKind → List ℕ → Option ℕ
+number_for File word = None
+number_for (Number least most) word = number_within word least most
+number_for Page word = None
 
--- the number of an option within its range
-abbrev pub option_number : ℕ → ℕ → Option (List ℕ) → Option ℕ
-option_number least most None = None
-option_number least most (Some value) = number_within value least most
+-- the number of an option, or the number that stands for an absent one
+abbrev pub number_or : ℕ → Flag → Option (List ℕ) → Option ℕ
+number_or absent flag None = Some absent
+number_or absent flag (Some word) = number_for (value_kind flag) word
+
+-- the number of an option that is needed
+abbrev pub number_given : Flag → Option (List ℕ) → Option ℕ
+number_given flag None = None
+number_given flag (Some word) = number_for (value_kind flag) word
 
 -- with whether the words state how many solves, and how many pivots
 abbrev pub budget_by : Bool → Bool → Option ℕ → Option ℕ → Option ℕ → Option Budget
@@ -172,9 +159,9 @@ budget_by of_solves of_pivots solves pivots workers =
 abbrev pub Values : Type 0
 Values = Flag → Option (List ℕ)
 
--- of solves and of pivots 100,000 where the words don't say how many, and 1,000,000,000 at most; one worker
+-- of solves and of pivots 100,000 where the words don't say how many; of workers one
 abbrev pub budget_of : Values → Option Budget
 budget_of value = budget_by (is_some (value Solves)) (is_some (value Pivots))
-    (number_or 100000 1000000000 (value Solves))
-    (number_or 100000 1000000000 (value Pivots))
-    (number_or 1 1 (value Workers))
+    (number_or 100000 Solves (value Solves))
+    (number_or 100000 Pivots (value Pivots))
+    (number_or 1 Workers (value Workers))

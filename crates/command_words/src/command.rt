@@ -1,13 +1,16 @@
 //! The commands.
-ghost use Rattle.std.specs.Prelude.{◌≡◌, is_some};
+ghost use Rattle.std.specs.Prelude.{◌≡◌, ◌<◌, ◌^◌, IfSome, is_some};
 ghost use Rattle.std.specs.Option.{option_map};
-ghost use Rattle.command_words.specs.Words.{verb_named, number_or, option_number, budget_of};
-ghost use Rattle.command_words.specs.Commands.{allows, all_allowed, sources_of, task_of, page_named, page_of, plan_of};
+ghost use Rattle.command_words.specs.Table.{value_kind};
+ghost use Rattle.command_words.specs.Words.{verb_among, verb_named, number_for, number_or, number_given, budget_of};
+ghost use Rattle.command_words.specs.Commands.{allows, all_allowed, are_there, is_there_if, go_together, are_options};
+ghost use Rattle.command_words.specs.Commands.{sources_of, task_of, page_named, page_of, plan_of};
 ghost use Rattle.command_words.specs.Commands.{on_files, asked_with, command_with};
 ghost use Rattle.command_words.specs.Views.{asked, all_given, sources_view};
 
-use crate::flag::Flag;
-use crate::settings::{Setting, are_once};
+use crate::flag::{Flag, has_flag};
+use crate::settings::{Setting, are_once, value_with};
+use crate::table::{VERBS, ValueKind};
 use crate::value::number_within;
 use crate::values::Values;
 
@@ -93,39 +96,30 @@ pub enum Command<'a> {
 /// So many solves and so many pivots are allowed where the words don't say how many.
 const BUDGET: u64 = 100_000;
 
-/// The most solves, and the most pivots, that the words may allow.
-const MOST: u64 = 1_000_000_000;
-
-/// The most workers that the words may ask for.
-const MOST_WORKERS: u64 = 1;
-
-/// What a workload is drawn from, at most.
-const MOST_START: u32 = 65_536;
+/// The one of some commands that has this name.
+fn verb_among(word: &str, verbs: &[Verb]) -> Option<Verb>
+    ensures { result ≡ verb_among word.now verbs.now }
+{
+    for verb in verbs {
+        if word == verb.row().name {
+            return Some(*verb);
+        }
+    }
+    None
+}
 
 pub(crate) fn verb_named(word: &str) -> Option<Verb>
     ensures { result ≡ verb_named word.now }
 {
-    match word {
-        "solve" => Some(Verb::Solve),
-        "check" => Some(Verb::Check),
-        "show" => Some(Verb::Show),
-        "make" => Some(Verb::Make),
-        _ => None,
-    }
+    verb_among(word, VERBS.as_slice())
 }
 
 /// Whether a command takes this option.
 pub(crate) fn allows(verb: Verb, flag: Flag) -> bool
     ensures { result ≡ allows verb flag }
 {
-    match flag {
-        Flag::Core | Flag::Time | Flag::Stoch | Flag::Edits => verb != Verb::Make,
-        Flag::Report => verb == Verb::Check,
-        Flag::Solves | Flag::Pivots | Flag::Workers => verb == Verb::Solve,
-        Flag::Start | Flag::Stages | Flag::Branches | Flag::Size | Flag::Text => {
-            verb == Verb::Make
-        }
-    }
+    let row = verb.row();
+    has_flag(row.needs, flag) || has_flag(row.takes, flag)
 }
 
 fn all_allowed(verb: Verb, settings: &[Setting<'_>]) -> bool
@@ -139,43 +133,93 @@ fn all_allowed(verb: Verb, settings: &[Setting<'_>]) -> bool
     true
 }
 
-/// The files: a core is needed, and a stoch file goes with a time file alone.
+/// Whether these options are there.
+fn are_there(settings: &[Setting<'_>], flags: &[Flag]) -> bool
+    ensures { result ≡ are_there (all_given settings.now) flags.now }
+{
+    for flag in flags {
+        if value_with(settings, *flag).is_none() {
+            return false;
+        }
+    }
+    true
+}
+
+/// Whether the option is there without which one isn't taken, where there is one.
+fn is_there_if(settings: &[Setting<'_>], flag: Option<Flag>) -> bool
+    ensures { result ≡ is_there_if (all_given settings.now) flag }
+{
+    match flag {
+        None => true,
+        Some(flag) => value_with(settings, flag).is_some(),
+    }
+}
+
+/// Whether that is so for each of the options.
+fn go_together(settings: &[Setting<'_>]) -> bool
+    ensures { result ≡ go_together (all_given settings.now) (all_given settings.now) }
+{
+    for setting in settings {
+        if !is_there_if(settings, setting.flag.row().with) {
+            return false;
+        }
+    }
+    true
+}
+
+/// Whether these are options of a command, each of them once, with all that it needs.
+fn are_options(verb: Verb, settings: &[Setting<'_>]) -> bool
+    ensures { result ≡ are_options verb (all_given settings.now) }
+{
+    all_allowed(verb, settings)
+        && are_once(settings)
+        && are_there(settings, verb.row().needs)
+        && go_together(settings)
+}
+
+/// The names of the files.
 fn named_sources<'a, V: Values<'a>>(values: &V) -> Option<Sources<'a>>
     ensures { option_map sources_view result ≡ sources_of (V.values values.now) }
 {
     let core = values.value(Flag::Core)?;
-    let time = values.value(Flag::Time);
-    let stoch = values.value(Flag::Stoch);
-    let edits = values.value(Flag::Edits);
-    let report = values.value(Flag::Report);
-    if time.is_none() && stoch.is_some() {
-        return None;
-    }
     Some(Sources {
         core,
-        time,
-        stoch,
-        edits,
-        report,
+        time: values.value(Flag::Time),
+        stoch: values.value(Flag::Stoch),
+        edits: values.value(Flag::Edits),
+        report: values.value(Flag::Report),
     })
 }
 
-/// The number that an option has, up to the most that it may be; `absent` where the option isn't there.
-fn number_or<'a, V: Values<'a>>(values: &V, flag: Flag, absent: u64, most: u64) -> Option<u64>
-    ensures { result ≡ number_or absent most (V.values values.now flag) }
+/// The number of an option's value, where it is one within the option's range.
+fn number_for(flag: Flag, value: &str) -> Option<u64>
+    ensures number { result ≡ number_for (value_kind flag) value.now }
+    ensures within { IfSome result (λ number. number < 2 ^ 32) }
 {
-    match values.value(flag) {
-        None => Some(absent),
-        Some(value) => number_within(value.as_bytes(), 1, most),
+    match flag.row().kind {
+        ValueKind::Number(least, most) => {
+            number_within(value.as_bytes(), least as u64, most as u64)
+        }
+        ValueKind::File | ValueKind::Page => None,
     }
 }
 
-/// The number that an option has, within its range; none where the option isn't there.
-fn option_number<'a, V: Values<'a>>(values: &V, flag: Flag, least: u32, most: u32) -> Option<u32>
-    ensures { result ≡ option_number least most (V.values values.now flag) }
+/// The number that an option has; `absent` where the option isn't there.
+fn number_or<'a, V: Values<'a>>(values: &V, flag: Flag, absent: u64) -> Option<u64>
+    ensures { result ≡ number_or absent flag (V.values values.now flag) }
+{
+    match values.value(flag) {
+        None => Some(absent),
+        Some(value) => number_for(flag, value),
+    }
+}
+
+/// The number that an option has; none where the option isn't there.
+fn number_given<'a, V: Values<'a>>(values: &V, flag: Flag) -> Option<u32>
+    ensures { result ≡ number_given flag (V.values values.now flag) }
 {
     let value = values.value(flag)?;
-    let number = number_within(value.as_bytes(), least as u64, most as u64)?;
+    let number = number_for(flag, value)?;
     Some(number as u32)
 }
 
@@ -183,9 +227,9 @@ fn option_number<'a, V: Values<'a>>(values: &V, flag: Flag, least: u32, most: u3
 fn budget_given<'a, V: Values<'a>>(values: &V) -> Option<Budget>
     ensures { result ≡ budget_of (V.values values.now) }
 {
-    let solves = number_or(values, Flag::Solves, BUDGET, MOST)?;
-    let pivots = number_or(values, Flag::Pivots, BUDGET, MOST)?;
-    let _workers = number_or(values, Flag::Workers, 1, MOST_WORKERS)?;
+    let solves = number_or(values, Flag::Solves, BUDGET)?;
+    let pivots = number_or(values, Flag::Pivots, BUDGET)?;
+    let _workers = number_or(values, Flag::Workers, 1)?;
     Some(Budget {
         solves,
         solves_stated: values.value(Flag::Solves).is_some(),
@@ -194,7 +238,7 @@ fn budget_given<'a, V: Values<'a>>(values: &V) -> Option<Budget>
     })
 }
 
-/// The task of a verb; none of `check` without reports, and of `make`.
+/// The task of a verb; none of `make`.
 fn task_given<'a, V: Values<'a>>(verb: Verb, values: &V) -> Option<Task>
     ensures { result ≡ task_of verb (V.values values.now) }
 {
@@ -203,10 +247,7 @@ fn task_given<'a, V: Values<'a>>(verb: Verb, values: &V) -> Option<Task>
             let budget = budget_given(values)?;
             Some(Task::Solve(budget))
         }
-        Verb::Check => {
-            let _report = values.value(Flag::Report)?;
-            Some(Task::Check)
-        }
+        Verb::Check => Some(Task::Check),
         Verb::Show => Some(Task::Show),
         Verb::Make => None,
     }
@@ -236,14 +277,14 @@ fn page_given<'a, V: Values<'a>>(values: &V) -> Option<Option<Page>>
     }
 }
 
-/// The workload: all four numbers are needed.
+/// The workload: four numbers.
 fn plan_given<'a, V: Values<'a>>(values: &V) -> Option<Plan>
     ensures { result ≡ plan_of (V.values values.now) }
 {
-    let start = option_number(values, Flag::Start, 0, MOST_START)?;
-    let stages = option_number(values, Flag::Stages, 2, 6)?;
-    let branches = option_number(values, Flag::Branches, 2, 4)?;
-    let size = option_number(values, Flag::Size, 1, 20)?;
+    let start = number_given(values, Flag::Start)?;
+    let stages = number_given(values, Flag::Stages)?;
+    let branches = number_given(values, Flag::Branches)?;
+    let size = number_given(values, Flag::Size)?;
     let page = page_given(values)?;
     Some(Plan {
         start,
@@ -280,5 +321,5 @@ pub(crate) fn asked_with<'a, V: Values<'a>>(verb: Verb, values: &V) -> Option<Co
 pub(crate) fn is_command(verb: Verb, settings: &Vec<Setting<'_>>) -> bool
     ensures { result ≡ is_some (command_with verb (all_given settings.now.items)) }
 {
-    all_allowed(verb, settings) && are_once(settings) && asked_with(verb, settings).is_some()
+    are_options(verb, settings) && asked_with(verb, settings).is_some()
 }

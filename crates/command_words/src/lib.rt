@@ -7,6 +7,7 @@ mod flag;
 mod plain;
 mod reader;
 mod settings;
+mod table;
 mod value;
 mod values;
 
@@ -14,3 +15,4 @@ pub use command::{Budget, Command, Page, Plan, Sources, Task, Verb};
 pub use flag::Flag;
 pub use plain::PlainWords;
 pub use settings::Setting;
+pub use table::{CommandRow, FLAGS, MOST_WORKERS, OptionRow, PAGES, VERBS, ValueKind};

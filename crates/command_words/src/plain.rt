@@ -4,12 +4,12 @@ ghost use Rattle.std.specs.Option.{option_map};
 ghost use Rattle.clap.specs.Words.{first_value, found_of, kind_of};
 ghost use Rattle.clap.specs.declared.error.kind.ErrorKind.TheVariants.{OutOfMemory};
 ghost use Rattle.command_words.specs.declared.flag.Flag.{Flag};
-ghost use Rattle.command_words.specs.Words.{ArePlain, ArePlain-prop, Given, flag_text, plain_word, settings_of, value_with};
+ghost use Rattle.command_words.specs.Table.{flag_text};
+ghost use Rattle.command_words.specs.Words.{ArePlain, ArePlain-prop, Given, plain_word, settings_of, value_with};
 ghost use Rattle.command_words.specs.Commands.{command_by, command_of};
 ghost use Rattle.command_words.specs.Views.{asked, given, all_given};
 
 use crate::command::{Command, Verb, asked_with, is_command, verb_named};
-use crate::flag::name;
 use crate::reader::reader;
 use crate::settings::{Setting, settings};
 use clap::{ArgMatches, Error};
@@ -31,7 +31,7 @@ fn plain_word(alloc: Global, setting: &Setting<'_>) -> Result<String, AllocError
     ensures { IfOk result (λ word. string_bytes word ≡ plain_word (given setting.now)) }
 {
     let mut word = String::from_str(alloc, "--")?;
-    word.push_str(name(setting.flag))?;
+    word.push_str(setting.flag.row().name)?;
     word.push_str("=")?;
     word.push_str(setting.value)?;
     Ok(word)

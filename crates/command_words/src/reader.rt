@@ -4,7 +4,8 @@ ghost use Rattle.clap.specs.Words.{app_of, rule_of, with_rule};
 ghost use Rattle.command_words.specs.Options.{option_rule, reader_of, with_options};
 
 use crate::command::{Verb, allows};
-use crate::flag::{FLAGS, Flag, name};
+use crate::flag::Flag;
+use crate::table::FLAGS;
 use clap::{Arg, ArgAction, Command};
 use std::alloc::{AllocError, Global};
 
@@ -39,7 +40,7 @@ fn with_options<'a>(
 {
     for flag in flags {
         if allows(verb, *flag) {
-            command = with_option(alloc, command, name(*flag))?;
+            command = with_option(alloc, command, flag.row().name)?;
         }
     }
     Ok(command)

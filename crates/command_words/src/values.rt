@@ -3,10 +3,11 @@ ghost use Rattle.std.specs.Prelude.{◌≡◌, ℕ, List, Option};
 ghost use Rattle.std.specs.Option.{option_map};
 ghost use Rattle.clap.specs.Words.{first_value, found_of};
 ghost use Rattle.command_words.specs.declared.flag.Flag.{Flag};
-ghost use Rattle.command_words.specs.Words.{flag_text, value_with};
+ghost use Rattle.command_words.specs.Table.{flag_text};
+ghost use Rattle.command_words.specs.Words.{value_with};
 ghost use Rattle.command_words.specs.Views.{all_given};
 
-use crate::flag::{Flag, name};
+use crate::flag::Flag;
 use crate::settings::{Setting, value_with};
 use clap::ArgMatches;
 
@@ -31,6 +32,6 @@ impl<'a> Values<'a> for ArgMatches<'a> {
     ghost values = { λ matches flag. first_value (found_of matches) (flag_text flag) };
 
     fn value(&self, flag: Flag) -> Option<&'a str> {
-        self.get_str(name(flag))
+        self.get_str(flag.row().name)
     }
 }

@@ -3,14 +3,12 @@
 
 mod checked;
 mod explain;
-mod files;
-mod noted;
+mod help;
 mod refusal;
-mod watched;
+mod reported;
+mod unread;
 mod whole;
 mod words;
 
 pub use explain::{MEMORY, NOT_TEXT, UNEXPLAINED, explanation};
-pub use noted::Noted;
-pub use watched::Watched;
 pub use words::put_word_fault;

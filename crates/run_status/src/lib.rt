@@ -2,8 +2,6 @@
 #![tactic(auto)]
 
 mod status;
-mod whole;
 
 pub use input_files::FileKind;
 pub use status::{Status, command_status, file_word, is_open, open_status};
-pub use whole::WholeReports;

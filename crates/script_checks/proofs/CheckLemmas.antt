@@ -1,6 +1,5 @@
 -- What a check gives, and how the checks of a script end.
-use Rattle.std.proofs.Common.{◌≡◌, ◌<◌, ◌∙◌, length, List, [], ◌∷◌, Bool, true, Result, Ok, Err, refl, sym, ap, arith}
-use Rattle.std.specs.Prelude.{IfOk}
+use Rattle.std.proofs.Common.{◌≡◌, ◌<◌, length, List, [], ◌∷◌, Bool, true, Result, Ok, Err, refl, sym, ap, arith}
 use Rattle.rationals.specs.Passes.{Operation}
 use Rattle.scen_defs.specs.Program.{content, view_of}
 use Rattle.scen_defs.specs.declared.program.Program.{Program}
@@ -14,7 +13,6 @@ use Rattle.certificate_check.specs.declared.verdict.Verdict.{Verdict}
 use Rattle.certificate_check.specs.declared.verdict.Verdict.TheVariants.{Holds, Fails}
 use Rattle.certificate_check.specs.Verdicts.{verdict_of}
 use Rattle.certificate_check.specs.Shown.{IsShown, IfHolds}
-use Rattle.certificate_check.specs.Text.{verdict_text}
 use Rattle.script_checks.specs.declared.single.Checked.{Checked}
 use Rattle.script_checks.specs.Checked.{is_holding, holds, IsCheck}
 
@@ -23,18 +21,16 @@ none_left [] h = refl
 none_left (x ∷ xs) h = absurd (omega (arith, h))
 
 -- the check that comes of what a verdict walk gives
-pub checked : (program : Program) (report : Report) (outcome : Result Verdict Operation) (held : Bool) {E : Type 0} (r : Result Checked E)
-    → verdict_of program report ≡ outcome → holds outcome ≡ held → (held ≡ true → IsShown (view_of (content program)) report)
-    → IfOk r (λ c. c.line.items ≡ verdict_text report.number outcome) → IfOk r (λ c. c.holds ≡ held)
-    → IfOk r (IsCheck (content program) report)
-checked program report outcome held (Ok c) v w shown line is = record {
+pub checked : (program : Program) (report : Report) (check : Checked) → check.number ≡ report.number
+    → verdict_of program report ≡ check.outcome → (holds check.outcome ≡ true → IsShown (view_of (content program)) report)
+    → IsCheck (content program) report check
+checked program report check n v shown = record {
   program = program;
   content_is = refl;
-  line_is = line ∙ ap (verdict_text report.number) (sym v);
-  held = is ∙ sym w ∙ ap holds (sym v);
-  shown = λ e. shown (sym is ∙ e);
+  number_is = n;
+  outcome_is = sym v;
+  shown = shown;
 }
-checked program report outcome held (Err e) v w shown line is = tt
 
 -- a verdict that all claims hold shows the report
 pub held_shown : (verdict : Verdict) (P : Type 0) → IfHolds (Ok verdict) P → is_holding verdict ≡ true → P

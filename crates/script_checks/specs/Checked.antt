@@ -23,14 +23,14 @@ abbrev pub holds : Result Verdict Operation → Bool
 holds (Ok verdict) = is_holding verdict
 holds (Err passed) = false
 
--- The line says what the check of the report against the program comes to: the first claim that fails, or the operation that passes
--- before one. Where all claims hold, the report is true of the program.
+-- The check of the report against the program comes to the first claim that fails, or the operation that passes before one. Where all
+-- claims hold, the report is true of the program.
 pub record IsCheck (p : Program) (report : Report) (check : Checked) : Type 0 where
   pub program : ProgramOf
   pub content_is : content program ≡ p
-  pub line_is : check.line.items ≡ verdict_text report.number (verdict_of program report)
-  pub held : check.holds ≡ holds (verdict_of program report)
-  pub shown : check.holds ≡ true → IsShown (view_of p) report
+  pub number_is : check.number ≡ report.number
+  pub outcome_is : check.outcome ≡ verdict_of program report
+  pub shown : holds check.outcome ≡ true → IsShown (view_of p) report
 
 -- a first report with its check, and those behind it; without a report no check
 abbrev pub AreHeads : (Report → Checked → Type 0) → (List Report → List Checked → Type 0)
@@ -48,9 +48,9 @@ AreChecked p (item ∷ items) reports checks = elim item.act [
 ]
 
 abbrev pub line_of : Checked → List ℕ
-line_of check = check.line.items
+line_of check = verdict_text check.number check.outcome
 
 -- all claims of all reports hold
 abbrev pub all_hold : List Checked → Bool
 all_hold [] = true
-all_hold (check ∷ checks) = check.holds && all_hold checks
+all_hold (check ∷ checks) = holds check.outcome && all_hold checks

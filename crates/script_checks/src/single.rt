@@ -1,22 +1,33 @@
 //! The check of one report.
-ghost use Rattle.std.specs.Prelude.{◌≡◌, false, Ok, Err, IfOk};
+ghost use Rattle.std.specs.Prelude.{◌≡◌, IfOk};
 ghost use Rattle.scen_defs.specs.Program.{content};
 ghost use Rattle.scen_defs.specs.declared.report.Place.{Place as PlaceOf};
-ghost use Rattle.certificate_check.specs.Text.{verdict_text};
-ghost use Rattle.script_checks.specs.Checked.{is_holding, IsCheck};
+ghost use Rattle.script_checks.specs.Checked.{holds, IsCheck};
 
-use certificate_check::{Verdict, check, print_verdict};
+use certificate_check::{Verdict, check};
 use frac128::{Memory, Passed};
 use scen_defs::{Halt, Program, Report};
 use std::alloc::Global;
 
 /// What the check of a report came to.
-#[derive(Drop)]
+#[derive(Clone, Copy, Debug, Drop)]
 pub struct Checked {
-    /// The line that says so.
-    pub line: Vec<u8>,
-    /// Whether all its claims hold.
-    pub holds: bool,
+    /// The number of the report.
+    pub number: u32,
+    /// The verdict; or the operation that passed 128 bits before one.
+    pub outcome: Result<Verdict, Passed>,
+}
+
+impl Checked {
+    /// Whether all claims of the report hold.
+    pub fn holds(&self) -> bool
+        ensures { result ≡ holds self.now.outcome }
+    {
+        match self.outcome {
+            Ok(Verdict::Holds) => true,
+            Ok(Verdict::Fails(_)) | Err(_) => false,
+        }
+    }
 }
 
 /// The operation in which a check ended.
@@ -29,36 +40,6 @@ fn operation(halt: Halt) -> Result<Passed, Memory>
     }
 }
 
-fn is_holding(verdict: Verdict) -> bool
-    ensures { result ≡ is_holding verdict }
-{
-    match verdict {
-        Verdict::Holds => true,
-        Verdict::Fails(_claim) => false,
-    }
-}
-
-/// What comes of a verdict.
-fn judged(alloc: Global, number: u32, verdict: Verdict) -> Result<Checked, Memory>
-    ensures line { IfOk result (λ checked. checked.line.items ≡ verdict_text number (Ok verdict)) }
-    ensures holds { IfOk result (λ checked. checked.holds ≡ is_holding verdict) }
-{
-    let holds = is_holding(verdict);
-    let mut line = Vec::new(alloc);
-    print_verdict(alloc, number, Ok(verdict), &mut line)?;
-    Ok(Checked { line, holds })
-}
-
-/// What comes of an operation that passed 128 bits.
-fn passed(alloc: Global, number: u32, passed: Passed) -> Result<Checked, Memory>
-    ensures line { IfOk result (λ checked. checked.line.items ≡ verdict_text number (Err passed)) }
-    ensures holds { IfOk result (λ checked. checked.holds ≡ false) }
-{
-    let mut line = Vec::new(alloc);
-    print_verdict(alloc, number, Err(passed), &mut line)?;
-    Ok(Checked { line, holds: false })
-}
-
 /// Checks a report against a program.
 pub(crate) fn check_one(
     alloc: Global,
@@ -69,7 +50,13 @@ pub(crate) fn check_one(
 {
     let number = report.number;
     match check(alloc, program, report) {
-        Ok(verdict) => judged(alloc, number, verdict),
-        Err(halt) => passed(alloc, number, operation(halt)?),
+        Ok(verdict) => Ok(Checked {
+            number,
+            outcome: Ok(verdict),
+        }),
+        Err(halt) => Ok(Checked {
+            number,
+            outcome: Err(operation(halt)?),
+        }),
     }
 }

@@ -3,6 +3,6 @@ pub mod CompleteLemmas
 pub mod MeantLemmas
 pub mod GivenLemmas
 pub mod EndLemmas
-pub mod WriteLemmas
 pub mod Few
 pub mod OnTrees
+pub mod WriteLemmas

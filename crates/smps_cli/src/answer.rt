@@ -10,41 +10,98 @@ ghost use Rattle.input_files.specs.Unfetched.{texts_view};
 ghost use Rattle.input_files.specs.declared.kind.FileKind.{FileKind};
 ghost use Rattle.program_files.specs.Meant.{AreWithin};
 ghost use Rattle.smps_cli.specs.Answers.{MayAnswer, MayAnswerFor, MayAnswerTask, MayCome, HasTexts};
+ghost use Rattle.smps_cli.specs.Found.{found_text};
 ghost use Rattle.smps_cli.specs.Makes.{MakesPlan};
 ghost use Rattle.smps_cli.specs.Sources.{HasFetched, LastSaysLong, StatusSaysLong, fetch_order};
 ghost use Rattle.run_status.specs.Lines.{line_with, status_line};
 
 use crate::check::checked;
+use crate::fetched::{Fetched, FileNames};
+use crate::found::Found;
 use crate::make::made;
 use crate::show::shown;
 use crate::solve::solved;
-use command_words::{Command, PlainWords, Sources, Task};
+use command_words::{Command, PlainWords, Plan, Sources, Task};
 use core_defs::Core;
 use frac128::Memory;
 use input_files::{Texts, Unfetched, fetched_texts};
-use run_status::{Status, WholeReports};
+use run_status::Status;
 use smps_io::Shelf;
 use std::alloc::Global;
 use std::fs::Files;
 
-/// A status and the whole output that goes with it, and which of its reports were found by solving the whole program at once.
+/// A status, and what was found.
 #[derive(Drop)]
 pub(crate) struct Answer {
     pub(crate) status: Status,
-    pub(crate) output: Vec<u8>,
-    pub(crate) whole: WholeReports,
+    pub(crate) found: Found,
+}
+
+/// How a run ended, and what it knows. Where the output failed or memory was wanting for it, only a part of what was found was written.
+#[derive(Drop)]
+pub struct Ran {
+    pub status: Status,
+    pub found: Found,
+    /// The files of the command, if it takes some.
+    pub fetched: Option<Fetched>,
+}
+
+impl Ran {
+    /// Of an answer for files.
+    fn of(answer: Answer, names: FileNames, texts: Option<Texts>) -> Ran
+        ensures { (result.status ≡ answer.status) × (found_text result.found ≡ found_text answer.found) }
+    {
+        Ran {
+            status: answer.status,
+            found: answer.found,
+            fetched: Some(Fetched { names, texts }),
+        }
+    }
+
+    /// Of an answer that needs no file.
+    fn without_files(answer: Answer) -> Ran
+        ensures { (result.status ≡ answer.status) × (found_text result.found ≡ found_text answer.found) }
+    {
+        Ran {
+            status: answer.status,
+            found: answer.found,
+            fetched: None,
+        }
+    }
 }
 
 /// What a task comes to on its texts.
 fn come(alloc: Global, task: Task, texts: &Texts) -> Result<Answer, Memory>
     requires { AreWithin (texts_view texts.now) }
-    ensures may { IfOk result (λ answer. MayCome task (texts_view texts.now) answer.status answer.output.items) }
+    ensures may { IfOk result (λ answer. MayCome task (texts_view texts.now) answer.status (found_text answer.found)) }
     ensures has { IfOk result (λ answer. HasTexts answer.status) }
 {
     match task {
         Task::Solve(budget) => solved(alloc, texts, budget),
         Task::Check => checked(alloc, texts),
         Task::Show => shown(alloc, texts),
+    }
+}
+
+/// A run of a task on its texts.
+fn on_texts(alloc: Global, task: Task, names: FileNames, texts: Texts) -> Result<Ran, Memory>
+    requires { AreWithin (texts_view texts) }
+    ensures may { IfOk result (λ ran. MayCome task (texts_view texts) ran.status (found_text ran.found)) }
+    ensures has { IfOk result (λ ran. HasTexts ran.status) }
+{
+    match come(alloc, task, &texts) {
+        Ok(answer) => Ok(Ran::of(answer, names, Some(texts))),
+        Err(Memory) => Err(Memory),
+    }
+}
+
+/// A run whose files weren't all given.
+fn without_texts(alloc: Global, names: FileNames, status: Status) -> Result<Ran, Memory>
+    ensures { IfOk result (λ ran. (ran.status ≡ status) × (found_text ran.found ≡ status_line status)) }
+{
+    match one_line(alloc, status) {
+        Ok(answer) => Ok(Ran::of(answer, names, None)),
+        Err(Memory) => Err(Memory),
     }
 }
 
@@ -55,23 +112,44 @@ fn on_files<R: Files, H: Shelf>(
     sources: &Sources<'_>,
     task: Task,
     shelf: &mut H,
-) -> Result<Answer, Memory>
-    ensures may { IfOk result (λ answer.
-        MayAnswerTask (H.content shelf.old) (sources_view sources.now) task answer.status answer.output.items) }
-    ensures words { IfOk result (λ answer. answer.status ≢ Status.Words) }
-    ensures written { IfOk result (λ answer. answer.status ≢ Status.WriteFault) }
-    ensures read { IfOk result (λ answer.
-        (kind : FileKind) → answer.status ≡ Status.ReadFault kind → Rose (H.faults shelf.old) (H.faults shelf.new)) }
-    ensures long { IfOk result (λ answer. StatusSaysLong answer.status (H.given shelf.new)) }
-    ensures fetched { IfOk result (λ answer.
-        HasFetched (Some (OnFiles (sources_view sources.now) task)) answer.status (H.fetches shelf.old) (H.fetches shelf.new)) }
+) -> Result<Ran, Memory>
+    ensures may { IfOk result (λ ran.
+        MayAnswerTask (H.content shelf.old) (sources_view sources.now) task ran.status (found_text ran.found)) }
+    ensures words { IfOk result (λ ran. ran.status ≢ Status.Words) }
+    ensures written { IfOk result (λ ran. ran.status ≢ Status.WriteFault) }
+    ensures read { IfOk result (λ ran.
+        (kind : FileKind) → ran.status ≡ Status.ReadFault kind → Rose (H.faults shelf.old) (H.faults shelf.new)) }
+    ensures long { IfOk result (λ ran. StatusSaysLong ran.status (H.given shelf.new)) }
+    ensures fetched { IfOk result (λ ran.
+        HasFetched (Some (OnFiles (sources_view sources.now) task)) ran.status (H.fetches shelf.old) (H.fetches shelf.new)) }
     ensures once { FetchesPrefix (H.fetches shelf.old) (names_in_order (sources_view sources.now)) (H.fetches shelf.new) }
 {
+    let names = FileNames::of(alloc, sources)?;
     match fetched_texts(rt, alloc, shelf, sources) {
-        Ok(texts) => come(alloc, task, &texts),
-        Err(Unfetched::Failed(kind)) => one_line(alloc, Status::ReadFault(kind)),
-        Err(Unfetched::TooLong(kind)) => one_line(alloc, Status::TooLong(kind)),
+        Ok(texts) => on_texts(alloc, task, names, texts),
+        Err(Unfetched::Failed(kind)) => without_texts(alloc, names, Status::ReadFault(kind)),
+        Err(Unfetched::TooLong(kind)) => without_texts(alloc, names, Status::TooLong(kind)),
         Err(Unfetched::Memory) => Err(Memory),
+    }
+}
+
+/// A run of words that aren't those of a command.
+fn refused(alloc: Global) -> Result<Ran, Memory>
+    ensures { IfOk result (λ ran. (ran.status ≡ Status.Words) × (found_text ran.found ≡ status_line Status.Words)) }
+{
+    match one_line(alloc, Status::Words) {
+        Ok(answer) => Ok(Ran::without_files(answer)),
+        Err(Memory) => Err(Memory),
+    }
+}
+
+/// A run that makes a workload.
+fn making(alloc: Global, plan: Plan) -> Result<Ran, Memory>
+    ensures { IfOk result (λ ran. MakesPlan plan ran.status (found_text ran.found)) }
+{
+    match made(alloc, plan) {
+        Ok(answer) => Ok(Ran::without_files(answer)),
+        Err(Memory) => Err(Memory),
     }
 }
 
@@ -81,32 +159,32 @@ pub(crate) fn answered<R: Files, H: Shelf>(
     alloc: Global,
     words: &[String],
     shelf: &mut H,
-) -> Result<Answer, Memory>
-    ensures may { IfOk result (λ answer.
-        MayAnswer (H.content shelf.old) (map string_bytes words.now) answer.status answer.output.items) }
-    ensures words { IfOk result (λ answer. answer.status ≡ Status.Words → command_of (map string_bytes words.now) ≡ None) }
-    ensures written { IfOk result (λ answer. answer.status ≢ Status.WriteFault) }
-    ensures read { IfOk result (λ answer.
-        (kind : FileKind) → answer.status ≡ Status.ReadFault kind → Rose (H.faults shelf.old) (H.faults shelf.new)) }
-    ensures long { IfOk result (λ answer. LastSaysLong (command_of (map string_bytes words.now)) answer.status (H.given shelf.new)) }
-    ensures fetched { IfOk result (λ answer.
-        HasFetched (command_of (map string_bytes words.now)) answer.status (H.fetches shelf.old) (H.fetches shelf.new)) }
+) -> Result<Ran, Memory>
+    ensures may { IfOk result (λ ran.
+        MayAnswer (H.content shelf.old) (map string_bytes words.now) ran.status (found_text ran.found)) }
+    ensures words { IfOk result (λ ran. ran.status ≡ Status.Words → command_of (map string_bytes words.now) ≡ None) }
+    ensures written { IfOk result (λ ran. ran.status ≢ Status.WriteFault) }
+    ensures read { IfOk result (λ ran.
+        (kind : FileKind) → ran.status ≡ Status.ReadFault kind → Rose (H.faults shelf.old) (H.faults shelf.new)) }
+    ensures long { IfOk result (λ ran. LastSaysLong (command_of (map string_bytes words.now)) ran.status (H.given shelf.new)) }
+    ensures fetched { IfOk result (λ ran.
+        HasFetched (command_of (map string_bytes words.now)) ran.status (H.fetches shelf.old) (H.fetches shelf.new)) }
     ensures once { FetchesPrefix (H.fetches shelf.old) (fetch_order (command_of (map string_bytes words.now)))
         (H.fetches shelf.new) }
     ensures none_fetched { command_of (map string_bytes words.now) ≡ None → H.fetches shelf.new ≡ H.fetches shelf.old }
 {
     let Some(plain) = PlainWords::read(alloc, words)? else {
-        return one_line(alloc, Status::Words);
+        return refused(alloc);
     };
     match plain.command(alloc)? {
         Command::OnFiles { sources, task } => on_files(rt, alloc, &sources, task, shelf),
-        Command::Make(plan) => made(alloc, plan),
+        Command::Make(plan) => making(alloc, plan),
     }
 }
 
 /// The answer of a status that prints one line.
-pub(crate) fn one_line(alloc: Global, status: Status) -> Result<Answer, Memory>
-    ensures { IfOk result (λ answer. (answer.status ≡ status) × (answer.output.items ≡ status_line status)) }
+fn one_line(alloc: Global, status: Status) -> Result<Answer, Memory>
+    ensures { IfOk result (λ answer. (answer.status ≡ status) × (found_text answer.found ≡ status_line status)) }
 {
     line_answer(alloc, status, &None)
 }
@@ -117,12 +195,11 @@ pub(crate) fn line_answer(
     status: Status,
     core: &Option<Core>,
 ) -> Result<Answer, Memory>
-    ensures { IfOk result (λ answer. (answer.status ≡ status) × (answer.output.items ≡ line_with core.now status)) }
+    ensures { IfOk result (λ answer. (answer.status ≡ status) × (found_text answer.found ≡ line_with core.now status)) }
 {
-    let output = status.line(alloc, core)?;
+    let line = status.line(alloc, core)?;
     Ok(Answer {
         status,
-        output,
-        whole: WholeReports::none(),
+        found: Found::Nothing(line),
     })
 }

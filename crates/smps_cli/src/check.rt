@@ -7,22 +7,25 @@ ghost use Rattle.program_files.specs.Edited.{MeansReports};
 ghost use Rattle.script_steps.specs.Solves.{solve_count};
 ghost use Rattle.smps_cli.specs.Inputs.{IsInput};
 ghost use Rattle.smps_cli.specs.Checks.{MayBeChecked, PrintsChecks};
+ghost use Rattle.smps_cli.specs.Found.{found_text};
 
 use crate::answer::Answer;
+use crate::found::{Checks, Found};
 use crate::input::{Input, read_input};
 use crate::refuse::stopped;
 use frac128::Memory;
 use input_files::Texts;
 use program_files::read_told;
-use run_status::{WholeReports, open_status};
+use run_status::open_status;
 use scen_defs::Report;
-use script_checks::{all_hold, check_script, print_checks};
+use script_checks::{all_hold, check_script};
+use script_steps::solves;
 use std::alloc::Global;
 
 /// The answer for the texts of the files: the checks of the reports, or the first fault.
 pub(crate) fn checked(alloc: Global, texts: &Texts) -> Result<Answer, Memory>
     requires { AreWithin (texts_view texts.now) }
-    ensures { IfOk result (λ answer. MayBeChecked (texts_view texts.now) answer.status answer.output.items) }
+    ensures { IfOk result (λ answer. MayBeChecked (texts_view texts.now) answer.status (found_text answer.found)) }
 {
     match read_input(alloc, texts) {
         Ok(mut input) => checked_input(alloc, texts, &mut input),
@@ -34,7 +37,7 @@ pub(crate) fn checked(alloc: Global, texts: &Texts) -> Result<Answer, Memory>
 fn checked_input(alloc: Global, texts: &Texts, input: &mut Input) -> Result<Answer, Memory>
     requires within { AreWithin (texts_view texts.now) }
     requires input { IsInput (texts_view texts.now) input.old }
-    ensures { IfOk result (λ answer. MayBeChecked (texts_view texts.now) answer.status answer.output.items) }
+    ensures { IfOk result (λ answer. MayBeChecked (texts_view texts.now) answer.status (found_text answer.found)) }
 {
     match read_told(alloc, texts, &input.program, &input.script) {
         Ok(reports) => checked_reports(alloc, texts, input, &reports),
@@ -51,15 +54,13 @@ fn checked_reports(
 ) -> Result<Answer, Memory>
     requires input { IsInput (texts_view texts.now) input.old }
     requires stated { MeansReports (texts_view texts.now) (solve_count input.old.script.items.items) input.old.program reports.now }
-    ensures { IfOk result (λ answer. PrintsChecks (texts_view texts.now) answer.status answer.output.items) }
+    ensures { IfOk result (λ answer. PrintsChecks (texts_view texts.now) answer.status (found_text answer.found)) }
 {
     let _core = texts.core.len();
+    let asked = solves(&input.script);
     let checks = check_script(alloc, &mut input.program, &input.script, reports)?;
-    let mut output = Vec::new(alloc);
-    print_checks(&checks, &mut output)?;
     Ok(Answer {
         status: open_status(!all_hold(&checks)),
-        output,
-        whole: WholeReports::none(),
+        found: Found::Checks(Checks { checks, asked }),
     })
 }

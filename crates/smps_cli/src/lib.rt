@@ -3,6 +3,8 @@
 
 mod answer;
 mod check;
+mod fetched;
+mod found;
 mod input;
 mod make;
 mod refuse;
@@ -11,5 +13,10 @@ mod solve;
 mod top_call;
 mod write;
 
-pub use run_status::{FileKind, Status, WholeReports};
-pub use top_call::{Ran, run};
+pub use answer::Ran;
+pub use fetched::Fetched;
+pub use found::{Checks, Found, Summary};
+pub use run_status::{FileKind, Status};
+pub use script_checks::Checked;
+pub use smps_session::Told;
+pub use top_call::run;

@@ -6,19 +6,21 @@ ghost use Rattle.input_files.specs.Unfetched.{texts_view, given_bytes};
 ghost use Rattle.program_files.specs.Meant.{AreWithin, MeansProgram};
 ghost use Rattle.workload_maker.specs.Texts.{made_view};
 ghost use Rattle.run_status.specs.Findings.{command_status};
+ghost use Rattle.smps_cli.specs.Found.{found_text};
 ghost use Rattle.smps_cli.specs.Makes.{MakesPlan, MaySumUp, PrintsSummary, workload, page_text, texts_of};
 ghost use Rattle.smps_cli.specs.Makes.{plan_line, size_line, summary_text};
 
 use crate::answer::Answer;
+use crate::found::{Found, Summary};
 use crate::refuse::stopped;
 use command_words::{Page, Plan};
 use frac128::Memory;
 use input_files::{FILE_LIMIT, Texts};
 use program_files::read_program;
 use report_text::print_outcome;
-use run_status::{Status, WholeReports, command_status};
+use run_status::{Status, command_status};
 use scen_defs::{Program, Report};
-use smps_session::{StatedLimits, session};
+use smps_session::{Answered, StatedLimits, session};
 use std::alloc::Global;
 use workload_maker::{Made, make};
 
@@ -27,14 +29,13 @@ const BUDGET: u64 = 100_000;
 
 /// The answer for a plan: the text that is asked for, or the summary.
 pub(crate) fn made(alloc: Global, plan: Plan) -> Result<Answer, Memory>
-    ensures { IfOk result (λ answer. MakesPlan plan answer.status answer.output.items) }
+    ensures { IfOk result (λ answer. MakesPlan plan answer.status (found_text answer.found)) }
 {
     let texts = make(alloc, plan.start, plan.stages, plan.branches, plan.size)?;
     match plan.page {
         Some(page) => Ok(Answer {
             status: Status::Done,
-            output: page_of(texts, page),
-            whole: WholeReports::none(),
+            found: Found::Page(page_of(texts, page)),
         }),
         None => summed_up(alloc, plan, &texts_of(texts)),
     }
@@ -94,60 +95,57 @@ fn are_within(texts: &Texts) -> bool
 /// either, and is answered as want of memory.
 fn summed_up(alloc: Global, plan: Plan, texts: &Texts) -> Result<Answer, Memory>
     requires { texts_view texts.now ≡ texts_of (workload plan) }
-    ensures { IfOk result (λ answer. MaySumUp plan answer.status answer.output.items) }
+    ensures { IfOk result (λ answer. MaySumUp plan answer.status (found_text answer.found)) }
 {
     if !are_within(texts) {
         return Err(Memory);
     }
     match read_program(alloc, texts) {
-        Ok(program) => solved(alloc, plan, texts, &program),
+        Ok(program) => solved(alloc, plan, texts, program),
         Err(unread) => stopped(alloc, unread),
     }
 }
 
-/// The answer that prints a summary.
-fn printed(
-    alloc: Global,
-    plan: Plan,
-    program: &Program,
-    report: &Report,
-    by_whole: bool,
-) -> Result<Answer, Memory>
-    ensures { IfOk result (λ answer. (answer.output.items ≡ summary_text plan program.now report.now)
-        × (answer.status ≡ command_status report.now.finding)) }
+/// The answer of a report.
+fn reported(plan: Plan, program: Program, answered: Answered) -> Answer
+    ensures text { found_text result.found ≡ summary_text plan program answered.report }
+    ensures told { result.status ≡ command_status answered.report.finding }
 {
-    let output = summary(alloc, plan, program, report)?;
-    let none = WholeReports::none();
-    Ok(Answer {
+    let Answered { report, by_whole } = answered;
+    Answer {
         status: command_status(report.finding),
-        output,
-        whole: if by_whole { none.with(1) } else { none },
-    })
+        found: Found::Summary(Summary {
+            plan,
+            program,
+            report,
+            by_whole,
+        }),
+    }
 }
 
 /// The answer for the program of a workload: solves it.
-fn solved(alloc: Global, plan: Plan, texts: &Texts, program: &Program) -> Result<Answer, Memory>
+fn solved(alloc: Global, plan: Plan, texts: &Texts, program: Program) -> Result<Answer, Memory>
     requires texts { texts_view texts.now ≡ texts_of (workload plan) }
-    requires means { MeansProgram (texts_view texts.now) (content program.now) }
-    ensures { IfOk result (λ answer. PrintsSummary plan answer.status answer.output.items) }
+    requires means { MeansProgram (texts_view texts.now) (content program) }
+    ensures { IfOk result (λ answer. PrintsSummary plan answer.status (found_text answer.found)) }
 {
     let _core = texts.core.len();
     let stated = StatedLimits {
         solves: false,
         pivots: false,
     };
-    let answered = session(alloc, program, BUDGET, BUDGET, stated)?;
-    printed(alloc, plan, program, &answered.report, answered.by_whole)
+    let answered = session(alloc, &program, BUDGET, BUDGET, stated)?;
+    Ok(reported(plan, program, answered))
 }
 
-/// The summary of a workload and its report.
-fn summary(alloc: Global, plan: Plan, program: &Program, report: &Report) -> Result<Vec<u8>, Memory>
-    ensures { IfOk result (λ text. text.items ≡ summary_text plan program.now report.now) }
+/// The text of a summary.
+pub(crate) fn summary_text(alloc: Global, summary: &Summary) -> Result<Vec<u8>, Memory>
+    ensures { IfOk result (λ text. text.items ≡ summary_text summary.now.plan summary.now.program summary.now.report) }
 {
-    let mut text = plan_line(alloc, plan)?;
-    let sizes = size_line(alloc, program, report)?;
+    let mut text = plan_line(alloc, summary.plan)?;
+    let sizes = size_line(alloc, &summary.program, &summary.report)?;
     text.extend_from_slice(&sizes)?;
-    print_outcome(alloc, report, &mut text)?;
+    print_outcome(alloc, &summary.report, &mut text)?;
     text.extend_from_slice(b"END\n")?;
     Ok(text)
 }

@@ -1,26 +1,28 @@
 //! The command `solve`.
-ghost use Rattle.std.specs.Prelude.{◌≡◌, IfOk, OnOk, ◌++◌};
+ghost use Rattle.std.specs.Prelude.{◌≡◌, IfOk};
 ghost use Rattle.std.specs.List.{flat_map};
 ghost use Rattle.input_files.specs.Unfetched.{texts_view};
 ghost use Rattle.program_files.specs.Meant.{AreWithin};
 ghost use Rattle.run_status.specs.Findings.{open_status};
+ghost use Rattle.smps_cli.specs.Found.{found_text};
 ghost use Rattle.smps_cli.specs.Inputs.{IsInput};
 ghost use Rattle.smps_cli.specs.Solved.{MayBeSolved, PrintsReports, told_text, any_open};
 
 use crate::answer::Answer;
+use crate::found::Found;
 use crate::input::{Input, read_input};
 use crate::refuse::stopped;
 use command_words::Budget;
 use frac128::Memory;
 use input_files::Texts;
-use run_status::{WholeReports, is_open, open_status};
+use run_status::{is_open, open_status};
 use smps_session::{StatedLimits, Told, scripted};
 use std::alloc::Global;
 
 /// The answer for the texts of the files: the reports of the program that they mean, or their first fault.
 pub(crate) fn solved(alloc: Global, texts: &Texts, budget: Budget) -> Result<Answer, Memory>
     requires { AreWithin (texts_view texts.now) }
-    ensures { IfOk result (λ answer. MayBeSolved budget (texts_view texts.now) answer.status answer.output.items) }
+    ensures { IfOk result (λ answer. MayBeSolved budget (texts_view texts.now) answer.status (found_text answer.found)) }
 {
     match read_input(alloc, texts) {
         Ok(mut input) => solved_input(alloc, texts, &mut input, budget),
@@ -36,7 +38,7 @@ fn solved_input(
     budget: Budget,
 ) -> Result<Answer, Memory>
     requires { IsInput (texts_view texts.now) input.old }
-    ensures { IfOk result (λ answer. PrintsReports budget (texts_view texts.now) answer.status answer.output.items) }
+    ensures { IfOk result (λ answer. PrintsReports budget (texts_view texts.now) answer.status (found_text answer.found)) }
 {
     let _core = texts.core.len();
     let stated = StatedLimits {
@@ -51,31 +53,18 @@ fn solved_input(
         budget.pivots,
         stated,
     )?;
-    told(alloc, &tolds)
+    Ok(told(tolds))
 }
 
-/// The answer that prints reports.
-fn told(alloc: Global, tolds: &[Told]) -> Result<Answer, Memory>
-    ensures { IfOk result (λ answer. (answer.output.items ≡ flat_map told_text tolds.now)
-        × (answer.status ≡ open_status (any_open tolds.now))) }
+/// The answer of reports.
+fn told(tolds: Vec<Told>) -> Answer
+    ensures text { found_text result.found ≡ flat_map told_text tolds.items }
+    ensures ends { result.status ≡ open_status (any_open tolds.items) }
 {
-    let mut output = Vec::new(alloc);
-    print_reports(tolds, &mut output)?;
-    Ok(Answer {
-        status: open_status(any_open(tolds)),
-        output,
-        whole: whole_reports(tolds),
-    })
-}
-
-/// Appends the text of each report.
-fn print_reports(tolds: &[Told], out: &mut Vec<u8>) -> Result<(), Memory>
-    ensures { OnOk result (out.new.items ≡ out.old.items ++ flat_map told_text tolds.now) }
-{
-    for told in tolds {
-        out.extend_from_slice(&told.text)?;
+    Answer {
+        status: open_status(any_open(&tolds)),
+        found: Found::Reports(tolds),
     }
-    Ok(())
 }
 
 /// Whether a report is open.
@@ -88,15 +77,4 @@ fn any_open(tolds: &[Told]) -> bool
         }
     }
     false
-}
-
-/// Which reports were found by solving the whole program at once.
-fn whole_reports(tolds: &[Told]) -> WholeReports {
-    let mut whole = WholeReports::none();
-    for (place, told) in tolds.iter().enumerate() {
-        if told.by_whole {
-            whole = whole.with((place as u64).saturating_add(1));
-        }
-    }
-    whole
 }

@@ -2,25 +2,18 @@
 ghost use Rattle.std.specs.Prelude.{map, string_bytes};
 ghost use Rattle.smps_cli.specs.Runs.{IsRun, shelf_state, sink_state};
 
-use crate::answer::answered;
-use crate::write::write_texts;
+use crate::answer::{Ran, answered};
+use crate::found::Found;
+use crate::write::write_found;
 use frac128::Memory;
-use run_status::{Status, WholeReports};
+use run_status::Status;
 use smps_io::{Shelf, Sink, SinkFault};
 use std::alloc::Global;
 use std::fs::Files;
 
-/// How a run ended, and which of the reports that it wrote were found by solving the whole program at once; of a run that wrote only a part
-/// of its output none is named.
-#[derive(Clone, Copy, Debug)]
-pub struct Ran {
-    pub status: Status,
-    pub whole: WholeReports,
-}
-
-/// Runs the command that the words name: reads its files from the shelf, writes its output to the sink,
-/// and says how it ended. The words don't hold the program's own name. Everything is computed before the first byte is
-/// written.
+/// Runs the command that the words name: reads its files from the shelf, writes what it finds to the sink,
+/// and hands on how it ended and what it knows. The words don't hold the program's own name. Everything is computed before the first byte
+/// is written.
 ///
 /// A core file within the limit whose rows' ends fit into 128 bits ends with a report where neither the shelf
 /// nor the sink fails, unless memory is wanting. So each command ends with its whole output, of files within the limit that mean
@@ -38,28 +31,25 @@ pub fn run<R: Files + Print, H: Shelf, K: Sink>(
         (sink_state (K.written sink.old) (K.faults sink.old) (K.taken sink.old))
         (sink_state (K.written sink.new) (K.faults sink.new) (K.taken sink.new)) result.status }
 {
-    let none = WholeReports::none();
-    let answer = match answered(rt, alloc, words, shelf) {
-        Ok(answer) => answer,
+    let ran = match answered(rt, alloc, words, shelf) {
+        Ok(ran) => ran,
         Err(Memory) => {
             return Ran {
                 status: Status::Memory,
-                whole: none,
+                found: Found::Nothing(Vec::new(alloc)),
+                fetched: None,
             };
         }
     };
-    match write_texts(rt, sink, &answer.output) {
-        Ok(()) => Ran {
-            status: answer.status,
-            whole: answer.whole,
-        },
+    match write_found(rt, alloc, sink, &ran.found) {
+        Ok(()) => ran,
         Err(SinkFault::Failed) => Ran {
             status: Status::WriteFault,
-            whole: none,
+            ..ran
         },
         Err(SinkFault::Memory) => Ran {
             status: Status::Memory,
-            whole: none,
+            ..ran
         },
     }
 }

@@ -5,10 +5,9 @@ ghost use Rattle.std.specs.Prelude.{◌≡◌, map, drop, string_bytes, IfOk};
 ghost use Rattle.std.specs.Vec.Iter.{into_iter_items};
 ghost use Rattle.run_status.specs.Lines.{status_number};
 ghost use Rattle.smps_cli.specs.Runs.{shelf_state, sink_state};
-ghost use Rattle.run_remarks.specs.Watched.{watched_sink};
 ghost use Rattle.tidzgheba.specs.Ending.{EndsOn, EndsWith};
 
-use run_remarks::{MEMORY, NOT_TEXT, Noted, UNEXPLAINED, Watched, explanation};
+use run_remarks::{MEMORY, NOT_TEXT, UNEXPLAINED, explanation};
 use smps_cli::{Ran, Status, run};
 use smps_io::{RealShelf, RealSink, Shelf, Sink};
 use std::alloc::{AllocError, Global};
@@ -24,7 +23,7 @@ fn main(rt: HostRuntime) -> ExitCode {
         rt.alloc(),
         env::args(&rt),
         &mut RealShelf::new(rt.alloc()),
-        &mut Watched::over(RealSink::new()),
+        &mut RealSink::new(),
     ))
 }
 
@@ -35,13 +34,13 @@ fn ended<R: Files + Print + Eprint, H: Shelf, K: Sink>(
     alloc: Global,
     arguments: io::Result<Args>,
     shelf: &mut H,
-    sink: &mut Watched<K>,
+    sink: &mut K,
 ) -> u8
     ensures { EndsOn arguments (H.content shelf.old)
         (shelf_state (H.fetches shelf.old) (H.faults shelf.old) (H.given shelf.old))
         (shelf_state (H.fetches shelf.new) (H.faults shelf.new) (H.given shelf.new))
-        (sink_state (K.written (watched_sink sink.old)) (K.faults (watched_sink sink.old)) (K.taken (watched_sink sink.old)))
-        (sink_state (K.written (watched_sink sink.new)) (K.faults (watched_sink sink.new)) (K.taken (watched_sink sink.new))) result }
+        (sink_state (K.written sink.old) (K.faults sink.old) (K.taken sink.old))
+        (sink_state (K.written sink.new) (K.faults sink.new) (K.taken sink.new)) result }
 {
     match arguments {
         Ok(arguments) => match words_of(alloc, arguments) {
@@ -91,22 +90,22 @@ fn ended_so<R: Files + Print + Eprint, H: Shelf, K: Sink>(
     alloc: Global,
     words: &[String],
     shelf: &mut H,
-    sink: &mut Watched<K>,
+    sink: &mut K,
 ) -> u8
     ensures { EndsWith (map string_bytes words.now) (H.content shelf.old)
         (shelf_state (H.fetches shelf.old) (H.faults shelf.old) (H.given shelf.old))
         (shelf_state (H.fetches shelf.new) (H.faults shelf.new) (H.given shelf.new))
-        (sink_state (K.written (watched_sink sink.old)) (K.faults (watched_sink sink.old)) (K.taken (watched_sink sink.old)))
-        (sink_state (K.written (watched_sink sink.new)) (K.faults (watched_sink sink.new)) (K.taken (watched_sink sink.new))) result }
+        (sink_state (K.written sink.old) (K.faults sink.old) (K.taken sink.old))
+        (sink_state (K.written sink.new) (K.faults sink.new) (K.taken sink.new)) result }
 {
     let ran = run(rt, alloc, words, shelf, sink);
-    tell(rt, alloc, words, &ran, sink.noted());
+    tell(rt, alloc, words, &ran);
     ran.status.number()
 }
 
 /// Writes the explanation of a status to standard error. That memory or standard error is wanting changes no status.
-fn tell<R: Files + Eprint>(rt: &R, alloc: Global, words: &[String], ran: &Ran, noted: Noted) {
-    let _ = match explanation(rt, alloc, words, &ran.status, ran.whole, noted) {
+fn tell<R: Files + Eprint>(rt: &R, alloc: Global, words: &[String], ran: &Ran) {
+    let _ = match explanation(rt, alloc, words, ran) {
         Ok(text) => rt.eprint(text.as_str()),
         Err(AllocError) if ran.status == Status::Memory => rt.eprint(MEMORY),
         Err(AllocError) => rt.eprint(UNEXPLAINED),

@@ -2,7 +2,8 @@ use Rattle.std.proofs.Common.{◌≡◌, ◌∙◌, ap, ap₂, rules, true}
 use Rattle.std.proofs.lemmas.Result.{IfOk-weaker}
 use Rattle.clap.specs.Words.{App, app_of}
 use Rattle.clap.specs.Simple.{app_of_fields, on_top}
-use Rattle.command_words.specs.Options.{all_flags, no_options, with_options}
+use Rattle.command_words.specs.Table.{all_flags}
+use Rattle.command_words.specs.Options.{no_options, with_options}
 use Rattle.command_words.proofs.reader.reader.Goals as goal
 
 abbrev nameless : App → App

@@ -1,0 +1,77 @@
+-- The table of commands and options.
+use Rattle.std.specs.Prelude.{ℕ, List, [], ◌∷◌, Option, Some, None, codes}
+use Rattle.command_words.specs.declared.command.Verb.{Verb}
+use Rattle.command_words.specs.declared.command.Verb.TheVariants.{Solve, Check, Show, Make}
+use Rattle.command_words.specs.declared.flag.Flag.{Flag}
+use Rattle.command_words.specs.declared.flag.Flag.TheVariants.{Core, Time, Stoch, Edits, Report, Solves, Pivots, Workers}
+use Rattle.command_words.specs.declared.flag.Flag.TheVariants.{Start, Stages, Branches, Size, Text}
+use Rattle.command_words.specs.declared.table.TheConstants.{MOST_WORKERS}
+use Rattle.command_words.specs.declared.table.ValueKind.{ValueKind}
+use Rattle.command_words.specs.declared.table.ValueKind.TheVariants.{File, Number, Page}
+
+-- ---- options
+
+abbrev pub all_flags : List Flag
+all_flags = Core ∷ Time ∷ Stoch ∷ Edits ∷ Report ∷ Solves ∷ Pivots ∷ Workers ∷ Start ∷ Stages ∷ Branches ∷ Size ∷ Text ∷ []
+
+-- the name of an option, without its two minuses
+abbrev pub flag_text : Flag → List ℕ
+flag_text Core = codes "core"
+flag_text Time = codes "time"
+flag_text Stoch = codes "stoch"
+flag_text Edits = codes "edits"
+flag_text Report = codes "report"
+flag_text Solves = codes "solves"
+flag_text Pivots = codes "pivots"
+flag_text Workers = codes "workers"
+flag_text Start = codes "start"
+flag_text Stages = codes "stages"
+flag_text Branches = codes "branches"
+flag_text Size = codes "size"
+flag_text Text = codes "text"
+
+-- what its value is: of numbers also the range
+abbrev pub value_kind : Flag → ValueKind
+value_kind Core = File
+value_kind Time = File
+value_kind Stoch = File
+value_kind Edits = File
+value_kind Report = File
+value_kind Solves = Number 1 1000000000
+value_kind Pivots = Number 1 1000000000
+value_kind Workers = Number 1 MOST_WORKERS
+value_kind Start = Number 0 65536
+value_kind Stages = Number 2 6
+value_kind Branches = Number 2 4
+value_kind Size = Number 1 20
+value_kind Text = Page
+
+-- the option without which it isn't taken
+abbrev pub goes_with : Flag → Option Flag
+goes_with Stoch = Some Time
+goes_with flag = None
+
+-- ---- commands
+
+abbrev pub all_verbs : List Verb
+all_verbs = Solve ∷ Check ∷ Show ∷ Make ∷ []
+
+abbrev pub verb_text : Verb → List ℕ
+verb_text Solve = codes "solve"
+verb_text Check = codes "check"
+verb_text Show = codes "show"
+verb_text Make = codes "make"
+
+-- the options that a command needs
+abbrev pub needed_flags : Verb → List Flag
+needed_flags Solve = Core ∷ []
+needed_flags Check = Core ∷ Report ∷ []
+needed_flags Show = Core ∷ []
+needed_flags Make = Start ∷ Stages ∷ Branches ∷ Size ∷ []
+
+-- those that it takes beside them
+abbrev pub further_flags : Verb → List Flag
+further_flags Solve = Time ∷ Stoch ∷ Edits ∷ Solves ∷ Pivots ∷ Workers ∷ []
+further_flags Check = Time ∷ Stoch ∷ Edits ∷ []
+further_flags Show = Time ∷ Stoch ∷ Edits ∷ []
+further_flags Make = Text ∷ []

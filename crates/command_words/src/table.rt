@@ -1,0 +1,200 @@
+//! The commands and their options, as a table. The exact reader reads by it; the library for command lines is told by it, and so is help.
+ghost use Rattle.std.specs.Prelude.{◌≡◌};
+ghost use Rattle.command_words.specs.Table.{flag_text, further_flags, goes_with, value_kind, needed_flags, verb_text};
+
+use crate::command::Verb;
+use crate::flag::Flag;
+
+/// The most workers that the words may ask for.
+pub const MOST_WORKERS: u32 = 1;
+
+/// The words that an option for a text of a workload may have as its value.
+pub const PAGES: [&'static str; 3] = ["core", "time", "stoch"];
+
+/// What the value of an option is.
+#[derive(Clone, Copy, Debug)]
+pub enum ValueKind {
+    /// The name of a file.
+    File,
+    /// A whole number from the one to the other.
+    Number(u32, u32),
+    /// A text of a workload, one of `PAGES`.
+    Page,
+}
+
+impl ValueKind {
+    /// What stands for a value in help.
+    pub fn word(self) -> &'static str {
+        match self {
+            ValueKind::File => "FILE",
+            ValueKind::Number(_, _) => "N",
+            ValueKind::Page => "TEXT",
+        }
+    }
+}
+
+/// What is known of an option.
+#[derive(Clone, Copy, Debug)]
+pub struct OptionRow {
+    /// Its name, without the two minuses.
+    pub name: &'static str,
+    pub kind: ValueKind,
+    /// The option without which it isn't taken, if there is one.
+    pub with: Option<Flag>,
+    /// What its value says.
+    pub help: &'static str,
+}
+
+/// What is known of a command.
+#[derive(Clone, Copy, Debug)]
+pub struct CommandRow {
+    pub name: &'static str,
+    /// What it does.
+    pub about: &'static str,
+    /// The options that it needs.
+    pub needs: &'static [Flag],
+    /// The options that it takes beside these.
+    pub takes: &'static [Flag],
+}
+
+/// All commands.
+pub const VERBS: [Verb; 4] = [Verb::Solve, Verb::Check, Verb::Show, Verb::Make];
+
+/// All options.
+pub const FLAGS: [Flag; 13] = [
+    Flag::Core,
+    Flag::Time,
+    Flag::Stoch,
+    Flag::Edits,
+    Flag::Report,
+    Flag::Solves,
+    Flag::Pivots,
+    Flag::Workers,
+    Flag::Start,
+    Flag::Stages,
+    Flag::Branches,
+    Flag::Size,
+    Flag::Text,
+];
+
+/// An option whose value is the name of a file.
+fn file(name: &'static str, help: &'static str) -> OptionRow
+    ensures { (result.name ≡ name.entry) × (result.kind ≡ ValueKind.File) × (result.with ≡ None) }
+{
+    OptionRow {
+        name,
+        kind: ValueKind::File,
+        with: None,
+        help,
+    }
+}
+
+/// An option whose value is a whole number.
+fn number(name: &'static str, least: u32, most: u32, help: &'static str) -> OptionRow
+    ensures { (result.name ≡ name.entry) × (result.kind ≡ ValueKind.Number least most) × (result.with ≡ None) }
+{
+    OptionRow {
+        name,
+        kind: ValueKind::Number(least, most),
+        with: None,
+        help,
+    }
+}
+
+impl Flag {
+    /// What is known of the option.
+    pub fn row(self) -> OptionRow
+        ensures name { result.name.now ≡ flag_text self }
+        ensures kind { result.kind ≡ value_kind self }
+        ensures with { result.with ≡ goes_with self }
+    {
+        match self {
+            Flag::Core => file("core", "the program, as of one period and one scenario"),
+            Flag::Time => file("time", "its periods; without one it has one"),
+            Flag::Stoch => OptionRow {
+                name: "stoch",
+                kind: ValueKind::File,
+                with: Some(Flag::Time),
+                help: "what is random; without one nothing is",
+            },
+            Flag::Edits => file("edits", "edits of the data, and where a report is wanted"),
+            Flag::Report => file("report", "the reports that are tested"),
+            Flag::Solves => number(
+                "solves",
+                1,
+                1_000_000_000,
+                "how many programs of nodes are solved for a report, at most; else 100000",
+            ),
+            Flag::Pivots => number(
+                "pivots",
+                1,
+                1_000_000_000,
+                "how many pivots a solve takes, at most; else 100000",
+            ),
+            Flag::Workers => number(
+                "workers",
+                1,
+                MOST_WORKERS,
+                "how many workers solve side by side",
+            ),
+            Flag::Start => number("start", 0, 65_536, "what the program is drawn from"),
+            Flag::Stages => number("stages", 2, 6, "its periods"),
+            Flag::Branches => number(
+                "branches",
+                2,
+                4,
+                "its cases in each period behind the first",
+            ),
+            Flag::Size => number("size", 1, 20, "its items"),
+            Flag::Text => OptionRow {
+                name: "text",
+                kind: ValueKind::Page,
+                with: None,
+                help: "the one of its three texts that is printed, in place of a summary",
+            },
+        }
+    }
+}
+
+impl Verb {
+    /// What is known of the command.
+    pub fn row(self) -> CommandRow
+        ensures name { result.name.now ≡ verb_text self }
+        ensures needs { result.needs.now ≡ needed_flags self }
+        ensures takes { result.takes.now ≡ further_flags self }
+    {
+        match self {
+            Verb::Solve => CommandRow {
+                name: "solve",
+                about: "solve the program that the files mean, and print a report for each SOLVE of the edit list, or one",
+                needs: &[Flag::Core],
+                takes: &[
+                    Flag::Time,
+                    Flag::Stoch,
+                    Flag::Edits,
+                    Flag::Solves,
+                    Flag::Pivots,
+                    Flag::Workers,
+                ],
+            },
+            Verb::Check => CommandRow {
+                name: "check",
+                about: "test the reports of a file, whoever made them, and print for each whether it holds",
+                needs: &[Flag::Core, Flag::Report],
+                takes: &[Flag::Time, Flag::Stoch, Flag::Edits],
+            },
+            Verb::Show => CommandRow {
+                name: "show",
+                about: "print the tree that the files mean, after all edits",
+                needs: &[Flag::Core],
+                takes: &[Flag::Time, Flag::Stoch, Flag::Edits],
+            },
+            Verb::Make => CommandRow {
+                name: "make",
+                about: "make a program from four numbers, and print a summary of its report, or one of its three texts",
+                needs: &[Flag::Start, Flag::Stages, Flag::Branches, Flag::Size],
+                takes: &[Flag::Text],
+            },
+        }
+    }
+}

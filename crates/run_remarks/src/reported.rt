@@ -1,0 +1,90 @@
+//! What standard error says of reports that are left open.
+use scen_defs::Finding;
+use smps_cli::Told;
+use std::alloc::AllocError;
+
+const OPEN_PASSED: &str =
+    "tidzgheba: OPEN PASSED: a result didn't fit into 128 bits, and the ends that were known by then are printed and hold; \
+fewer significant digits in the data help, other units don't\n";
+
+const OPEN_PIVOTS: &str =
+    "tidzgheba: OPEN PIVOTS: a solve came to the end of its pivots, and the ends that were known by then are printed and hold; \
+a greater --pivots may help\n";
+
+const OPEN_SOLVES: &str =
+    "tidzgheba: OPEN SOLVES: the solves that were allowed have ended, and the ends that were known by then are printed and hold; \
+a greater --solves may help\n";
+
+const MADE_OPEN: &str =
+    "tidzgheba: make allows as much as solve does where its words don't say how much; to allow more, \
+print the three texts with --text and solve them\n";
+
+/// Which kinds of OPEN there are among some findings.
+#[derive(Clone, Copy)]
+struct Opens {
+    passed: bool,
+    pivots: bool,
+    solves: bool,
+}
+
+impl Opens {
+    fn none() -> Opens {
+        Opens {
+            passed: false,
+            pivots: false,
+            solves: false,
+        }
+    }
+
+    /// With a further finding.
+    fn with(self, finding: Finding) -> Opens {
+        match finding {
+            Finding::OpenPassed(_, _) => Opens {
+                passed: true,
+                ..self
+            },
+            Finding::OpenPivots(_) => Opens {
+                pivots: true,
+                ..self
+            },
+            Finding::OpenSolves(_) => Opens {
+                solves: true,
+                ..self
+            },
+            Finding::Optimal | Finding::Infeasible | Finding::Unbounded => self,
+        }
+    }
+
+    /// Appends a sentence for each kind.
+    fn put(self, text: &mut String) -> Result<(), AllocError> {
+        if self.passed {
+            text.push_str(OPEN_PASSED)?;
+        }
+        if self.pivots {
+            text.push_str(OPEN_PIVOTS)?;
+        }
+        if self.solves {
+            text.push_str(OPEN_SOLVES)?;
+        }
+        Ok(())
+    }
+}
+
+/// Appends a sentence for each kind of OPEN among reports.
+pub fn put_reported(text: &mut String, tolds: &[Told]) -> Result<(), AllocError> {
+    let mut opens = Opens::none();
+    for told in tolds {
+        opens = opens.with(told.finding);
+    }
+    opens.put(text)
+}
+
+/// Appends what is said of the report of a workload.
+pub fn put_made(text: &mut String, finding: Finding) -> Result<(), AllocError> {
+    let opens = Opens::none().with(finding);
+    opens.put(text)?;
+    if opens.pivots || opens.solves {
+        text.push_str(MADE_OPEN)?;
+    }
+    Ok(())
+}

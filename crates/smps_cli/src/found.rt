@@ -1,0 +1,41 @@
+//! What a command found.
+use command_words::Plan;
+use scen_defs::{Program, Report};
+use script_checks::Checked;
+use smps_session::Told;
+
+/// What a command found. Its text is the whole output.
+#[derive(Drop)]
+pub enum Found {
+    /// `solve`: a report for each SOLVE.
+    Reports(Vec<Told>),
+    /// `check`: what the checks of reports came to.
+    Checks(Checks),
+    /// `show`: the program.
+    Shown(Program),
+    /// `make`: a workload and its report.
+    Summary(Summary),
+    /// `make`: the text of a workload that is asked for.
+    Page(Vec<u8>),
+    /// Nothing: the line that says why, empty for want of memory.
+    Nothing(Vec<u8>),
+}
+
+/// What the checks of reports came to.
+#[derive(Drop)]
+pub struct Checks {
+    /// One for each report that the file states.
+    pub checks: Vec<Checked>,
+    /// How many reports the edit list asks for.
+    pub asked: u32,
+}
+
+/// A workload, its program and the report of that.
+#[derive(Drop)]
+pub struct Summary {
+    pub plan: Plan,
+    pub program: Program,
+    pub report: Report,
+    /// Whether the report tells a claim about the whole program, after the method had stopped.
+    pub by_whole: bool,
+}
