@@ -55,7 +55,7 @@ fn put_lines(text: &mut String, bytes: &[u8], marked: usize) -> Result<(), Alloc
         text.push_str(if number == marked { "  > " } else { "    " })?;
         push_visible(text, line)?;
         text.push_str("\n")?;
-        number += 1;
+        number = number.saturating_add(1);
     }
     Ok(())
 }
