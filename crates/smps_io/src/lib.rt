@@ -11,4 +11,4 @@ pub use memory_shelf::{MemoryShelf, NeverFails};
 pub use memory_sink::MemorySink;
 pub use real::{RealShelf, RealSink};
 pub use shelf::{Shelf, ShelfFault};
-pub use sink::{Sink, SinkFault};
+pub use sink::{Sink, SinkFault, write_all};

@@ -1,7 +1,7 @@
 //! Where bytes are appended, and how often that has failed.
-ghost use Rattle.std.specs.Prelude.{◌≡◌, ◌≤◌, ◌<◌, ℕ, List, Option, take, length, IfOk, OnErr};
+ghost use Rattle.std.specs.Prelude.{◌≡◌, ◌≤◌, ◌<◌, ℕ, List, Option, take, length, IfOk, OnOk, OnErr};
 ghost use Rattle.smps_io.specs.Faults.{RoseBy};
-ghost use Rattle.smps_io.specs.Puts.{Appends, SinkHasCause};
+ghost use Rattle.smps_io.specs.Puts.{Appends, AppendsPrefix, SinkHasCause};
 
 use thiserror::Error;
 
@@ -36,4 +36,19 @@ pub trait Sink {
         ensures counts { IfOk result (λ k. RoseBy (taken self.old) k (taken self.new)) }
         ensures counts_none { OnErr result (taken self.new ≡ taken self.old) }
         ensures cause { SinkHasCause (faults self.old) (faults self.new) result };
+}
+
+/// Appends all the bytes. After a fault a prefix of them was appended.
+pub fn write_all<R: Print, K: Sink>(rt: &R, sink: &mut K, bytes: &[u8]) -> Result<(), SinkFault>
+    ensures all { OnOk result (Appends (K.written sink.old) bytes.now (K.written sink.new)) }
+    ensures counts { OnOk result (RoseBy (K.taken sink.old) (length bytes.now) (K.taken sink.new)) }
+    ensures prefix { AppendsPrefix (K.written sink.old) bytes.now (K.written sink.new) }
+    ensures cause { SinkHasCause (K.faults sink.old) (K.faults sink.new) result }
+{
+    let mut at = 0;
+    while at < bytes.len() {
+        let count = sink.put(rt, &bytes[at..])?;
+        at += count as usize;
+    }
+    Ok(())
 }
