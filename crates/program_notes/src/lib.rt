@@ -47,12 +47,7 @@ fn push_ends(
     push(text, b"]")
 }
 
-fn push_terms(
-    alloc: Global,
-    text: &mut Vec<u8>,
-    before: &[u8],
-    form: &Form,
-) -> Result<(), Memory> {
+fn push_terms(alloc: Global, text: &mut Vec<u8>, before: &[u8], form: &Form) -> Result<(), Memory> {
     for term in form.terms() {
         push_number(alloc, text, before, term.column)?;
         push(text, b"=")?;

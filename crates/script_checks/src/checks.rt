@@ -4,7 +4,7 @@ ghost use Rattle.scen_defs.specs.Program.{content};
 ghost use Rattle.edit_script.specs.Allowed.{AreAllowed};
 ghost use Rattle.script_checks.specs.Checked.{AreChecked};
 
-use crate::single::{Checked, check_one};
+use crate::single::{Checked, outcome_of};
 use edit_apply::count;
 use edit_defs::{Act, Script};
 use frac128::Memory;
@@ -32,7 +32,9 @@ pub fn check_script(
             Act::Change(edit) => applied(alloc, program, &mut counted, edit)?,
             Act::Solve => {
                 if let [report, others @ ..] = waiting {
-                    checks.push(check_one(alloc, program, report)?)?;
+                    let outcome = outcome_of(alloc, program, report)?;
+                    let number = report.number;
+                    checks.push(Checked { number, outcome })?;
                     waiting = others;
                 }
             }

@@ -40,23 +40,16 @@ fn operation(halt: Halt) -> Result<Passed, Memory>
     }
 }
 
-/// Checks a report against a program.
-pub(crate) fn check_one(
+/// What the check of a report against a program comes to: a verdict, or the operation that passed 128 bits before one.
+pub(crate) fn outcome_of(
     alloc: Global,
     program: &Program,
     report: &Report,
-) -> Result<Checked, Memory>
-    ensures { IfOk result (IsCheck (content program.now) report.now) }
+) -> Result<Result<Verdict, Passed>, Memory>
+    ensures { IfOk result (λ outcome. IsCheck (content program.now) report.now (record { number = report.now.number; outcome = outcome })) }
 {
-    let number = report.number;
     match check(alloc, program, report) {
-        Ok(verdict) => Ok(Checked {
-            number,
-            outcome: Ok(verdict),
-        }),
-        Err(halt) => Ok(Checked {
-            number,
-            outcome: Err(operation(halt)?),
-        }),
+        Ok(verdict) => Ok(Ok(verdict)),
+        Err(halt) => Ok(Err(operation(halt)?)),
     }
 }

@@ -1,6 +1,6 @@
 use Rattle.std.proofs.Common.{Ok, Err, refl}
 use Rattle.script_checks.proofs.CheckLemmas.{checked, held_shown, stopped_at}
-use Rattle.script_checks.proofs.single.check_one.Goals as goal
+use Rattle.script_checks.proofs.single.outcome_of.Goals as goal
 
 pub returns-in-Ok : goal.returns-in-Ok
 returns-in-Ok c = checked c.args.program.now c.args.report.now (record { number = c.args.report.now.number; outcome = Ok c.in-Ok.verdict })
