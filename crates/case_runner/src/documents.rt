@@ -40,12 +40,12 @@ pub fn has(document: &[u8], words: &str) -> Result<(), Wrong> {
 /// A case for each example that the document says is refused with a line: the example is the file F.
 pub fn examples(alloc: Global, document: &[u8], begun: &Case) -> Result<Vec<Case>, Wrong> {
     let mut cases = Vec::new(alloc);
-    let mut example = "";
+    let mut example: &[u8] = &[];
     for part in text_of(document)?.split("```\n") {
         if let Some(line) = printed_line(part) {
             cases.push(example_case(alloc, begun, example, line)?)?;
         }
-        example = part;
+        example = part.as_bytes();
     }
     Ok(cases)
 }
@@ -56,10 +56,11 @@ fn printed_line(part: &str) -> Option<&str> {
     Some(line)
 }
 
-fn example_case(alloc: Global, begun: &Case, example: &str, line: &str) -> Result<Case, Wrong> {
+/// A case of this example, for which this line is printed.
+fn example_case(alloc: Global, begun: &Case, example: &[u8], line: &str) -> Result<Case, Wrong> {
     let mut case = begun.titled(alloc, line)?;
     case.words = String::from_str(alloc, words_for(line))?;
-    case.put_file(alloc, "F", example.as_bytes().to_vec(alloc)?)?;
+    case.put_file(alloc, "F", example.to_vec(alloc)?)?;
     case.want(Part::Status, true, b"3\n".to_vec(alloc)?)?;
     let output = format!(in alloc; "{line}\n")?;
     case.want(Part::Output, true, output.into_bytes())?;
