@@ -28,7 +28,7 @@ use scen_model::{
     Finding, Halt, Place, Program, Report, Values, cost, dual_value, feasible, fits, is_direction,
     zero_value,
 };
-use smps_session::{Stated, session};
+use smps_session::{StatedLimits, session};
 use std::alloc::Global;
 use std::process::Abort;
 use std::test::Fail;
@@ -341,7 +341,7 @@ ENDATA
 const BUDGET: u64 = 1000;
 
 /// Both are stated: where they end, the report is the method's own.
-const STATED: Stated = Stated {
+const STATED: StatedLimits = StatedLimits {
     solves: true,
     pivots: true,
 };

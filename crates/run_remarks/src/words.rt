@@ -1,9 +1,8 @@
 //! What is said of words that aren't those of a command. Which words are a command's, `command_words` decides; the library for command
-//! lines says what is wrong with others, as its table tells it, and how a command is called.
+//! lines says what is wrong with others, and how a command is called.
 use clap::builder::ValueParser;
 use clap::error::ErrorKind;
 use clap::{Arg, Command, Error, value_parser};
-use command_words::{Flag, PAGES, VERBS, ValueKind, Verb};
 use line_remarks::push_visible;
 use std::alloc::{AllocError, Global};
 
@@ -11,56 +10,49 @@ use std::alloc::{AllocError, Global};
 const TOO_LOOSE: &str =
     "each word is an option or its value, a file name isn't empty and doesn't begin with '-', and a number has digits alone, at most ten\n";
 
-/// An option as the table has it.
-fn option<'a>(alloc: Global, flag: Flag) -> Result<Arg<'a>, AllocError> {
-    let row = flag.row();
-    let option = Arg::new(alloc, row.name)
-        .long(row.name)
-        .value_name(row.kind.word());
-    let option = match row.kind {
-        ValueKind::File => option,
-        ValueKind::Number(least, most) => {
-            option.value_parser(value_parser!(u32).range(least as i64..=most as i64))
-        }
-        ValueKind::Page => option.value_parser(ValueParser::Names(PAGES.as_slice())),
-    };
-    match row.with {
-        Some(other) => option.requires_arg(other.row().name),
-        None => Ok(option),
-    }
+/// An option whose value is a file's name.
+fn file<'a>(alloc: Global, name: &'static str, help: &'static str) -> Arg<'a> {
+    Arg::new(alloc, name)
+        .long(name)
+        .value_name("FILE")
+        .help(help)
+}
+
+/// An option whose value is a whole number in a range.
+fn number<'a>(
+    alloc: Global,
+    name: &'static str,
+    least: i64,
+    most: i64,
+    help: &'static str,
+) -> Arg<'a> {
+    Arg::new(alloc, name)
+        .long(name)
+        .value_name("N")
+        .value_parser(value_parser!(u32).range(least..=most))
+        .help(help)
+}
+
+/// The option for the stoch file, which goes with a time file.
+fn stoch<'a>(alloc: Global) -> Result<Arg<'a>, AllocError> {
+    file(alloc, "stoch", "what is random; none: nothing").requires_arg("time")
+}
+
+/// The option for one of the texts of a program that is made.
+fn text<'a>(alloc: Global) -> Arg<'a> {
+    Arg::new(alloc, "text")
+        .long("text")
+        .value_name("TEXT")
+        .value_parser(ValueParser::Names(["core", "time", "stoch"].as_slice()))
+        .help("print this one of its texts alone")
 }
 
 /// A command with one more option.
 fn with_option<'a>(
     command: Command<'a>,
     option: Result<Arg<'a>, AllocError>,
-    is_needed: bool,
 ) -> Result<Command<'a>, AllocError> {
-    command.arg(option?.required(is_needed))
-}
-
-/// A command as the table has it.
-fn command<'a>(alloc: Global, verb: Verb) -> Result<Command<'a>, AllocError> {
-    let row = verb.row();
-    let mut command = Command::new(alloc, row.name);
-    for flag in row.needs {
-        command = with_option(command, option(alloc, *flag), true)?;
-    }
-    for flag in row.takes {
-        command = with_option(command, option(alloc, *flag), false)?;
-    }
-    Ok(command)
-}
-
-/// The program without its commands.
-fn program<'a>(alloc: Global) -> Result<Command<'a>, AllocError> {
-    let program = Command::new(alloc, "tidzgheba").bin_name("tidzgheba")?;
-    Ok(
-        program
-            .no_binary_name(true)
-            .disable_help_subcommand(true)
-            .subcommand_required(true),
-    )
+    command.arg(option?)
 }
 
 /// A command with one more command below it.
@@ -71,13 +63,96 @@ fn with_command<'a>(
     command.subcommand(other?)
 }
 
-/// The program with its commands.
+/// A task on the program of files.
+fn on_files<'a>(
+    alloc: Global,
+    name: &'static str,
+    about: &'static str,
+) -> Result<Command<'a>, AllocError> {
+    let core = file(alloc, "core", "the program as if nothing were random").required(true);
+    let command = Command::new(alloc, name).about(about).arg(core)?;
+    let command = command.arg(file(alloc, "time", "the periods; none: one period"))?;
+    let command = with_option(command, stoch(alloc))?;
+    command.arg(file(
+        alloc,
+        "edits",
+        "edits of the data, and where a report is wanted",
+    ))
+}
+
+/// Solves a program.
+fn solve<'a>(alloc: Global) -> Result<Command<'a>, AllocError> {
+    let solves = "at most so many solves of a node for a report";
+    let pivots = "at most so many pivots for a solve";
+    let command = on_files(
+        alloc,
+        "solve",
+        "solve the program that the files mean, and print the report",
+    )?;
+    let command = command.arg(number(alloc, "solves", 1, 1_000_000_000, solves))?;
+    let command = command.arg(number(alloc, "pivots", 1, 1_000_000_000, pivots))?;
+    command.arg(number(alloc, "workers", 1, 1, "how many workers there are"))
+}
+
+/// Checks reports.
+fn check<'a>(alloc: Global) -> Result<Command<'a>, AllocError> {
+    let command = on_files(
+        alloc,
+        "check",
+        "test the reports of a file, and print for each whether it holds",
+    )?;
+    command.arg(file(alloc, "report", "the reports").required(true))
+}
+
+/// Shows a tree.
+fn show<'a>(alloc: Global) -> Result<Command<'a>, AllocError> {
+    on_files(
+        alloc,
+        "show",
+        "print the tree that the files mean, after all edits",
+    )
+}
+
+/// Makes a program.
+fn make<'a>(alloc: Global) -> Result<Command<'a>, AllocError> {
+    let start = number(
+        alloc,
+        "start",
+        0,
+        65_536,
+        "where the numbers of the program begin",
+    );
+    let command = Command::new(alloc, "make")
+        .about("make a program from four numbers, and print a summary of its report")
+        .arg(start.required(true))?;
+    let command = command.arg(number(alloc, "stages", 2, 6, "its periods").required(true))?;
+    let command = command.arg(number(alloc, "branches", 2, 4, "its cases of each period").required(
+        true,
+    ))?;
+    let command = command.arg(number(alloc, "size", 1, 20, "its items").required(true))?;
+    command.arg(text(alloc))
+}
+
+/// The program without its commands.
+fn program<'a>(alloc: Global) -> Result<Command<'a>, AllocError> {
+    let program = Command::new(alloc, "tidzgheba").bin_name("tidzgheba")?;
+    Ok(
+        program
+            .about(
+                "Solves multistage stochastic linear programs exactly and proves each report that it prints.",
+            )
+            .no_binary_name(true)
+            .disable_help_subcommand(true)
+            .subcommand_required(true),
+    )
+}
+
+/// The commands with their options.
 fn commands<'a>(alloc: Global) -> Result<Command<'a>, AllocError> {
-    let mut program = program(alloc)?;
-    for verb in VERBS.as_slice() {
-        program = with_command(program, command(alloc, *verb))?;
-    }
-    Ok(program)
+    let program = with_command(program(alloc)?, solve(alloc))?;
+    let program = with_command(program, check(alloc))?;
+    let program = with_command(program, show(alloc))?;
+    with_command(program, make(alloc))
 }
 
 /// Fails where the library doesn't take the words.
