@@ -50,7 +50,7 @@ fn ended<R: Files + Print + Eprint, H: Shelf, K: Sink>(
         Err(error) if error.kind() == io::ErrorKind::OutOfMemory => unread(rt),
         Err(_) => {
             let _ = rt.eprint(NOT_TEXT);
-            run(rt, alloc, &[], shelf, sink).status.number()
+            ended_silently(rt, alloc, &[], shelf, sink)
         }
     }
 }
@@ -100,6 +100,24 @@ fn ended_so<R: Files + Print + Eprint, H: Shelf, K: Sink>(
 {
     let ran = run(rt, alloc, words, shelf, sink);
     tell(rt, alloc, words, &ran);
+    ran.status.number()
+}
+
+/// Runs words of which nothing more is said.
+fn ended_silently<R: Files + Print, H: Shelf, K: Sink>(
+    rt: &R,
+    alloc: Global,
+    words: &[String],
+    shelf: &mut H,
+    sink: &mut K,
+) -> u8
+    ensures { EndsWith (map string_bytes words.now) (H.content shelf.old)
+        (shelf_state (H.fetches shelf.old) (H.faults shelf.old) (H.given shelf.old))
+        (shelf_state (H.fetches shelf.new) (H.faults shelf.new) (H.given shelf.new))
+        (sink_state (K.written sink.old) (K.faults sink.old) (K.taken sink.old))
+        (sink_state (K.written sink.new) (K.faults sink.new) (K.taken sink.new)) result }
+{
+    let ran = run(rt, alloc, words, shelf, sink);
     ran.status.number()
 }
 
