@@ -15,4 +15,4 @@ pub use causes::sentence;
 pub use lines::field;
 pub use refused::put_cause;
 pub use unused_text::put_unused;
-pub use visible::push_visible;
+pub use visible::{push_line, push_name, push_visible};

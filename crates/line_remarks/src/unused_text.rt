@@ -1,6 +1,6 @@
 //! What is said of lines of a core file that aren't used.
 use crate::unused::{Section, Set, Unused, unused_lines};
-use crate::visible::push_visible;
+use crate::visible::push_line;
 use std::alloc::AllocError;
 use std::fmt::Write;
 
@@ -43,7 +43,7 @@ fn put_set(text: &mut String, set: Set<'_>) -> Result<(), AllocError> {
     match set.name {
         Some(name) => {
             text.push_str("the set ")?;
-            push_visible(text, name)
+            push_line(text, name)
         }
         None => text.push_str("no set name"),
     }

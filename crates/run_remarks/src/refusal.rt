@@ -2,7 +2,7 @@
 use crate::unread::why_unread;
 use core_defs::Cause;
 use input_files::FileKind;
-use line_remarks::{push_visible, put_cause, sentence};
+use line_remarks::{push_name, put_cause, sentence};
 use smps_cli::Fetched;
 use std::alloc::{AllocError, Global};
 use std::fmt::Write;
@@ -12,7 +12,7 @@ use std::fs::Files;
 pub fn put_file(text: &mut String, fetched: &Fetched, file: FileKind) -> Result<(), AllocError> {
     text.push_str("tidzgheba: ")?;
     let name = fetched.name(file).unwrap_or("a file");
-    push_visible(text, name.as_bytes())
+    push_name(text, name.as_bytes())
 }
 
 /// What a message of a file begins with.

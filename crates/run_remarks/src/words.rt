@@ -3,7 +3,7 @@
 use clap::builder::ValueParser;
 use clap::error::ErrorKind;
 use clap::{Arg, Command, Error, value_parser};
-use line_remarks::push_visible;
+use line_remarks::push_line;
 use std::alloc::{AllocError, Global};
 
 /// Said of words that the library takes and `command_words` doesn't, as `--solves +3`.
@@ -183,10 +183,10 @@ fn put_error(alloc: Global, text: &mut String, error: &Error) -> Result<(), Allo
     put_lines(text, said.strip_prefix("error: ").unwrap_or(said.as_str()))
 }
 
-/// Appends lines as a terminal may show them.
+/// Appends the beginnings of lines, as a terminal may show them: words may be long.
 fn put_lines(text: &mut String, said: &str) -> Result<(), AllocError> {
     for line in said.lines() {
-        push_visible(text, line.as_bytes())?;
+        push_line(text, line.as_bytes())?;
         text.push_str("\n")?;
     }
     Ok(())
