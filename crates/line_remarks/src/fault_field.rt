@@ -1,5 +1,9 @@
 //! The fields of a refused line that are at fault, where the line and those before it tell which they are.
-use crate::lines::{Line, end_field, field, field_count, kind_of, numbered_line};
+use crate::bases::Bases;
+use crate::core_names::{is_free, is_stated, objective, row_kind};
+use crate::lines::{field, field_count, numbered_line};
+use crate::refused_line::RefusedLine;
+use crate::stages::period_place;
 use crate::visible::push_line;
 use core_defs::Cause;
 use frac128::{NumFault, parse};
@@ -15,35 +19,30 @@ enum Places {
     Entry(usize, usize),
 }
 
-/// A line that is refused, and where it stands.
-#[derive(Clone, Copy, Drop)]
-struct Refused<'a> {
-    line: &'a [u8],
-    /// How many fields it has.
-    count: usize,
-    /// The first word of the last header before it; empty where there is none.
-    section: &'a [u8],
-}
-
-/// Appends the fields at fault in the line with this number of a file of these bytes, where it is sure which they are. The base is the file
-/// that this one goes with: of a time file the core file, of a stoch file the time file; empty where it can't be read again.
+/// Appends the fields at fault in a line of a file of these bytes, where it is sure which they are.
 pub fn put_fault(
     text: &mut String,
     file: FileKind,
     cause: Cause,
     bytes: &[u8],
-    base: &[u8],
-    number: u32,
+    bases: Bases<'_>,
+    at: RefusedLine<'_>,
 ) -> Result<(), AllocError> {
-    let Some(line) = numbered_line(bytes, number) else {
-        return Ok(());
-    };
-    let at = Refused {
-        line,
-        count: field_count(line),
-        section: section_before(bytes, number),
-    };
-    put_places(text, line, where_at_fault(file, cause, bytes, base, at))
+    put_places(text, at.line, where_at_fault(file, cause, bytes, bases, at))
+}
+
+/// The field at fault in a line of a file of these bytes, where it is one, and sure.
+pub fn fault_word<'a>(
+    file: FileKind,
+    cause: Cause,
+    bytes: &[u8],
+    bases: Bases<'_>,
+    at: RefusedLine<'a>,
+) -> Option<&'a [u8]> {
+    match where_at_fault(file, cause, bytes, bases, at) {
+        Some(Places::One(place)) => field(at.line, place),
+        _ => None,
+    }
 }
 
 /// Appends how many fields the line with this number has, where that is at fault.
@@ -92,34 +91,20 @@ fn where_at_fault(
     file: FileKind,
     cause: Cause,
     text: &[u8],
-    base: &[u8],
-    at: Refused<'_>,
+    bases: Bases<'_>,
+    at: RefusedLine<'_>,
 ) -> Option<Places> {
     match file {
         FileKind::Core => Some(Places::One(core_place(text, at, cause)?)),
-        FileKind::Time => Some(Places::One(time_place(base, at, cause)?)),
-        FileKind::Stoch => stoch_places(base, at, cause),
+        FileKind::Time => Some(Places::One(time_place(bases.core, at, cause)?)),
+        FileKind::Stoch => stoch_places(bases, at, cause),
         FileKind::Edits => edit_places(at, cause),
         FileKind::Report | FileKind::Trace => None,
     }
 }
 
-/// The first word of the last header before the line with this number; empty where there is none.
-fn section_before(text: &[u8], number: u32) -> &[u8] {
-    let mut section: &[u8] = &[];
-    for (before, line) in text.split(|byte| *byte == b'\n').enumerate() {
-        if (before as u64).saturating_add(1) >= number as u64 {
-            break;
-        }
-        if let Line::Header(word) = kind_of(line) {
-            section = word;
-        }
-    }
-    section
-}
-
 /// In a core file.
-fn core_place(text: &[u8], at: Refused<'_>, cause: Cause) -> Option<usize> {
+fn core_place(text: &[u8], at: RefusedLine<'_>, cause: Cause) -> Option<usize> {
     match cause {
         Cause::SectionUnknown
         | Cause::SectionOrder
@@ -150,7 +135,7 @@ fn core_place(text: &[u8], at: Refused<'_>, cause: Cause) -> Option<usize> {
 }
 
 /// Where the first row of a line of pairs of row and value stands.
-fn first_row(at: Refused<'_>) -> usize {
+fn first_row(at: RefusedLine<'_>) -> usize {
     match at.section {
         b"RHS" | b"RANGES" => at.count % 2,
         _ => 1,
@@ -158,7 +143,7 @@ fn first_row(at: Refused<'_>) -> usize {
 }
 
 /// The row at fault of a line of pairs of row and value: the first one where that is so, or else the second.
-fn row_at_fault(at: Refused<'_>, is_first: bool) -> usize {
+fn row_at_fault(at: RefusedLine<'_>, is_first: bool) -> usize {
     let first = first_row(at);
     if is_first {
         first
@@ -167,48 +152,8 @@ fn row_at_fault(at: Refused<'_>, is_first: bool) -> usize {
     }
 }
 
-/// The first N row that a core file states: the objective.
-fn objective(text: &[u8]) -> Option<&[u8]> {
-    for line in text.split(|byte| *byte == b'\n') {
-        match kind_of(line) {
-            Line::Header(b"COLUMNS") => break,
-            Line::Data if field(line, 0) == Some(b"N") => return field(line, 1),
-            Line::Header(_) | Line::Data | Line::Skipped => {}
-        }
-    }
-    None
-}
-
-/// Whether a core file states this name as that of an N row.
-fn is_free(text: &[u8], name: &[u8]) -> bool {
-    for line in text.split(|byte| *byte == b'\n') {
-        match kind_of(line) {
-            Line::Header(b"COLUMNS") => break,
-            Line::Data if field(line, 0) == Some(b"N") && field(line, 1) == Some(name) => {
-                return true;
-            }
-            Line::Header(_) | Line::Data | Line::Skipped => {}
-        }
-    }
-    false
-}
-
-/// Whether a data line of a section has this name at this place.
-fn is_stated(text: &[u8], section: &[u8], place: usize, name: &[u8]) -> bool {
-    let mut is_here = false;
-    for line in text.split(|byte| *byte == b'\n') {
-        match kind_of(line) {
-            Line::Header(b"ENDATA") => break,
-            Line::Header(word) => is_here = word == section,
-            Line::Data if is_here && field(line, place) == Some(name) => return true,
-            Line::Data | Line::Skipped => {}
-        }
-    }
-    false
-}
-
 /// The first number of a line of a core file that has this fault.
-fn core_number(at: Refused<'_>, fault: NumFault) -> Option<usize> {
+fn core_number(at: RefusedLine<'_>, fault: NumFault) -> Option<usize> {
     if at.section == b"BOUNDS".as_slice() {
         return at.count.checked_sub(1);
     }
@@ -248,7 +193,7 @@ fn is_zero(word: &[u8]) -> bool {
 }
 
 /// The column of a line of BOUNDS.
-fn bound_column(at: Refused<'_>) -> Option<usize> {
+fn bound_column(at: RefusedLine<'_>) -> Option<usize> {
     match (field(at.line, 0), at.count) {
         (Some(b"LO" | b"UP" | b"FX"), count) => count.checked_sub(2),
         (_, 2) => Some(1),
@@ -257,7 +202,7 @@ fn bound_column(at: Refused<'_>) -> Option<usize> {
 }
 
 /// The row that stands twice; none where an earlier line decides which of two it is.
-fn doubled_row(at: Refused<'_>) -> Option<usize> {
+fn doubled_row(at: RefusedLine<'_>) -> Option<usize> {
     let first = first_row(at);
     let second = first.saturating_add(2);
     match field(at.line, second) {
@@ -268,7 +213,7 @@ fn doubled_row(at: Refused<'_>) -> Option<usize> {
 }
 
 /// In a time file: of a period's start the column, where the core file doesn't state it, or else the row.
-fn time_place(core: &[u8], at: Refused<'_>, cause: Cause) -> Option<usize> {
+fn time_place(core: &[u8], at: RefusedLine<'_>, cause: Cause) -> Option<usize> {
     match cause {
         Cause::SectionUnknown | Cause::SectionOrder | Cause::PlaceTwice => Some(0),
         Cause::StartUnknown if at.section == b"PERIODS".as_slice() && core.is_empty() => None,
@@ -283,12 +228,13 @@ fn time_place(core: &[u8], at: Refused<'_>, cause: Cause) -> Option<usize> {
 }
 
 /// In a stoch file.
-fn stoch_places(time: &[u8], at: Refused<'_>, cause: Cause) -> Option<Places> {
+fn stoch_places(bases: Bases<'_>, at: RefusedLine<'_>, cause: Cause) -> Option<Places> {
     match cause {
         Cause::SectionUnknown | Cause::SectionOrder | Cause::ScenariosMixed => Some(Places::One(0)),
         Cause::KindUnknown => Some(Places::One(unknown_word(at))),
-        Cause::EntryUnknown | Cause::EntryTwice => entry(at),
-        Cause::EntryStage => stage(time, at),
+        Cause::EntryUnknown => unknown_entry(bases.core, at),
+        Cause::EntryTwice => entry(at),
+        Cause::EntryStage => stage(bases.time, at),
         Cause::NumberBad => Some(Places::One(stoch_number(at, NumFault::Bad)?)),
         Cause::NumberWide => Some(Places::One(stoch_number(at, NumFault::Wide)?)),
         Cause::ProbabilityRange => Some(Places::One(chance(at)?)),
@@ -299,16 +245,8 @@ fn stoch_places(time: &[u8], at: Refused<'_>, cause: Cause) -> Option<Places> {
     }
 }
 
-/// Whether a line begins a case of a block or a scenario.
-fn begins_case(at: Refused<'_>) -> bool {
-    match (at.section, field(at.line, 0), at.count) {
-        (b"BLOCKS", Some(b"BL"), 4) | (b"SCENARIOS", Some(b"SC"), 5) => true,
-        _ => false,
-    }
-}
-
 /// The first word of a header that says nothing that is known.
-fn unknown_word(at: Refused<'_>) -> usize {
+fn unknown_word(at: RefusedLine<'_>) -> usize {
     match (field(at.line, 1), field(at.line, 2)) {
         (Some(b"DISCRETE"), Some(b"REPLACE" | b"ADD" | b"MULTIPLY")) => 3,
         (Some(b"DISCRETE"), _) => 2,
@@ -317,7 +255,7 @@ fn unknown_word(at: Refused<'_>) -> usize {
 }
 
 /// The entry of a line that names one.
-fn entry(at: Refused<'_>) -> Option<Places> {
+fn entry(at: RefusedLine<'_>) -> Option<Places> {
     if at.section == b"INDEP".as_slice() || at.count <= 3 {
         Some(Places::Entry(0, 1))
     } else {
@@ -325,9 +263,30 @@ fn entry(at: Refused<'_>) -> Option<Places> {
     }
 }
 
+/// The entry of a line that names one, and of two of them the one that the core doesn't have.
+fn unknown_entry(core: &[u8], at: RefusedLine<'_>) -> Option<Places> {
+    match entry(at) {
+        Some(places) => Some(places),
+        None if core.is_empty() => None,
+        None if is_place(core, field(at.line, 0)?, field(at.line, 1)?) => {
+            Some(Places::Entry(0, 3))
+        }
+        None => Some(Places::Entry(0, 1)),
+    }
+}
+
+/// Whether a column and a row name an entry, where the column is one of the core, and else a right-hand side.
+fn is_place(core: &[u8], column: &[u8], row: &[u8]) -> bool {
+    match row_kind(core, row) {
+        None => false,
+        Some(b"N") => objective(core) == Some(row) && is_stated(core, b"COLUMNS", 0, column),
+        Some(_) => true,
+    }
+}
+
 /// The period that doesn't fit, or the entry that doesn't go with one.
-fn stage(time: &[u8], at: Refused<'_>) -> Option<Places> {
-    if begins_case(at) {
+fn stage(time: &[u8], at: RefusedLine<'_>) -> Option<Places> {
+    if at.begins_case() {
         return Some(Places::One(2));
     }
     if at.section == b"INDEP".as_slice() && at.count == 5 {
@@ -349,27 +308,12 @@ fn is_unfit(time: &[u8], period: &[u8], last: &[u8]) -> bool {
 
 /// Whether a time file states a period of this name behind the first.
 fn is_later_period(time: &[u8], name: &[u8]) -> bool {
-    let mut is_here = false;
-    let mut is_first = true;
-    for line in time.split(|byte| *byte == b'\n') {
-        match kind_of(line) {
-            Line::Header(b"ENDATA") => break,
-            Line::Header(word) => is_here = word == b"PERIODS".as_slice(),
-            Line::Data if is_here => {
-                if !is_first && end_field(line) == name {
-                    return true;
-                }
-                is_first = false;
-            }
-            Line::Data | Line::Skipped => {}
-        }
-    }
-    false
+    matches!(period_place(time, name), Some(place) if place > 0)
 }
 
 /// The first number of a line of a stoch file that has this fault.
-fn stoch_number(at: Refused<'_>, fault: NumFault) -> Option<usize> {
-    if begins_case(at) {
+fn stoch_number(at: RefusedLine<'_>, fault: NumFault) -> Option<usize> {
+    if at.begins_case() {
         return Some(3);
     }
     let last = if at.section == b"INDEP".as_slice() {
@@ -381,8 +325,8 @@ fn stoch_number(at: Refused<'_>, fault: NumFault) -> Option<usize> {
 }
 
 /// The probability of a line that has one.
-fn chance(at: Refused<'_>) -> Option<usize> {
-    if begins_case(at) {
+fn chance(at: RefusedLine<'_>) -> Option<usize> {
+    if at.begins_case() {
         Some(3)
     } else {
         at.count.checked_sub(1)
@@ -390,7 +334,7 @@ fn chance(at: Refused<'_>) -> Option<usize> {
 }
 
 /// In an edit list.
-fn edit_places(at: Refused<'_>, cause: Cause) -> Option<Places> {
+fn edit_places(at: RefusedLine<'_>, cause: Cause) -> Option<Places> {
     match (cause, field(at.line, 0)?) {
         (Cause::EditEntryUnknown | Cause::EntryStage, _) => Some(Places::Entry(2, 3)),
         (Cause::CommandUnknown, _) => Some(Places::One(0)),

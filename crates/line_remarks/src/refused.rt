@@ -1,29 +1,40 @@
 //! Why a file is refused, with the fields at fault and the line.
+use crate::bases::Bases;
 use crate::causes::sentence;
-use crate::fault_field::{put_count, put_fault};
+use crate::core_names::{column_named, row_named};
+use crate::fault_field::{fault_word, put_count, put_fault};
+use crate::keywords::is_small_word;
 use crate::lines::numbered_line;
+use crate::refused_line::RefusedLine;
 use crate::report_fault::report_fault;
+use crate::stage_fault::stage_fault;
+use crate::sums::put_sum;
 use crate::visible::push_line;
 use core_defs::Cause;
 use input_files::FileKind;
-use std::alloc::AllocError;
+use std::alloc::{AllocError, Global};
 use std::fmt::Write;
 
 /// Appends the fields at fault where the line tells them, why a file of these bytes is refused at the line with this number, and the line
-/// where it has one. The base is the file that this one goes with: of a time file the core file, of a stoch file the time file; empty where
-/// it can't be read again.
+/// where it has one.
 pub fn put_cause(
+    alloc: Global,
     text: &mut String,
     file: FileKind,
     bytes: &[u8],
-    base: &[u8],
+    bases: Bases<'_>,
     number: u32,
     cause: &Cause,
 ) -> Result<(), AllocError> {
-    put_fault(text, file, *cause, bytes, base, number)?;
-    let reason = reason_of(file, bytes, number, *cause);
-    write!(text, ": {reason}")?;
+    match RefusedLine::of(bytes, number) {
+        Some(at) => put_line_cause(text, file, bytes, bases, at, *cause)?,
+        None => {
+            let reason = reason_of(file, bytes, number, *cause);
+            write!(text, ": {reason}")?;
+        }
+    }
     put_count(text, *cause, bytes, number)?;
+    put_values(alloc, text, bytes, bases, *cause)?;
     text.push_str("\n")?;
     if let Some(line) = numbered_line(bytes, number) {
         write!(text, "  {number} | ")?;
@@ -33,10 +44,67 @@ pub fn put_cause(
     Ok(())
 }
 
+/// Appends the fields of a line that are at fault, and why.
+fn put_line_cause(
+    text: &mut String,
+    file: FileKind,
+    bytes: &[u8],
+    bases: Bases<'_>,
+    at: RefusedLine<'_>,
+    cause: Cause,
+) -> Result<(), AllocError> {
+    put_fault(text, file, cause, bytes, bases, at)?;
+    let reason = match (file, cause) {
+        (FileKind::Report, Cause::ReportBad) => report_fault(bytes, at.number),
+        (FileKind::Stoch, Cause::EntryStage) => stage_fault(bytes, bases, at),
+        _ => sentence(file, cause),
+    };
+    write!(text, ": {reason}")?;
+    match fault_word(file, cause, bytes, bases, at) {
+        Some(word) if is_small_word(cause, word) => {
+            text.push_str("; the words of the files are written in capitals")
+        }
+        _ => Ok(()),
+    }
+}
+
 /// Why a file of these bytes is refused.
 fn reason_of(file: FileKind, bytes: &[u8], number: u32, cause: Cause) -> &'static str {
     match cause {
         Cause::ReportBad => report_fault(bytes, number),
         _ => sentence(file, cause),
+    }
+}
+
+/// Appends the names or the lines that a cause is about, beside its own.
+fn put_values(
+    alloc: Global,
+    text: &mut String,
+    bytes: &[u8],
+    bases: Bases<'_>,
+    cause: Cause,
+) -> Result<(), AllocError> {
+    match cause {
+        Cause::NotTriangular { row, column } => {
+            put_name(text, ": the row ", row_named(bases.core, row))?;
+            put_name(text, ", the column ", column_named(bases.core, column))
+        }
+        Cause::RowMissing(row) => put_name(text, ": ", row_named(bases.core, row)),
+        Cause::ColumnMissing(column) => put_name(text, ": ", column_named(bases.core, column)),
+        Cause::ProbabilitySum(sum) => put_sum(alloc, text, bytes, sum),
+        _ => Ok(()),
+    }
+}
+
+/// Appends a name in quotes behind what goes before it; nothing where it isn't known.
+fn put_name(text: &mut String, before: &str, name: Option<&[u8]>) -> Result<(), AllocError> {
+    match name {
+        Some(name) => {
+            text.push_str(before)?;
+            text.push_str("'")?;
+            push_line(text, name)?;
+            text.push_str("'")
+        }
+        None => Ok(()),
     }
 }

@@ -67,6 +67,20 @@ pub fn unused_lines<'a>(text: &'a [u8], section: Section) -> Option<Unused<'a>> 
     tally.unused
 }
 
+/// The set of a section of a core file that is used: that of its first line; none where it has no line.
+pub fn used_set<'a>(text: &'a [u8], section: Section) -> Option<Set<'a>> {
+    let mut is_here = false;
+    for line in text.split(|byte| *byte == b'\n') {
+        match kind_of(line) {
+            Line::Header(b"ENDATA") => break,
+            Line::Header(word) => is_here = word == section.word().as_bytes(),
+            Line::Data if is_here => return Some(set_of(line, section)),
+            Line::Data | Line::Skipped => {}
+        }
+    }
+    None
+}
+
 impl<'a> Tally<'a> {
     /// With a further line.
     fn with(self, line: u64, set: Set<'a>) -> Tally<'a> {

@@ -6,7 +6,7 @@ use crate::reported::{put_made, put_reported};
 use crate::whole::{put_only_whole, put_whole};
 use crate::words::put_word_fault;
 use input_files::FileKind;
-use line_remarks::put_unused;
+use line_remarks::{put_doubts, put_most_digits, put_unused};
 use smps_cli::{Fetched, Found, Ran, Status};
 use std::alloc::{AllocError, Global};
 use std::fs::Files;
@@ -72,7 +72,7 @@ fn put_on_files<R: Files>(
     fetched: &Fetched,
 ) -> Result<(), AllocError> {
     match status {
-        Status::Refused(file, line, cause) => put_refusal(text, fetched, file, line, cause),
+        Status::Refused(file, line, cause) => put_refusal(alloc, text, fetched, file, line, cause),
         Status::TooLong(file) => put_too_long(text, fetched, file),
         Status::ReadFault(file) => put_unread(rt, text, fetched, file),
         _ => put_found(alloc, text, found, fetched),
@@ -88,7 +88,9 @@ fn put_found(
 ) -> Result<(), AllocError> {
     match found {
         Found::Reports(tolds) => {
-            put_reported(text, tolds)?;
+            if put_reported(text, tolds)? {
+                put_long_numbers(alloc, text, fetched)?;
+            }
             put_skipped(alloc, text, fetched)?;
             put_whole(text, tolds)
         }
@@ -100,15 +102,27 @@ fn put_found(
     }
 }
 
-/// Appends what is said of lines of the core file that aren't used.
+/// Appends what is said of lines of the core file that aren't used, and of what it may mean otherwise than its writer thinks.
 fn put_skipped(alloc: Global, text: &mut String, fetched: &Fetched) -> Result<(), AllocError> {
     match fetched.text(FileKind::Core) {
         Some(core) => {
             let start = file_start(alloc, fetched, FileKind::Core)?;
-            put_unused(text, start.as_str(), core)
+            put_unused(text, start.as_str(), core)?;
+            put_doubts(text, start.as_str(), core)
         }
         None => Ok(()),
     }
+}
+
+/// Appends which numbers of the core file and of the stoch file have the most digits.
+fn put_long_numbers(alloc: Global, text: &mut String, fetched: &Fetched) -> Result<(), AllocError> {
+    for file in [FileKind::Core, FileKind::Stoch] {
+        if let Some(bytes) = fetched.text(file) {
+            let start = file_start(alloc, fetched, file)?;
+            put_most_digits(text, start.as_str(), bytes)?;
+        }
+    }
+    Ok(())
 }
 
 /// Appends what is said of a command that takes no files.

@@ -2,7 +2,7 @@
 use crate::unread::why_unread;
 use core_defs::Cause;
 use input_files::FileKind;
-use line_remarks::{push_name, put_cause, sentence};
+use line_remarks::{Bases, push_name, put_cause, sentence};
 use smps_cli::Fetched;
 use std::alloc::{AllocError, Global};
 use std::fmt::Write;
@@ -24,6 +24,7 @@ pub fn file_start(alloc: Global, fetched: &Fetched, file: FileKind) -> Result<St
 
 /// Appends where a file is refused and why, the line itself, and where the remedy stands. Line 0 is no line.
 pub fn put_refusal(
+    alloc: Global,
     text: &mut String,
     fetched: &Fetched,
     file: FileKind,
@@ -35,7 +36,10 @@ pub fn put_refusal(
         write!(text, ", line {line}")?;
     }
     match fetched.text(file) {
-        Some(bytes) => put_cause(text, file, bytes, base_of(fetched, file), line, &cause)?,
+        Some(bytes) => {
+            let bases = bases_of(fetched);
+            put_cause(alloc, text, file, bytes, bases, line, &cause)?;
+        }
         None => {
             let sentence = sentence(file, cause);
             writeln!(text, ": {sentence}")?;
@@ -45,14 +49,12 @@ pub fn put_refusal(
     writeln!(text, "docs/CAUSES.md, cause {number}, says how to mend it")
 }
 
-/// The bytes of the file that a file goes with: of a time file the core file, of a stoch file the time file; of others none.
-fn base_of(fetched: &Fetched, file: FileKind) -> &[u8] {
-    let base = match file {
-        FileKind::Time => fetched.text(FileKind::Core),
-        FileKind::Stoch => fetched.text(FileKind::Time),
-        FileKind::Core | FileKind::Edits | FileKind::Report | FileKind::Trace => None,
-    };
-    base.unwrap_or(&[])
+/// The texts of the files that others go with.
+fn bases_of(fetched: &Fetched) -> Bases<'_> {
+    Bases {
+        core: fetched.text(FileKind::Core).unwrap_or(&[]),
+        time: fetched.text(FileKind::Time).unwrap_or(&[]),
+    }
 }
 
 /// Appends that a file is too long.

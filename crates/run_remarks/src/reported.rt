@@ -70,13 +70,14 @@ impl Opens {
     }
 }
 
-/// Appends a sentence for each kind of OPEN among reports.
-pub fn put_reported(text: &mut String, tolds: &[Told]) -> Result<(), AllocError> {
+/// Appends a sentence for each kind of OPEN among reports; whether a result didn't fit into 128 bits in one.
+pub fn put_reported(text: &mut String, tolds: &[Told]) -> Result<bool, AllocError> {
     let mut opens = Opens::none();
     for told in tolds {
         opens = opens.with(told.finding);
     }
-    opens.put(text)
+    opens.put(text)?;
+    Ok(opens.passed)
 }
 
 /// Appends what is said of the report of a workload.
