@@ -10,3 +10,4 @@ pub mod Numbers
 pub mod Marks
 pub mod Ends
 pub mod Keeping
+pub mod PortionSums

@@ -4,3 +4,4 @@ pub mod Scaled
 pub mod Kept
 pub mod Told
 pub mod Rest
+pub mod Portions

@@ -1,5 +1,5 @@
 // An ADD in place.
-ghost use Rattle.std.specs.Prelude.{◌≡◌, ◌+◌, ◌<◌, ◌^◌, ◌++◌, ◌&&◌, ltb, false, None, Some, OnOk, OnErr, IfOk, MatchResult, Ok, length};
+ghost use Rattle.std.specs.Prelude.{◌≡◌, ◌+◌, ◌<◌, ◌^◌, ◌++◌, ◌&&◌, ltb, false, None, Some, OnOk, OnErr, IfOk, MatchResult, Ok, length, map};
 ghost use Rattle.scen_defs.specs.Program.{content, nodes_content, scenario_content, scenarios_content};
 ghost use Rattle.smps_words.specs.Field.{IsField};
 ghost use Rattle.scen_defs.specs.Valid.{IsProgram};
@@ -10,13 +10,16 @@ ghost use Rattle.edit_defs.specs.Limits.{counts};
 ghost use Rattle.frac128.specs.Faults.{FaultOf};
 ghost use Rattle.edit_apply.specs.Faults.{ApplyFaultOf};
 ghost use Rattle.edit_apply.specs.Rest.{KeepsWith, add_left, add_rest};
+ghost use Rattle.edit_apply.specs.Scaled.{tested_walk};
 ghost use Rattle.edit_apply.specs.Told.{add_told, new_nodes};
+ghost use Rattle.scen_tree.specs.Trees.{position_of};
 
 use crate::chances::{add_scenarios, test_tree};
 use crate::copies::{copies, first_new, new_path};
 use crate::counts::{count, is_above, plus};
 use crate::facts::{is_inner, is_known};
 use crate::fault::{ApplyFault, refusal};
+use crate::portions::fits_all_trees;
 use crate::positions::add_positions;
 use core_defs::Cause;
 use edit_defs::{Counts, path};
@@ -62,6 +65,27 @@ fn new_nodes(
     copies(alloc, &program.nodes, stage, first, above)
 }
 
+/// Tests the totals and the shares of the nodes with the new ones, where it isn't seen without them that none passes.
+fn test_grown(
+    alloc: Global,
+    nodes: &[Option<Node>],
+    more: &[Option<Node>],
+    scenarios: &[Scenario],
+) -> Result<(), ArithmeticFault>
+    ensures { MatchResult result (λ _. tested_walk (map position_of (nodes_content nodes.now) ++ map position_of (nodes_content more.now))
+        (scenarios_content scenarios.now) ≡ Ok (scenarios_content scenarios.now))
+        (FaultOf (tested_walk (map position_of (nodes_content nodes.now) ++ map position_of (nodes_content more.now))
+        (scenarios_content scenarios.now))) }
+{
+    if fits_all_trees(scenarios) {
+        return Ok(());
+    }
+    let mut positions = Vec::new(alloc);
+    add_positions(&mut positions, nodes)?;
+    add_positions(&mut positions, more)?;
+    test_tree(alloc, &positions, scenarios)
+}
+
 /// The scenarios after an ADD of a scenario with these new nodes, where no operation passes.
 fn tested_add(
     alloc: Global,
@@ -74,10 +98,7 @@ fn tested_add(
         (FaultOf (add_told (content program.now) (scenario_content new) (nodes_content nodes.now))) }
 {
     let scenarios = add_scenarios(alloc, &program.scenarios, new)?;
-    let mut positions = Vec::new(alloc);
-    add_positions(&mut positions, &program.nodes)?;
-    add_positions(&mut positions, nodes)?;
-    test_tree(alloc, &positions, &scenarios)?;
+    test_grown(alloc, &program.nodes, nodes, &scenarios)?;
     Ok(scenarios)
 }
 

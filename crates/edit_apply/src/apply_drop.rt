@@ -1,6 +1,7 @@
 // A DROP in place.
-ghost use Rattle.std.specs.Prelude.{◌≡◌, None, Some, OnOk, OnErr, MatchResult, IfOk, Ok};
-ghost use Rattle.scen_defs.specs.Program.{content, scenarios_content};
+ghost use Rattle.std.specs.Prelude.{◌≡◌, None, Some, OnOk, OnErr, MatchResult, IfOk, Ok, map};
+ghost use Rattle.scen_defs.specs.Program.{content, nodes_content, scenarios_content};
+ghost use Rattle.scen_tree.specs.Trees.{position_of};
 ghost use Rattle.scen_defs.specs.Valid.{IsProgram};
 ghost use Rattle.edit_defs.specs.declared.edit.Edit.TheVariants.{Drop};
 ghost use Rattle.edit_defs.specs.After.{after};
@@ -10,16 +11,18 @@ ghost use Rattle.edit_defs.specs.Operations.{first_passed};
 ghost use Rattle.edit_apply.specs.Kept.{kept_from};
 ghost use Rattle.frac128.specs.Faults.{FaultOf};
 ghost use Rattle.edit_apply.specs.Faults.{ApplyFaultOf};
+ghost use Rattle.edit_apply.specs.Scaled.{tested_walk};
 ghost use Rattle.edit_apply.specs.Told.{drop_told, marks_by};
 
 use crate::chances::{drop_scenarios, test_tree};
 use crate::facts::{is_known, is_last};
 use crate::fault::{ApplyFault, refusal};
 use crate::kept::{keep, kept_counts, kept_positions, reached};
+use crate::portions::fits_all_trees;
 use core_defs::Cause;
 use edit_defs::Counts;
 use frac128::ArithmeticFault;
-use scen_defs::{Program, Scenario};
+use scen_defs::{Node, Program, Scenario};
 use smps_words::Name;
 use std::alloc::Global;
 
@@ -29,6 +32,24 @@ struct Left {
     scenarios: Vec<Scenario>,
     /// Whether a scenario that is left passes the node.
     marks: Vec<bool>,
+}
+
+/// Tests the totals and the shares of the nodes that are kept, where it isn't seen without them that none passes.
+fn test_kept(
+    alloc: Global,
+    nodes: &[Option<Node>],
+    marks: &[bool],
+    scenarios: &[Scenario],
+) -> Result<(), ArithmeticFault>
+    ensures { MatchResult result (λ _. tested_walk (map position_of (kept_from marks.now 0 (nodes_content nodes.now)))
+        (scenarios_content scenarios.now) ≡ Ok (scenarios_content scenarios.now))
+        (FaultOf (tested_walk (map position_of (kept_from marks.now 0 (nodes_content nodes.now))) (scenarios_content scenarios.now))) }
+{
+    if fits_all_trees(scenarios) {
+        return Ok(());
+    }
+    let positions = kept_positions(alloc, nodes, marks)?;
+    test_tree(alloc, &positions, scenarios)
 }
 
 /// What a DROP leaves, where no operation passes.
@@ -41,8 +62,7 @@ fn tested_drop(alloc: Global, program: &Program, name: &Name) -> Result<Left, Ar
 {
     let scenarios = drop_scenarios(alloc, &program.scenarios, name)?;
     let marks = reached(alloc, &program.nodes, &scenarios)?;
-    let positions = kept_positions(alloc, &program.nodes, &marks)?;
-    test_tree(alloc, &positions, &scenarios)?;
+    test_kept(alloc, &program.nodes, &marks, &scenarios)?;
     Ok(Left { scenarios, marks })
 }
 

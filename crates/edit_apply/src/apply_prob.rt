@@ -1,23 +1,44 @@
 // A PROB in place.
-ghost use Rattle.std.specs.Prelude.{◌≡◌, None, Some, OnOk, OnErr, MatchResult, Ok};
-ghost use Rattle.scen_defs.specs.Program.{content, scenarios_content};
+ghost use Rattle.std.specs.Prelude.{◌≡◌, None, Some, OnOk, OnErr, MatchResult, Ok, map};
+ghost use Rattle.scen_defs.specs.Program.{content, nodes_content, scenarios_content};
+ghost use Rattle.scen_tree.specs.Trees.{position_of};
 ghost use Rattle.edit_defs.specs.declared.edit.Edit.TheVariants.{Prob};
 ghost use Rattle.edit_defs.specs.After.{after};
 ghost use Rattle.edit_defs.specs.Causes.{passing, refused};
 ghost use Rattle.edit_defs.specs.Operations.{first_passed};
 ghost use Rattle.frac128.specs.Faults.{FaultOf};
 ghost use Rattle.edit_apply.specs.Faults.{ApplyFaultOf};
+ghost use Rattle.edit_apply.specs.Scaled.{tested_walk};
 ghost use Rattle.edit_apply.specs.Told.{prob_told};
 
 use crate::chances::{prob_scenarios, test_tree};
 use crate::facts::{is_inner, is_known, is_last};
 use crate::fault::{ApplyFault, refusal};
+use crate::portions::fits_all_trees;
 use crate::positions::add_positions;
 use core_defs::Cause;
 use frac128::{ArithmeticFault, Frac};
-use scen_defs::{Program, Scenario};
+use scen_defs::{Node, Program, Scenario};
 use smps_words::Name;
 use std::alloc::Global;
+
+/// Tests the totals and the shares of the nodes, where it isn't seen without them that none passes.
+fn test_nodes(
+    alloc: Global,
+    nodes: &[Option<Node>],
+    scenarios: &[Scenario],
+) -> Result<(), ArithmeticFault>
+    ensures { MatchResult result (λ _. tested_walk (map position_of (nodes_content nodes.now)) (scenarios_content scenarios.now)
+        ≡ Ok (scenarios_content scenarios.now))
+        (FaultOf (tested_walk (map position_of (nodes_content nodes.now)) (scenarios_content scenarios.now))) }
+{
+    if fits_all_trees(scenarios) {
+        return Ok(());
+    }
+    let mut positions = Vec::new(alloc);
+    add_positions(&mut positions, nodes)?;
+    test_tree(alloc, &positions, scenarios)
+}
 
 /// The scenarios after a PROB, where no operation passes.
 fn tested_prob(
@@ -30,9 +51,7 @@ fn tested_prob(
         (FaultOf (prob_told (content program.now) name.now probability)) }
 {
     let scenarios = prob_scenarios(alloc, &program.scenarios, name, probability)?;
-    let mut positions = Vec::new(alloc);
-    add_positions(&mut positions, &program.nodes)?;
-    test_tree(alloc, &positions, &scenarios)?;
+    test_nodes(alloc, &program.nodes, &scenarios)?;
     Ok(scenarios)
 }
 

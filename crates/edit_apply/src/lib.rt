@@ -14,6 +14,7 @@ mod fault;
 mod in_place;
 mod kept;
 mod lengths;
+mod portions;
 mod positions;
 mod scaled;
 mod set;
