@@ -2,6 +2,7 @@
 
 use basis_guess::Standing;
 use frac128::Memory;
+use node_lp::Task;
 use scen_defs::Kind;
 use std::alloc::Global;
 use std::marker::Model;
@@ -71,11 +72,31 @@ impl Model for Hints {
     ghost view = { λ _. tt };
 }
 
+/// The hint of a solve that is under way, where there is one: the hints of all nodes lend it, and get back what the solve leaves. Contracts
+/// take all for the same.
+#[derive(Drop)]
+pub struct LentHint {
+    pub(crate) hint: Option<Hint>,
+}
+
+impl Model for LentHint {
+    ghost Value = { Unit {0} };
+
+    ghost view = { λ _. tt };
+}
+
+impl LentHint {
+    /// Nothing is lent.
+    pub fn none() -> LentHint {
+        LentHint { hint: None }
+    }
+}
+
 /// How many own columns and own rows a node has.
 #[derive(Clone, Copy)]
-pub(crate) struct Counts {
-    pub(crate) columns: usize,
-    pub(crate) rows: usize,
+struct Counts {
+    columns: usize,
+    rows: usize,
 }
 
 /// The same standings of columns and rows in memory of their own, where there are as many; those of cuts are left out.
@@ -151,8 +172,24 @@ impl Hints {
         }
     }
 
+    /// Lends a task the hint of its node for a run of its kind. One that has none begins as the node before it, if this has as many columns
+    /// and rows.
+    pub fn lend(&mut self, alloc: Global, task: &Task) -> Result<LentHint, Memory> {
+        let counts = Counts {
+            columns: task.datum.bounds().len(),
+            rows: task.datum.rows().len(),
+        };
+        let hint = self.take(alloc, task.kind, task.datum.node(), counts)?;
+        Ok(LentHint { hint })
+    }
+
+    /// Takes back what a task's solve left, for the next solve of its node in a run of its kind.
+    pub fn take_back(&mut self, task: &Task, lent: &mut LentHint) -> Result<(), Memory> {
+        self.put(task.kind, task.datum.node(), lent.hint.take())
+    }
+
     /// Takes a node's hint for a run of a kind. One that has none begins as the node before it, if this has as many columns and rows.
-    pub(crate) fn take(
+    fn take(
         &mut self,
         alloc: Global,
         kind: Kind,
@@ -167,7 +204,7 @@ impl Hints {
     }
 
     /// Keeps a node's hint for runs of a kind, also of a node that came later.
-    pub(crate) fn put(&mut self, kind: Kind, node: u32, hint: Option<Hint>) -> Result<(), Memory> {
+    fn put(&mut self, kind: Kind, node: u32, hint: Option<Hint>) -> Result<(), Memory> {
         match kind {
             Kind::Feasible => self.feasible.put(node, hint),
             Kind::Recession => self.recession.put(node, hint),

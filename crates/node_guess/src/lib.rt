@@ -13,5 +13,5 @@ mod sizes;
 mod solved;
 mod split;
 
-pub use hints::Hints;
+pub use hints::{Hints, LentHint};
 pub use solved::solved_node;

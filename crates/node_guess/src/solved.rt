@@ -4,7 +4,7 @@ ghost use Rattle.node_lp.specs.Problem.{IsProblem, problem_of};
 ghost use Rattle.node_lp.specs.Tested.{IsToldOf};
 ghost use Rattle.node_lp.specs.Answers.{IsAnswer};
 
-use crate::hints::{Counts, Hint, Hints};
+use crate::hints::{Hint, LentHint};
 use crate::rounds::try_guess;
 use crate::sizes::{is_small, work};
 use frac128::Memory;
@@ -91,19 +91,13 @@ fn solved_from(
 
 /// Solves a node's program. One of few rows takes its path, since that is soon done, and is guessed only where an operation of
 /// the path passes 128 bits; a larger one is guessed first, and takes its path where there is no guess that stands its test.
-/// Which of both it is depends on the task alone. A guess begins with the node's hint, and leaves one for the next.
-pub fn solved_node(alloc: Global, task: &Task, hints: &mut Hints) -> Result<Solved, Memory>
+/// Which of both it is depends on the task alone. A guess begins with the hint that was lent, and leaves one for the node's next solve.
+pub fn solved_node(alloc: Global, task: &Task, lent: &mut LentHint) -> Result<Solved, Memory>
     requires { IsProblem (problem_of task.now) }
     ensures told { IfOk result (IsToldOf task.now) }
     ensures answer { IfOk result (IsAnswer task.now) }
 {
-    let node = task.datum.node();
-    let counts = Counts {
-        columns: task.datum.bounds().len(),
-        rows: task.datum.rows().len(),
-    };
-    let hint = hints.take(alloc, task.kind, node, counts)?;
-    let (solved, hint) = solved_from(alloc, task, hint)?;
-    hints.put(task.kind, node, hint)?;
+    let (solved, hint) = solved_from(alloc, task, lent.hint.take())?;
+    lent.hint = hint;
     Ok(solved)
 }

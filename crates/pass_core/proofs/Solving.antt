@@ -21,8 +21,8 @@ use Rattle.pass_core.specs.Turns.{PointsStand, KeepsPoints, IsTaskOf, EndsBy, no
 use Rattle.pass_core.specs.Turns.MakesStep.{solves}
 use Rattle.pass_core.specs.Left.{StaysInRun, LeavesBy, LeavesAnyhow}
 use Rattle.pass_core.proofs.Reasoning.{IsWithin, stuck_wider}
-use Rattle.pass_core.proofs.Leaving.{leaves_before, leaves_ready, left_by, anyhow_before, anyhow_ready}
-use Rattle.pass_core.proofs.Tabling.{read_machine, begun_flight, solve_ends, told_ends}
+use Rattle.pass_core.proofs.Leaving.{leaves_before, leaves_ready, anyhow_before, anyhow_ready}
+use Rattle.pass_core.proofs.Tabling.{read_machine, begun_flight, solve_ends}
 
 on_six : {X E : Type 0} (r : Result X E) (A B C D F G H : Type 0) → (A → B → C → D → F → G → H) → OnOk r A → OnOk r B → OnOk r C
     → OnOk r D → OnOk r F → OnOk r G → OnOk r H

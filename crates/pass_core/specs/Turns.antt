@@ -19,7 +19,7 @@ use Rattle.edit_defs.specs.Data.{view_in}
 use Rattle.cut_proof.specs.declared.fault.CutFault.{CutFault}
 use Rattle.cut_proof.specs.declared.fault.CutFault.TheVariants as fault
 use Rattle.cut_banks.specs.Banks.{pools_of}
-use Rattle.cut_banks.specs.Pools.{cuts_of, cuts_read}
+use Rattle.cut_banks.specs.Pools.{cuts_of, cuts_read, numbers_read}
 use Rattle.dual_assemble.specs.Ground.{ground_walk}
 use Rattle.node_lp.specs.declared.task.Task.{Task}
 use Rattle.node_lp.specs.declared.solved.Solved.{Solved}
@@ -35,9 +35,11 @@ use Rattle.run_data.specs.Frames.{parent_in, children_in, frame_of}
 use Rattle.run_ends.specs.declared.last.Last.{Last}
 use Rattle.run_ends.specs.declared.last.Lasts.{Lasts}
 use Rattle.run_ends.specs.Lasts.{last_at, trial_of}
+use Rattle.pass_core.specs.declared.state.Begun.{Begun}
 use Rattle.pass_core.specs.declared.state.Counts.{Counts}
 use Rattle.pass_core.specs.declared.state.State.{State}
 use Rattle.pass_core.specs.Counting.{with_commit}
+use Rattle.pass_core.specs.Explained.{IsTask}
 use Rattle.pass_core.specs.Reasons.{PassesInJoin, PassesAtCost, Halts, solve_halts, IsOfSolve, IsOfOpening, GainsReasons}
 use Rattle.pass_core.specs.Tabled.{HasRoom, IsTabledBy, committed_with, EndsBegun, Opens}
 use Rattle.pass_core.specs.Left.{StaysInRun, LeavesBy, IsOpenOrStuck, LeavesAnyhow, places_in, next_kind, OpensRun}
@@ -78,6 +80,13 @@ pub record IsTaskOf (p : Program) (s : State) (n : ℕ) (t : Task) : Type 0 wher
   pub trial : t.trial ≡ trial_of s.lasts.nodes.items (parent_in s.frame n)
   pub cuts : map cuts_of t.children.items ≡ cuts_read (pools_of s.kind s.banks) (children_in s.frame n)
   pub pivots : t.pivots ≡ s.budget.pivots
+
+-- a solve is begun in this state: with the program of its node by the program and its tree, and the numbers of the pools of its children
+pub record IsSetOut (p : Program) (tree : Tree) (s : State) (b : Begun) : Type 0 where
+  pub node : b.task.datum.node ≡ b.node
+  pub task : IsTask p s.frame tree s.budget.pivots b.task
+  pub stated : tree_walk p ≡ Ok tree → s.frame ≡ frame_of p → IsTaskOf p s b.node b.task
+  pub readings : b.readings.items ≡ numbers_read (pools_of s.kind s.banks) (children_in s.frame b.node)
 
 -- ---- first cuts
 -- what the numbers of the dual at node n, over its total, make with the cuts of its children: in a run of this kind its first cut

@@ -7,6 +7,8 @@ ghost use Rattle.run_data.specs.Counts.{untouched, version_of};
 ghost use Rattle.run_data.specs.Frames.{frame_of, children_in};
 ghost use Rattle.cut_banks.specs.Banks.{empty_banks, pools_of};
 ghost use Rattle.cut_banks.specs.Pools.{numbers_read};
+ghost use Rattle.node_lp.specs.Tested.{IsToldOf};
+ghost use Rattle.node_lp.specs.Answers.{IsAnswer};
 ghost use Rattle.pass_table.specs.Machine.{Machine};
 ghost use Rattle.pass_table.specs.Marks.{nothing};
 ghost use Rattle.pass_core.specs.Counting.{no_commits, with_commit, first_stop, first_or};
@@ -14,12 +16,13 @@ ghost use Rattle.pass_core.specs.Beginning.{IsBeginning, StartsOver};
 ghost use Rattle.pass_core.specs.Explained.{IsDatumOf, KeepsExplained};
 ghost use Rattle.pass_core.specs.Made.{BankBooks, AreBooksOf, CutsAreMade};
 ghost use Rattle.pass_core.specs.Tabled.{IsTabled, IsTabledBy, StepsTo, IsBegunBy, EndsBegun};
-ghost use Rattle.pass_core.specs.Turns.{PointsStand, KeepsPoints, IsTaskOf, EndsAnyhow, SolvesNode, AreReady, MakesStep, Progresses, Rests};
+ghost use Rattle.pass_core.specs.Turns.{PointsStand, KeepsPoints, IsTaskOf, IsSetOut, EndsAnyhow, SolvesNode, AreReady, MakesStep};
+ghost use Rattle.pass_core.specs.Turns.{Progresses, Rests};
 
 use crate::budget::Budget;
 use cut_banks::Banks;
 use frac128::Memory;
-use node_guess::{Hints, solved_node};
+use node_guess::{Hints, LentHint, solved_node};
 use node_lp::{Solved, Task, fits};
 use one_worker::Turns;
 use pass_table::Reading;
@@ -106,11 +109,14 @@ fn nothing_found(alloc: Global, nodes: u32) -> Result<(Banks, Lasts, Versions), 
     Ok((banks, lasts, versions))
 }
 
-/// A solve as it was begun.
+/// A solve as it was begun: the program of its node, and what was read of the pools of its children.
 #[derive(Drop)]
 pub(crate) struct Begun {
+    pub(crate) node: u32,
     pub(crate) task: Task,
     pub(crate) readings: Vec<Reading>,
+    /// What its guess begins with, and leaves for the node's next solve. No contract sees it.
+    pub(crate) hint: LentHint,
 }
 
 impl State {
@@ -236,18 +242,68 @@ impl State {
             → self.old.frame ≡ frame_of p → AreBooksOf p self.old.versions b → CutsAreMade b self.old
             → OnOk result (CutsAreMade b self.new) }
     {
-        self.banks.keeps_nodes();
-        let Some(begun) = self.begun(alloc, program, tree, node)? else {
+        let Some(mut begun) = self.set_out(alloc, program, tree, node)? else {
             self.left_stuck();
             return Ok(());
         };
+        begun.hint = self.hints.lend(alloc, &begun.task)?;
+        let solved = solved_node(alloc, &begun.task, &mut begun.hint)?;
+        self.end(alloc, program, tree, &mut begun, solved)
+    }
+
+    /// The solve of a node that was begun, with what is read of its children's pools. None where the node has no program, which never
+    /// comes.
+    fn set_out(
+        &self,
+        alloc: Global,
+        program: &Program,
+        tree: &Tree,
+        node: u32,
+    ) -> Result<Option<Begun>, Memory>
+        ensures task { IfOk result (λ all. IfSome all (IsSetOut (content program.now) tree.now self.now)) }
+        ensures node { IfOk result (λ all. IfSome all (λ b. b.node ≡ node)) }
+        // where the node was begun in this state, and the points stand, it has one
+        ensures some { let p = content program.now in (m : Machine) → tree_walk p ≡ Ok tree.now → self.now.frame ≡ frame_of p
+            → IsBegunBy p self.now m node → PointsStand p self.now.lasts.nodes.items → IfOk result (λ all. IsSome all) }
+    {
+        self.banks.keeps_nodes();
+        let Some(begun) = self.begun(alloc, program, tree, node)? else {
+            return Ok(None);
+        };
         if !fits(&begun.task) {
-            self.left_stuck();
-            return Ok(());
+            return Ok(None);
         }
-        let solved = solved_node(alloc, &begun.task, &mut self.hints)?;
+        Ok(Some(begun))
+    }
+
+    /// Ends a solve that was begun, with what is told of its program: it is counted, and commits.
+    fn end(
+        &mut self,
+        alloc: Global,
+        program: &Program,
+        tree: &Tree,
+        begun: &mut Begun,
+        solved: Solved,
+    ) -> Result<(), Memory>
+        requires told { IsToldOf begun.old.task solved }
+        requires answer { IsAnswer begun.old.task solved }
+        ensures explained { let p = content program.now in IsSetOut p tree.now self.old begun.old
+            → OnOk result (KeepsExplained p tree.now self.old self.new) }
+        ensures tabled { let p = content program.now in (m : Machine) → self.old.frame ≡ frame_of p
+            → IsSetOut p tree.now self.old begun.old → IsBegunBy p self.old m begun.old.node
+            → OnOk result (EndsBegun EndsAnyhow p m begun.old.node self.new) }
+        // where it was begun in this state the program of its node is solved
+        ensures solves { let p = content program.now in (m : Machine) → tree_walk p ≡ Ok tree.now
+            → self.old.frame ≡ frame_of p → IsSetOut p tree.now self.old begun.old → IsBegunBy p self.old m begun.old.node
+            → PointsStand p self.old.lasts.nodes.items → OnOk result (SolvesNode p self.old m begun.old.node self.new) }
+        ensures progress { OnOk result (Progresses self.old self.new) }
+        ensures made { let p = content program.now in (b : BankBooks) → tree_walk p ≡ Ok tree.now → self.old.frame ≡ frame_of p
+            → IsSetOut p tree.now self.old begun.old → AreBooksOf p self.old.versions b → CutsAreMade b self.old
+            → OnOk result (CutsAreMade b self.new) }
+    {
+        self.hints.take_back(&begun.task, &mut begun.hint)?;
         self.counts.raise();
-        self.commit(alloc, program, tree, node, &begun, solved)
+        self.commit(alloc, program, tree, begun.node, begun, solved)
     }
 
     /// The task of a node. None where the node has no data.
@@ -261,7 +317,7 @@ impl State {
         ensures datum { let p = content program.now in IfOk result (λ all. IfSome all (λ b.
             IsDatumOf b.task.kind p self.now.frame tree.now b.task.datum)) }
         ensures pivots { IfOk result (λ all. IfSome all (λ b. b.task.pivots ≡ self.now.budget.pivots)) }
-        ensures node { IfOk result (λ all. IfSome all (λ b. b.task.datum.node ≡ node)) }
+        ensures node { IfOk result (λ all. IfSome all (λ b. (b.node ≡ node) × (b.task.datum.node ≡ node))) }
         ensures stated { let p = content program.now in tree_walk p ≡ Ok tree.now → self.now.frame ≡ frame_of p → Lives p node
             → IfOk result (λ all. IsSomeAnd all (λ b. IsTaskOf p self.now node b.task)) }
         ensures readings { IfOk result (λ all. IfSome all (λ b. b.readings.items
@@ -284,8 +340,10 @@ impl State {
             pivots: self.budget.pivots,
         };
         Ok(Some(Begun {
+            node,
             task,
             readings: read.readings,
+            hint: LentHint::none(),
         }))
     }
 

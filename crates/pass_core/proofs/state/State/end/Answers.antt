@@ -1,0 +1,95 @@
+use Rattle.std.proofs.Common.{Bool, subst}
+use Rattle.scen_defs.specs.Program.{content, node_at}
+use Rattle.scen_defs.specs.Valid.{Lives}
+use Rattle.cut_defs.specs.Stored.{IsMadeFor}
+use Rattle.cut_banks.specs.Banks.{pools_of}
+use Rattle.node_lp.specs.declared.task.Task.{Task}
+use Rattle.node_lp.specs.declared.solved.Solved.{Solved}
+use Rattle.pass_table.specs.Machine.{Flight, Machine}
+use Rattle.run_data.specs.Counts.{version_of}
+use Rattle.run_data.specs.Frames.{children_in}
+use Rattle.pass_core.specs.declared.state.State.{State}
+use Rattle.pass_core.specs.Made.{run_book, KeepsMade, CutsAreMade}
+use Rattle.pass_core.specs.Reasons.{PassesAtCost, solve_halts, IsOfSolve}
+use Rattle.pass_core.specs.Tabled.{EndsSolve, EndsBegun}
+use Rattle.pass_core.specs.Turns.{AreUpTo, IsTaskOf, EndsBy, EndsAnyhow}
+use Rattle.pass_core.proofs.CutNodes.{answer_about}
+use Rattle.pass_core.proofs.Explaining.{on_ok}
+use Rattle.pass_core.proofs.Making.{answer_made, pools_made, read_have}
+use Rattle.pass_core.proofs.Progressing.{counted_progresses}
+use Rattle.pass_core.proofs.Solving.{solved_by}
+use Rattle.pass_core.proofs.Standing.{found_stands}
+use Rattle.pass_core.proofs.TaskFits.{task_trial}
+use Rattle.pass_core.proofs.Tabling.{begun_flight, read_machine, reads_number, at_node, begun_solving, begun_counted, solve_ends, anyhow, lives as there}
+use Rattle.pass_core.proofs.state.State.end.Goals as goal
+
+pub returns-clause-explained : goal.returns-clause-explained
+returns-clause-explained c = λ out. c.commit.ensures.explained out.task c.requires.told
+
+pub returns-clause-tabled : goal.returns-clause-tabled
+returns-clause-tabled c = λ m frame out begun.
+    let p = content c.args.program.now in
+    let i = c.args.program.now.keeps in
+    let s : State = record c.args.self.now { counts = c.raise.new.self } in
+    let n = c.args.begun.now.node in
+    let b = begun_counted p c.args.self.now m n c.raise.new.self begun in
+    let w : Machine → Flight → Bool → Machine → Type 0 = EndsBy c.args.begun.now.task.trial c.args.solved in
+    on_ok c.commit.result
+    (EndsSolve w s c.commit.new.self (read_machine p s m n i frame b) (begun_flight p s m n i frame b))
+    (EndsBegun EndsAnyhow p m n c.commit.new.self)
+    (λ e. anyhow w p m n c.commit.new.self (solve_ends p s m n i frame b w c.commit.new.self e))
+    (c.commit.ensures.tabled (read_machine p s m n i frame b) (begun_flight p s m n i frame b)
+    (begun_solving p s m n i frame b c.args.begun.now.readings.items out.readings) (reads_number p s m n i frame b) (at_node p s m n i frame b)
+    (answer_about c.args.begun.now.task n c.args.solved out.node c.requires.answer))
+
+pub returns-clause-solves : goal.returns-clause-solves
+returns-clause-solves c = λ m walk frame out begun stand.
+    let p = content c.args.program.now in
+    let i = c.args.program.now.keeps in
+    let old = c.args.self.now in
+    let s : State = record old { counts = c.raise.new.self } in
+    let n = c.args.begun.now.node in
+    let b = begun_counted p old m n c.raise.new.self begun in
+    let t : Task = c.args.begun.now.task in
+    let all : Solved = c.args.solved in
+    let task : IsTaskOf p old n t = out.stated walk frame in
+    let trial : AreUpTo p (node_at p.nodes n).stage t.trial = task_trial p old n t i (there p old m n i frame begun) frame stand task in
+    let about = answer_about t n all out.node c.requires.answer in
+    solved_by p c.args.tree.now old c.raise.new.self m n i walk frame b t all c.commit.new.self c.commit.result c.raise.ensures task
+    out.task.fits stand c.requires.told c.requires.answer
+    (c.commit.ensures.tabled (read_machine p s m n i frame b) (begun_flight p s m n i frame b)
+    (begun_solving p s m n i frame b c.args.begun.now.readings.items out.readings) (reads_number p s m n i frame b) (at_node p s m n i frame b)
+    about)
+    (c.commit.ensures.points p trial (found_stands p s.kind n (version_of s.versions n) t all task.datum c.requires.answer))
+    c.commit.ensures.reasons c.commit.ensures.stays
+    (c.commit.ensures.left (read_machine p s m n i frame b) (begun_flight p s m n i frame b)
+    (begun_solving p s m n i frame b c.args.begun.now.readings.items out.readings) (reads_number p s m n i frame b) (at_node p s m n i frame b) about)
+    c.commit.ensures.anyhow
+
+pub returns-clause-progress : goal.returns-clause-progress
+returns-clause-progress c =
+    let s = c.args.self.now in
+    let all = c.args.solved in
+    let counts = c.raise.new.self in
+    let n = c.args.begun.now.node in
+    let trial = c.args.begun.now.task.trial in
+    counted_progresses c.commit.result
+    (IsOfSolve counts.all s.budget.solves all (solve_halts s.kind s.banks n trial all
+    (PassesAtCost (content c.args.program.now) c.args.tree.now s.lasts.nodes.items n trial all))) s
+    c.commit.new.self counts
+    c.raise.ensures c.commit.ensures.reasons c.commit.ensures.stays
+
+pub returns-clause-made : goal.returns-clause-made
+returns-clause-made c = λ b walk frame out right h.
+    let p = content c.args.program.now in
+    let i = c.args.program.now.keeps in
+    let s = c.args.self.now in
+    let n = c.args.begun.now.node in
+    let t : Task = c.args.begun.now.task in
+    let lives : Lives p n = subst (Lives p) out.node out.task.datum.lives in
+    let task : IsTaskOf p s n t = out.stated walk frame in
+    on_ok c.commit.result (KeepsMade b s c.commit.new.self) (CutsAreMade b c.commit.new.self) (λ k. k.1 h)
+    (c.commit.ensures.made b
+    (answer_made p s n t b i lives right task
+    (read_have (IsMadeFor (run_book s.kind b)) (pools_of s.kind s.banks) (children_in s.frame n) t.children.items task.cuts (pools_made s.kind b s.banks h.0))
+    c.args.solved c.requires.told c.requires.answer))
