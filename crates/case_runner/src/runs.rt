@@ -50,66 +50,122 @@ fn looks_at(case: &Case, part: Part) -> bool {
     case.wants.iter().any(|want| want.part == part)
 }
 
-/// The texts of a program; none where there is no program.
-fn notes(alloc: Global, program: &Option<Program>) -> Result<(Vec<u8>, Vec<u8>), Memory> {
+/// What a run said: the number of its status, and standard error, where the case looks at it.
+#[derive(Drop)]
+struct Said {
+    status: Vec<u8>,
+    error: Vec<u8>,
+}
+
+/// The two texts about a program.
+#[derive(Drop)]
+struct Notes {
+    stated: Vec<u8>,
+    nodes: Vec<u8>,
+}
+
+/// The texts about a program; empty where there is no program.
+fn notes(alloc: Global, program: &Option<Program>) -> Result<Notes, Memory> {
     match program {
-        Some(program) => Ok((stated_text(alloc, program)?, nodes_text(alloc, program)?)),
-        None => Ok((Vec::new(alloc), Vec::new(alloc))),
+        Some(program) => Ok(Notes {
+            stated: stated_text(alloc, program)?,
+            nodes: nodes_text(alloc, program)?,
+        }),
+        None => Ok(Notes {
+            stated: Vec::new(alloc),
+            nodes: Vec::new(alloc),
+        }),
     }
 }
 
-/// How a run ends over a shelf, and the program that its files mean, where the case looks at it.
-fn ran_over<H: Shelf>(
+/// The texts about the program that the files mean, where the case looks at them.
+fn noted<H: Shelf>(
+    rt: &impl Runtime,
+    alloc: Global,
+    case: &Case,
+    words: &[String],
+    shelf: &mut H,
+) -> Result<Notes, Memory> {
+    if looks_at(case, Part::Stated) || looks_at(case, Part::Nodes) {
+        let program = program_of(rt, alloc, words, shelf)?;
+        notes(alloc, &program)
+    } else {
+        notes(alloc, &None)
+    }
+}
+
+/// What is said of a run.
+fn said_of(
+    rt: &impl Runtime,
+    alloc: Global,
+    case: &Case,
+    words: &[String],
+    ran: &Ran,
+) -> Result<Said, Memory> {
+    let number = ran.status.number();
+    let status = format!(in alloc; "{number}\n")?.into_bytes();
+    let error = if looks_at(case, Part::Error) {
+        explanation(rt, alloc, words, ran)?.into_bytes()
+    } else {
+        Vec::new(alloc)
+    };
+    Ok(Said { status, error })
+}
+
+/// Runs the words of a case over a shelf, and says how that ended.
+fn said<H: Shelf>(
     rt: &impl Runtime,
     alloc: Global,
     case: &Case,
     words: &[String],
     shelf: &mut H,
     sink: &mut MemorySink,
-) -> Result<(Ran, Option<Program>), Memory> {
+) -> Result<Said, Memory> {
     let ran = run(rt, alloc, words, shelf, sink);
-    if looks_at(case, Part::Stated) || looks_at(case, Part::Nodes) {
-        let program = program_of(rt, alloc, words, shelf)?;
-        Ok((ran, program))
-    } else {
-        Ok((ran, None))
-    }
+    said_of(rt, alloc, case, words, &ran)
 }
 
-/// How a run ends over the shelf of a case.
-fn ran(
+/// What a run over a shelf comes to.
+fn came_over<H: Shelf>(
+    rt: &impl Runtime,
+    alloc: Global,
+    case: &Case,
+    words: &[String],
+    shelf: &mut H,
+    sink: &mut MemorySink,
+) -> Result<Came, Memory> {
+    let said = said(rt, alloc, case, words, shelf, sink)?;
+    let notes = noted(rt, alloc, case, words, shelf)?;
+    let output = sink.bytes().to_vec(alloc)?;
+    Ok(Came {
+        status: said.status,
+        output,
+        error: said.error,
+        stated: notes.stated,
+        nodes: notes.nodes,
+    })
+}
+
+/// What a run over the shelf of a case comes to.
+fn came(
     rt: &impl Runtime,
     alloc: Global,
     case: &Case,
     words: &[String],
     sink: &mut MemorySink,
-) -> Result<(Ran, Option<Program>), Memory> {
+) -> Result<Came, Memory> {
     let files = case.files.clone()?;
     if case.gives_all {
         let mut shelf = NeverFails::new(alloc, files);
-        return ran_over(rt, alloc, case, words, &mut shelf, sink);
+        return came_over(rt, alloc, case, words, &mut shelf, sink);
     }
     let mut shelf = MemoryShelf::new(alloc, files, case.failing_fetches.clone()?);
-    ran_over(rt, alloc, case, words, &mut shelf, sink)
+    came_over(rt, alloc, case, words, &mut shelf, sink)
 }
 
 /// Runs a case. What standard error says, and the program, are there where the case wants something of them.
 pub fn run_case(rt: &impl Runtime, alloc: Global, case: &Case) -> Result<Came, Memory> {
     let words = words_of(alloc, case.words.as_str())?;
     let mut sink = MemorySink::new(alloc, case.chunk.max(1), case.failing_puts.clone()?);
-    let (ran, program) = ran(rt, alloc, case, &words, &mut sink)?;
-    let number = ran.status.number();
-    let error = if looks_at(case, Part::Error) {
-        explanation(rt, alloc, &words, &ran)?
-    } else {
-        String::new(alloc)
-    };
-    let (stated, nodes) = notes(alloc, &program)?;
-    Ok(Came {
-        status: format!(in alloc; "{number}\n")?.into_bytes(),
-        output: sink.bytes().to_vec(alloc)?,
-        error: error.into_bytes(),
-        stated,
-        nodes,
-    })
+    came(rt, alloc, case, &words, &mut sink)
 }

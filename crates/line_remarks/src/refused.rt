@@ -27,10 +27,9 @@ pub fn put_cause(
     cause: &Cause,
 ) -> Result<(), AllocError> {
     match RefusedLine::of(bytes, number) {
-        Some(at) => put_line_cause(text, file, bytes, bases, at, *cause)?,
+        Some(at) => put_line_cause(text, file, bytes, bases, at, cause)?,
         None => {
-            let reason = reason_of(file, bytes, number, *cause);
-            write!(text, ": {reason}")?;
+            put_reason(text, reason_of(file, bytes, number, *cause))?;
         }
     }
     put_count(text, *cause, bytes, number)?;
@@ -51,20 +50,55 @@ fn put_line_cause(
     bytes: &[u8],
     bases: Bases<'_>,
     at: RefusedLine<'_>,
-    cause: Cause,
+    cause: &Cause,
 ) -> Result<(), AllocError> {
-    put_fault(text, file, cause, bytes, bases, at)?;
-    let reason = match (file, cause) {
-        (FileKind::Report, Cause::ReportBad) => report_fault(bytes, at.number),
-        (FileKind::Stoch, Cause::EntryStage) => stage_fault(bytes, bases, at),
-        _ => sentence(file, cause),
+    put_fault(text, file, *cause, bytes, bases, at)?;
+    put_reason(text, line_reason(file, bytes, bases, at, *cause))?;
+    put_hint(text, *cause, fault_word(file, *cause, bytes, bases, at))
+}
+
+/// Appends why a file is refused.
+fn put_reason(text: &mut String, reason: &'static str) -> Result<(), AllocError> {
+    text.push_str(": ")?;
+    text.push_str(reason)
+}
+
+/// Appends that words are written in capitals, where a field at fault would be one so.
+fn put_hint(text: &mut String, cause: Cause, word: Option<&[u8]>) -> Result<(), AllocError> {
+    let Some(word) = word else {
+        return Ok(());
     };
-    write!(text, ": {reason}")?;
-    match fault_word(file, cause, bytes, bases, at) {
-        Some(word) if is_small_word(cause, word) => {
-            text.push_str("; the words of the files are written in capitals")
-        }
-        _ => Ok(()),
+    if is_small_word(cause, word) {
+        text.push_str("; the words of the files are written in capitals")
+    } else {
+        Ok(())
+    }
+}
+
+/// Why a file of these bytes is refused at a line.
+fn line_reason(
+    file: FileKind,
+    bytes: &[u8],
+    bases: Bases<'_>,
+    at: RefusedLine<'_>,
+    cause: Cause,
+) -> &'static str {
+    match cause {
+        Cause::EntryStage => stage_reason(file, bytes, bases, at),
+        _ => reason_of(file, bytes, at.number, cause),
+    }
+}
+
+/// Why a period doesn't fit, or a column, in a line of a file.
+fn stage_reason(
+    file: FileKind,
+    bytes: &[u8],
+    bases: Bases<'_>,
+    at: RefusedLine<'_>,
+) -> &'static str {
+    match file {
+        FileKind::Stoch => stage_fault(bytes, bases, at),
+        _ => sentence(file, Cause::EntryStage),
     }
 }
 

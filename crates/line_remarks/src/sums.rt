@@ -8,10 +8,7 @@ use std::fmt::Write;
 
 /// The cases of a block, of an entry of INDEP, or all scenarios.
 #[derive(Clone, Copy, Drop)]
-struct Cases<'a> {
-    /// What their lines have in front: `BL` and the block, column and row, or `SC`.
-    first: &'a [u8],
-    second: &'a [u8],
+struct Cases {
     /// The numbers of the first line and of the last, counted from 1.
     from: u64,
     to: u64,
@@ -26,92 +23,125 @@ pub fn put_sum(
     sum: Frac,
 ) -> Result<(), AllocError> {
     let mut names = Names::empty(alloc);
-    let mut groups: Vec<Cases<'_>> = Vec::new(alloc);
+    let mut groups: Vec<Cases> = Vec::new(alloc);
     let mut section: &[u8] = &[];
     for (before, line) in stoch.split(|byte| *byte == b'\n').enumerate() {
         match kind_of(line) {
             Line::Header(b"ENDATA") => break,
             Line::Header(word) => section = word,
             Line::Data => {
-                if let Some(case) = case_of(section, line, (before as u64).saturating_add(1)) {
-                    add_case(alloc, &mut names, &mut groups, case)?;
-                }
+                let number = (before as u64).saturating_add(1);
+                add_line(alloc, &mut names, &mut groups, section, line, number)?;
             }
             Line::Skipped => {}
         }
     }
-    for cases in groups.iter() {
-        if cases.sum == sum {
-            return put_cases(text, *cases);
+    for (place, cases) in groups.iter().enumerate() {
+        if cases.sum == sum && place < names.len() {
+            put_owner(text, names.name(place))?;
+            return put_lines(text, cases.from, cases.to);
         }
     }
     Ok(())
 }
 
-/// The case that a line states; none where it states none.
-fn case_of<'a>(section: &[u8], line: &'a [u8], number: u64) -> Option<Cases<'a>> {
-    let count = field_count(line);
-    let first = field(line, 0)?;
-    let (second, chance): (&'a [u8], &'a [u8]) = match (section, first, count) {
-        (b"INDEP", _, 4 | 5) => (field(line, 1)?, end_field(line)),
-        (b"BLOCKS", b"BL", 4) => (field(line, 1)?, end_field(line)),
-        (b"SCENARIOS", b"SC", 5) => (&[], field(line, 3)?),
-        _ => return None,
-    };
-    Some(Cases {
-        first,
-        second,
-        from: number,
-        to: number,
-        sum: parse(chance).ok()?,
-    })
-}
-
-/// Adds a case to those that it goes with. A sum that doesn't fit into 128 bits stays as it was, so that it isn't found.
-fn add_case<'a>(
+/// Adds a line that states a case to those that it goes with.
+fn add_line(
     alloc: Global,
     names: &mut Names,
-    groups: &mut Vec<Cases<'a>>,
-    case: Cases<'a>,
+    groups: &mut Vec<Cases>,
+    section: &[u8],
+    line: &[u8],
+    number: u64,
 ) -> Result<(), AllocError> {
-    let mut name = Vec::from_slice(alloc, case.first)?;
-    name.push(b' ')?;
-    name.extend_from_slice(case.second)?;
-    match names.place(name.as_slice()) {
+    let owner = owner_of(alloc, section, line)?;
+    match chance_of(section, line) {
+        Some(chance) if !owner.is_empty() => {
+            add_chance(names, groups, owner.as_slice(), number, chance)
+        }
+        _ => Ok(()),
+    }
+}
+
+/// Whom the case of a line belongs to: `BLOCKS` with the block, `INDEP` with column and row, `SCENARIOS`, each behind a blank. Empty where
+/// the line states no case.
+fn owner_of(alloc: Global, section: &[u8], line: &[u8]) -> Result<Vec<u8>, AllocError> {
+    let mut owner = Vec::new(alloc);
+    let shown = match (section, field(line, 0), field_count(line)) {
+        (b"INDEP", _, 4 | 5) => 0..2,
+        (b"BLOCKS", Some(b"BL"), 4) => 1..2,
+        (b"SCENARIOS", Some(b"SC"), 5) => 0..1,
+        _ => return Ok(owner),
+    };
+    owner.extend_from_slice(section)?;
+    for place in shown {
+        owner.push(b' ')?;
+        owner.extend_from_slice(field(line, place).unwrap_or(&[]))?;
+    }
+    Ok(owner)
+}
+
+/// The probability of a line that states a case.
+fn chance_of(section: &[u8], line: &[u8]) -> Option<Frac> {
+    let word = if section == b"SCENARIOS".as_slice() {
+        field(line, 3)?
+    } else {
+        end_field(line)
+    };
+    parse(word).ok()
+}
+
+/// Adds the probability of a line to those of the same owner.
+fn add_chance(
+    names: &mut Names,
+    groups: &mut Vec<Cases>,
+    owner: &[u8],
+    number: u64,
+    chance: Frac,
+) -> Result<(), AllocError> {
+    match names.place(owner) {
         Some(place) => {
             if let Some(cases) = groups.get_mut(place) {
-                cases.to = case.to;
-                cases.sum = cases.sum.add(case.sum).unwrap_or(cases.sum);
+                raise(cases, number, chance);
             }
             Ok(())
         }
         None => {
-            names.add(name.as_slice())?;
-            groups.push(case)?;
+            names.add(owner)?;
+            groups.push(Cases {
+                from: number,
+                to: number,
+                sum: chance,
+            })?;
             Ok(())
         }
     }
 }
 
+/// Adds a line and a probability to cases. A sum that doesn't fit into 128 bits stays as it was, so that it isn't found.
+fn raise(cases: &mut Cases, line: u64, chance: Frac) {
+    cases.to = line;
+    cases.sum = cases.sum.add(chance).unwrap_or(cases.sum);
+}
+
 /// Appends whose probabilities are meant.
-fn put_cases(text: &mut String, cases: Cases<'_>) -> Result<(), AllocError> {
-    match (cases.first, cases.second) {
-        (b"SC", []) => text.push_str(": those of all scenarios")?,
-        (b"BL", block) => {
-            text.push_str(": those of the block '")?;
-            push_line(text, block)?;
-            text.push_str("'")?;
-        }
-        (column, row) => {
-            text.push_str(": those of the entry '")?;
-            push_line(text, column)?;
-            text.push_str("' '")?;
-            push_line(text, row)?;
-            text.push_str("'")?;
-        }
+fn put_owner(text: &mut String, owner: &[u8]) -> Result<(), AllocError> {
+    let word = match field(owner, 0) {
+        Some(b"SCENARIOS") => return text.push_str(": those of all scenarios"),
+        Some(b"BLOCKS") => "block",
+        _ => "entry",
+    };
+    write!(text, ": those of the {word}")?;
+    for name in owner.split(|byte| *byte == b' ').skip(1) {
+        text.push_str(" '")?;
+        push_line(text, name)?;
+        text.push_str("'")?;
     }
-    let from = cases.from;
-    let to = cases.to;
+    Ok(())
+}
+
+/// Appends the lines from the one to the other.
+fn put_lines(text: &mut String, from: u64, to: u64) -> Result<(), AllocError> {
     if from == to {
         write!(text, ", line {from}")
     } else {
