@@ -65,7 +65,7 @@ struct Notes {
 }
 
 /// The texts about a program; empty where there is no program.
-fn notes(alloc: Global, program: &Option<Program>) -> Result<Notes, Memory> {
+fn notes_on(alloc: Global, program: &Option<Program>) -> Result<Notes, Memory> {
     match program {
         Some(program) => Ok(Notes {
             stated: stated_text(alloc, program)?,
@@ -88,9 +88,9 @@ fn noted<H: Shelf>(
 ) -> Result<Notes, Memory> {
     if looks_at(case, Part::Stated) || looks_at(case, Part::Nodes) {
         let program = program_of(rt, alloc, words, shelf)?;
-        notes(alloc, &program)
+        notes_on(alloc, &program)
     } else {
-        notes(alloc, &None)
+        notes_on(alloc, &None)
     }
 }
 
@@ -113,7 +113,7 @@ fn said_of(
 }
 
 /// Runs the words of a case over a shelf, and says how that ended.
-fn said<H: Shelf>(
+fn said_over<H: Shelf>(
     rt: &impl Runtime,
     alloc: Global,
     case: &Case,
@@ -134,7 +134,7 @@ fn came_over<H: Shelf>(
     shelf: &mut H,
     sink: &mut MemorySink,
 ) -> Result<Came, Memory> {
-    let said = said(rt, alloc, case, words, shelf, sink)?;
+    let said = said_over(rt, alloc, case, words, shelf, sink)?;
     let notes = noted(rt, alloc, case, words, shelf)?;
     let output = sink.bytes().to_vec(alloc)?;
     Ok(Came {
@@ -147,7 +147,7 @@ fn came_over<H: Shelf>(
 }
 
 /// What a run over the shelf of a case comes to.
-fn came(
+fn came_of(
     rt: &impl Runtime,
     alloc: Global,
     case: &Case,
@@ -167,5 +167,5 @@ fn came(
 pub fn run_case(rt: &impl Runtime, alloc: Global, case: &Case) -> Result<Came, Memory> {
     let words = words_of(alloc, case.words.as_str())?;
     let mut sink = MemorySink::new(alloc, case.chunk.max(1), case.failing_puts.clone()?);
-    came(rt, alloc, case, &words, &mut sink)
+    came_of(rt, alloc, case, &words, &mut sink)
 }
