@@ -2,19 +2,11 @@
 //! memory, and tells how many hold, and of each that doesn't what was wanted and what came.
 #![tactic(auto)]
 
-mod block;
-mod cases;
-mod documents;
-mod escapes;
-mod faults;
 mod meant;
-mod reading;
 mod runs;
 mod told;
 
-use cases::Case;
-use faults::Wrong;
-use reading::Reader;
+use case_texts::{Case, Reader, Wrong};
 use runs::run_case;
 use smps_io::{RealShelf, Shelf};
 use std::alloc::Global;

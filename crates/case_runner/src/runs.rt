@@ -1,6 +1,6 @@
 //! Runs a case.
-use crate::cases::{Case, Part};
 use crate::meant::program_of;
+use case_texts::{Case, Part};
 use frac128::Memory;
 use program_notes::{nodes_text, stated_text};
 use run_remarks::explanation;

@@ -1,6 +1,6 @@
 //! Whether a case holds, and what is told of one that doesn't.
-use crate::cases::{Case, Want};
 use crate::runs::Came;
+use case_texts::{Case, Want};
 use frac128::Memory;
 use line_remarks::push_visible;
 use std::alloc::{AllocError, Global};
