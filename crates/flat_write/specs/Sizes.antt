@@ -1,5 +1,5 @@
 -- How large a program is as one program of all its nodes.
-use Rattle.std.specs.Prelude.{ℕ, Bool, ◌||◌, List, length, nat_lt}
+use Rattle.std.specs.Prelude.{ℕ, Bool, ◌||◌, length, nat_lt}
 use Rattle.std.specs.List.{sum_by}
 use Rattle.scen_defs.specs.Program.{View}
 use Rattle.scen_defs.specs.declared.program.NodeRow.{NodeRow}

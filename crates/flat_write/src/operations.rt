@@ -4,7 +4,8 @@ ghost use Rattle.rationals.specs.Rational.{zero_ℚ};
 ghost use Rattle.scen_defs.specs.Lists.{is_in};
 ghost use Rattle.scen_defs.specs.Program.{content, view_of, scenarios_content};
 ghost use Rattle.scen_defs.specs.Walks.{total_from};
-ghost use Rattle.flat_write.specs.Operations.{each_walk, or_zero, node_total, price, prices, span_by, span, row_span, row_spans, operations};
+ghost use Rattle.flat_write.specs.Operations.{each_walk, or_zero, node_total, price, prices, operations};
+ghost use Rattle.flat_write.specs.Operations.{span_by, span, row_span, row_spans};
 
 use crate::lists::{columns_at, rows_at};
 use frac128::{Frac, Memory, Passed};

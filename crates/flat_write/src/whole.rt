@@ -54,7 +54,8 @@ fn put_bound_section(
     live: &[u64],
 ) -> Result<(), Memory>
     requires { live.now ≡ (view_of (content program.now)).live }
-    ensures { OnOk result (out.new.items ≡ out.old.items ++ section_text (codes "BOUNDS\n") (all_bounds_text (view_of (content program.now)))) }
+    ensures { OnOk result (out.new.items ≡ out.old.items
+        ++ section_text (codes "BOUNDS\n") (all_bounds_text (view_of (content program.now)))) }
 {
     let mut lines = Vec::new(alloc);
     put_bounds(alloc, &mut lines, program, live)?;
