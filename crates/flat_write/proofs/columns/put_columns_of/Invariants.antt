@@ -1,0 +1,9 @@
+use Rattle.std.proofs.Common.{◌≡◌, ◌++◌, drop}
+use Rattle.std.specs.List.{flat_map}
+use Rattle.scen_defs.specs.Program.{content, view_of}
+use Rattle.flat_write.specs.FlatText.{column_text}
+use Rattle.flat_write.proofs.columns.put_columns_of.Given as goal
+
+abbrev pub invariant-loop-column : goal.invariant-loop-column
+invariant-loop-column l =
+    l.out.items ++ flat_map (column_text (view_of (content l.program)) l.node) (drop l.column-index l.columns) ≡ l.fn.out.items ++ flat_map (column_text (view_of (content l.program)) l.node) l.columns

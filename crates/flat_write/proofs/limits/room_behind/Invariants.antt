@@ -1,0 +1,8 @@
+use Rattle.std.proofs.Common.{◌≡◌, ◌+◌, drop}
+use Rattle.std.specs.List.{sum_by}
+use Rattle.flat_write.specs.Sizes.{row_entries}
+use Rattle.flat_write.proofs.limits.room_behind.Given as goal
+
+abbrev pub invariant-loop-row : goal.invariant-loop-row
+invariant-loop-row l =
+    l.room + sum_by row_entries (drop l.row-index l.rows) ≡ l.left + sum_by row_entries l.rows

@@ -1,0 +1,4 @@
+pub mod Sizes
+pub mod Operations
+pub mod FlatText
+pub mod Flat
