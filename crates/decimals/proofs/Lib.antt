@@ -1,0 +1,3 @@
+pub mod DigitSteps
+pub mod RoundLemmas
+pub mod NearestLemmas
