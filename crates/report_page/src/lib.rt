@@ -1,0 +1,14 @@
+//! A report as one page of HTML, with nothing from outside.
+#![tactic(auto)]
+
+mod cells;
+mod costs;
+mod escape;
+mod frame;
+mod layout;
+mod page;
+mod scale;
+mod tables;
+mod tree;
+
+pub use page::print_page;

@@ -1,0 +1,265 @@
+//! The tables of the page.
+use crate::cells::{put_amount, put_cell, put_count_cell, put_name_cell};
+use crate::escape::{put, put_name};
+use frac128::Memory;
+use report_forms::{Table, put_count};
+use report_values::{Amount, ColumnCells, RowCells, are_of_ray, gap};
+use scen_defs::{Node, Scenario};
+use std::alloc::Global;
+
+/// Appends the head of a table, whose cells sort it.
+fn put_heads(out: &mut Vec<u8>, heads: &[&str]) -> Result<(), Memory> {
+    put(out, "<div class=wide><table><thead><tr>")?;
+    for head in heads {
+        put(out, "<th scope=col><button type=button>")?;
+        put(out, head)?;
+        put(out, "</button>")?;
+    }
+    put(out, "</tr></thead><tbody>\n")
+}
+
+/// Appends the end of a table.
+fn close_table(out: &mut Vec<u8>) -> Result<(), Memory> {
+    put(out, "</tbody></table></div>\n")
+}
+
+/// Appends an end of the report.
+fn put_end(alloc: Global, out: &mut Vec<u8>, word: &str, amount: Amount) -> Result<(), Memory> {
+    put(out, "<div><dt>")?;
+    put(out, word)?;
+    put(out, "<dd>")?;
+    put_amount(alloc, out, amount, "none")?;
+    put(out, "</div>")
+}
+
+/// Appends how many there are of something.
+fn put_number(alloc: Global, out: &mut Vec<u8>, word: &str, count: u32) -> Result<(), Memory> {
+    put(out, "<div><dt>")?;
+    put(out, word)?;
+    put(out, "<dd>")?;
+    put_count(alloc, out, u64::from(count))?;
+    put(out, "</div>")
+}
+
+/// Appends the ends of the report, and its counts.
+pub(crate) fn put_ends(alloc: Global, out: &mut Vec<u8>, table: &Table<'_>) -> Result<(), Memory> {
+    let report = table.report;
+    put(out, "<dl>")?;
+    put_end(alloc, out, "lower end", Amount::of_end(report.lower))?;
+    put_end(alloc, out, "upper end", Amount::of_end(report.upper))?;
+    put_end(alloc, out, "gap", gap(report))?;
+    if report.extra.is_some() {
+        let word = if report.ray.is_some() {
+            "ray worth"
+        } else {
+            "slope"
+        };
+        put_end(alloc, out, word, Amount::of_end(report.extra))?;
+    }
+    put_number(alloc, out, "nodes", report.nodes)?;
+    put_number(alloc, out, "scenarios", report.scenarios)?;
+    put(out, "</dl>\n")
+}
+
+/// Appends the line of a column, behind what tells the node.
+fn put_column(
+    alloc: Global,
+    out: &mut Vec<u8>,
+    table: &Table<'_>,
+    cells: &ColumnCells,
+) -> Result<(), Memory> {
+    put_name_cell(alloc, out, table.column_name(cells.column))?;
+    put_cell(alloc, out, cells.value, "-")?;
+    put_cell(alloc, out, cells.direction, "-")?;
+    put_cell(alloc, out, cells.lower, "none")?;
+    put_cell(alloc, out, cells.upper, "none")?;
+    put_cell(alloc, out, cells.reduced, "-")?;
+    put(out, "</tr>\n")
+}
+
+/// Appends the first decisions.
+pub(crate) fn put_first(alloc: Global, out: &mut Vec<u8>, table: &Table<'_>) -> Result<(), Memory> {
+    let heads = [
+        "column",
+        "value",
+        "direction",
+        "lower",
+        "upper",
+        "reduced cost",
+    ];
+    put_heads(out, &heads)?;
+    let columns = table.columns(alloc, 0)?;
+    for cells in &columns {
+        put(out, "<tr>")?;
+        put_column(alloc, out, table, cells)?;
+    }
+    close_table(out)
+}
+
+/// Appends the line of a scenario.
+fn put_scenario(
+    alloc: Global,
+    out: &mut Vec<u8>,
+    scenario: &Scenario,
+    cost: Amount,
+) -> Result<(), Memory> {
+    put(out, "<tr>")?;
+    put_name_cell(alloc, out, scenario.name.as_bytes())?;
+    put_cell(alloc, out, Amount::Known(scenario.probability), "-")?;
+    put_cell(alloc, out, cost, "-")?;
+    put(out, "<td>")?;
+    for node in &scenario.path {
+        put_count(alloc, out, u64::from(*node))?;
+        put(out, " ")?;
+    }
+    put(out, "</tr>\n")
+}
+
+/// Appends the scenarios.
+pub(crate) fn put_scenarios(
+    alloc: Global,
+    out: &mut Vec<u8>,
+    table: &Table<'_>,
+) -> Result<(), Memory> {
+    let heads = ["scenario", "probability", "cost", "nodes"];
+    put_heads(out, &heads)?;
+    for (place, scenario) in table.program.scenarios.iter().enumerate() {
+        put_scenario(alloc, out, scenario, table.values.cost(place))?;
+    }
+    close_table(out)
+}
+
+/// Appends the cells that tell a node.
+fn put_spot(
+    alloc: Global,
+    out: &mut Vec<u8>,
+    table: &Table<'_>,
+    number: u32,
+    node: &Node,
+) -> Result<(), Memory> {
+    put(out, "<tr>")?;
+    put_count_cell(alloc, out, number)?;
+    put_name_cell(alloc, out, table.period_name(node.stage))?;
+    put_count_cell(alloc, out, table.values.scenarios(number))?;
+    put_cell(alloc, out, table.values.probability(number), "-")
+}
+
+/// Appends the columns of all nodes.
+pub(crate) fn put_columns(
+    alloc: Global,
+    out: &mut Vec<u8>,
+    table: &Table<'_>,
+) -> Result<(), Memory> {
+    let heads = [
+        "node",
+        "period",
+        "scenarios",
+        "probability",
+        "column",
+        "value",
+        "direction",
+        "lower",
+        "upper",
+        "reduced cost",
+    ];
+    put_heads(out, &heads)?;
+    let mut number: u32 = 0;
+    for slot in &table.program.nodes {
+        if let Some(node) = slot {
+            put_columns_at(alloc, out, table, number, node)?;
+        }
+        number = number.saturating_add(1);
+    }
+    close_table(out)
+}
+
+/// Appends the columns of a node.
+fn put_columns_at(
+    alloc: Global,
+    out: &mut Vec<u8>,
+    table: &Table<'_>,
+    number: u32,
+    node: &Node,
+) -> Result<(), Memory> {
+    let columns = table.columns(alloc, number)?;
+    for cells in &columns {
+        put_spot(alloc, out, table, number, node)?;
+        put_column(alloc, out, table, cells)?;
+    }
+    Ok(())
+}
+
+/// Appends the line of a row, behind what tells the node.
+fn put_row(
+    alloc: Global,
+    out: &mut Vec<u8>,
+    table: &Table<'_>,
+    cells: &RowCells,
+) -> Result<(), Memory> {
+    put_name_cell(alloc, out, table.row_name(cells.row))?;
+    put_cell(alloc, out, cells.activity, "-")?;
+    put_cell(alloc, out, cells.low, "none")?;
+    put_cell(alloc, out, cells.high, "none")?;
+    put_cell(alloc, out, cells.slack, "-")?;
+    put_cell(alloc, out, cells.multiplier, "-")?;
+    put(out, "</tr>\n")
+}
+
+/// Appends the rows of a node.
+fn put_rows_at(
+    alloc: Global,
+    out: &mut Vec<u8>,
+    table: &Table<'_>,
+    number: u32,
+    node: &Node,
+) -> Result<(), Memory> {
+    let rows = table.rows(alloc, number)?;
+    for cells in &rows {
+        put_spot(alloc, out, table, number, node)?;
+        put_row(alloc, out, table, cells)?;
+    }
+    Ok(())
+}
+
+/// What the column of multipliers is called.
+fn multiplier_head(table: &Table<'_>) -> &'static str {
+    if are_of_ray(table.report) {
+        "ray"
+    } else {
+        "multiplier"
+    }
+}
+
+/// Appends the rows of all nodes.
+pub(crate) fn put_rows(alloc: Global, out: &mut Vec<u8>, table: &Table<'_>) -> Result<(), Memory> {
+    let heads = [
+        "node",
+        "period",
+        "scenarios",
+        "probability",
+        "row",
+        "activity",
+        "low",
+        "high",
+        "slack",
+        multiplier_head(table),
+    ];
+    put_heads(out, &heads)?;
+    let mut number: u32 = 0;
+    for slot in &table.program.nodes {
+        if let Some(node) = slot {
+            put_rows_at(alloc, out, table, number, node)?;
+        }
+        number = number.saturating_add(1);
+    }
+    close_table(out)
+}
+
+/// Appends the name of the first period.
+pub(crate) fn put_first_period(
+    alloc: Global,
+    out: &mut Vec<u8>,
+    table: &Table<'_>,
+) -> Result<(), Memory> {
+    put_name(alloc, out, table.period_name(0))
+}
