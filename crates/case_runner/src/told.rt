@@ -2,9 +2,9 @@
 use crate::runs::Came;
 use case_texts::{Case, Want};
 use frac128::Memory;
-use line_remarks::push_visible;
 use std::alloc::{AllocError, Global};
 use std::fmt::Write;
+use visible_text::push_visible;
 
 /// At most so many lines of a part are told.
 const TOLD: usize = 60;

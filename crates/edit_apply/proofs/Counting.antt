@@ -22,8 +22,8 @@ use Rattle.edit_defs.specs.Intervals.{right_side}
 use Rattle.edit_defs.specs.Limits.{are_many, is_above, plus, no_counts, row_entries, node_counts, place_counts, counts}
 use Rattle.edit_defs.specs.Shifts.{find_row}
 use Rattle.edit_defs.proofs.Kept.{home-is}
-use Rattle.edit_apply.proofs.Grown.{scenarios_long}
-use Rattle.edit_apply.proofs.OneRow.{absent-same, once_there}
+use Rattle.scen_defs.proofs.Contents.{scenarios_length}
+use Rattle.edit_entries.proofs.OneRow.{absent-same, once_there}
 
 same_counts : (a b : Counts) → a.nodes ≡ b.nodes → a.entries ≡ b.entries → a.rows ≡ b.rows → a.costs ≡ b.costs → a ≡ b
 same_counts a b n e r c = λ i. record { nodes = n i; entries = e i; rows = r i; costs = c i }
@@ -180,7 +180,7 @@ from-le n = go (leb 10000 n) (ltb 10000 (n + 1)) refl refl
     go false true e f = absurd (let l : n < 10000 = leb-false 10000 n e in let m : 10000 < n + 1 = ltb-true 10000 (n + 1) f in omega (arith, l, m))
 
 one-above : (ss : List ScenarioOf) (c : Counts) → is_above (length (scenarios_content ss) + 1) c ≡ (leb 10000 (length ss) || (ltb 20000 c.nodes || are_many c))
-one-above ss c = ap (λ (b : Bool). b || (ltb 20000 c.nodes || are_many c)) (ap (λ (n : ℕ). ltb 10000 (n + 1)) (scenarios_long ss) ∙ sym (from-le (length ss)))
+one-above ss c = ap (λ (b : Bool). b || (ltb 20000 c.nodes || are_many c)) (ap (λ (n : ℕ). ltb 10000 (n + 1)) (scenarios_length ss) ∙ sym (from-le (length ss)))
 
 pub above_scenarios : (ss : List ScenarioOf) (c : Counts) (b : Bool) → b ≡ leb 10000 (length ss) → b ≡ true → true ≡ is_above (length (scenarios_content ss) + 1) c
 above_scenarios ss c b e t = sym (one-above ss c ∙ ap (λ (x : Bool). x || (ltb 20000 c.nodes || are_many c)) (sym e ∙ t))

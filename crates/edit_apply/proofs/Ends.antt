@@ -20,11 +20,11 @@ use Rattle.edit_defs.specs.Operations.{chances_passed, ended_by, first_passed, f
 use Rattle.edit_apply.specs.Faults.{ApplyFaultOf, fault_of_tree}
 use Rattle.edit_apply.specs.Kept.{kept_from}
 use Rattle.edit_apply.specs.Told.{prob_told, drop_told, add_told, marks_by, new_nodes}
-use Rattle.edit_apply.specs.Scaled.{add_walk_from}
+use Rattle.edit_chances.specs.Scaled.{add_walk_from}
 use Rattle.edit_apply.specs.Rest.{add_left, add_rest}
 use Rattle.edit_apply.proofs.Marks.{marked_nodes, reached_divided}
-use Rattle.edit_apply.proofs.Rescaled.{Told, told, add-comes, prob-told, drop-told}
-use Rattle.edit_apply.proofs.Comes.{Comes}
+use Rattle.edit_chances.proofs.Rescaled.{Told, told, add-comes, prob-told, drop-told}
+use Rattle.edit_chances.proofs.Comes.{Comes}
 use Rattle.edit_apply.proofs.Counting.{counts_append}
 
 told_ok : (p : Program) (e : Edit) (w : Result (List Scenario) Operation) (ss : List Scenario) → Told p e w → w ≡ Ok ss → (ss ≡ (after p e).scenarios) × (chances_passed p e ≡ None)

@@ -1,13 +1,7 @@
-pub mod Places
-pub mod Entries
 pub mod Homes
-pub mod OneRow
-pub mod Comes
-pub mod Rescaled
 pub mod Counting
 pub mod Grown
 pub mod Numbers
 pub mod Marks
 pub mod Ends
 pub mod Keeping
-pub mod PortionSums

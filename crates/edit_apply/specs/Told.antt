@@ -6,7 +6,7 @@ use Rattle.scen_defs.specs.Program.{Node, Scenario, Program}
 use Rattle.scen_tree.specs.Trees.{position_of}
 use Rattle.edit_defs.specs.After.{copies, scenario_named}
 use Rattle.edit_apply.specs.Kept.{kept_from, with_paths}
-use Rattle.edit_apply.specs.Scaled.{add_walk_from, drop_walk, prob_walk, tested_walk}
+use Rattle.edit_chances.specs.Scaled.{add_walk_from, drop_walk, prob_walk, tested_walk}
 
 abbrev pub prob_told : Program → List ℕ → ℚ → Result (List Scenario) Operation
 prob_told p name q = then_walk (prob_walk p.scenarios name q) (λ ss. tested_walk (map position_of p.nodes) ss)

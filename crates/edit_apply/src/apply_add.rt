@@ -1,5 +1,6 @@
 // An ADD in place.
-ghost use Rattle.std.specs.Prelude.{◌≡◌, ◌+◌, ◌<◌, ◌^◌, ◌++◌, ◌&&◌, ltb, false, None, Some, OnOk, OnErr, IfOk, MatchResult, Ok, length, map};
+ghost use Rattle.std.specs.Prelude.{◌≡◌, ◌+◌, ◌<◌, ◌^◌, ◌++◌, ◌&&◌, ltb, false, length, map};
+ghost use Rattle.std.specs.Prelude.{None, Some, OnOk, OnErr, IfOk, MatchResult, Ok};
 ghost use Rattle.scen_defs.specs.Program.{content, nodes_content, scenario_content, scenarios_content};
 ghost use Rattle.smps_words.specs.Field.{IsField};
 ghost use Rattle.scen_defs.specs.Valid.{IsProgram};
@@ -10,18 +11,17 @@ ghost use Rattle.edit_defs.specs.Limits.{counts};
 ghost use Rattle.frac128.specs.Faults.{FaultOf};
 ghost use Rattle.edit_apply.specs.Faults.{ApplyFaultOf};
 ghost use Rattle.edit_apply.specs.Rest.{KeepsWith, add_left, add_rest};
-ghost use Rattle.edit_apply.specs.Scaled.{tested_walk};
+ghost use Rattle.edit_chances.specs.Scaled.{tested_walk};
 ghost use Rattle.edit_apply.specs.Told.{add_told, new_nodes};
 ghost use Rattle.scen_tree.specs.Trees.{position_of};
 
-use crate::chances::{add_scenarios, test_tree};
 use crate::copies::{copies, first_new, new_path};
 use crate::counts::{count, is_above, plus};
 use crate::facts::{is_inner, is_known};
 use crate::fault::{ApplyFault, refusal};
-use crate::portions::fits_all_trees;
 use crate::positions::add_positions;
 use core_defs::Cause;
+use edit_chances::{add_scenarios, fits_all_trees, test_tree};
 use edit_defs::{Counts, path};
 use frac128::{ArithmeticFault, Frac, Memory};
 use scen_defs::{Node, Program, Scenario};
@@ -103,7 +103,7 @@ fn tested_add(
 }
 
 /// Adds nodes, and puts other scenarios in place of those that are there.
-#[tactic(auto, using(crate::proofs::Grown::nodes_append))]
+#[tactic(auto, using(scen_defs::proofs::Contents::nodes_append))]
 fn extend(
     program: &mut Program,
     nodes: Vec<Option<Node>>,

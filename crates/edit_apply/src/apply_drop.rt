@@ -11,15 +11,14 @@ ghost use Rattle.edit_defs.specs.Operations.{first_passed};
 ghost use Rattle.edit_apply.specs.Kept.{kept_from};
 ghost use Rattle.frac128.specs.Faults.{FaultOf};
 ghost use Rattle.edit_apply.specs.Faults.{ApplyFaultOf};
-ghost use Rattle.edit_apply.specs.Scaled.{tested_walk};
+ghost use Rattle.edit_chances.specs.Scaled.{tested_walk};
 ghost use Rattle.edit_apply.specs.Told.{drop_told, marks_by};
 
-use crate::chances::{drop_scenarios, test_tree};
 use crate::facts::{is_known, is_last};
 use crate::fault::{ApplyFault, refusal};
 use crate::kept::{keep, kept_counts, kept_positions, reached};
-use crate::portions::fits_all_trees;
 use core_defs::Cause;
+use edit_chances::{drop_scenarios, fits_all_trees, test_tree};
 use edit_defs::Counts;
 use frac128::ArithmeticFault;
 use scen_defs::{Node, Program, Scenario};

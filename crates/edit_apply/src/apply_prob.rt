@@ -8,15 +8,14 @@ ghost use Rattle.edit_defs.specs.Causes.{passing, refused};
 ghost use Rattle.edit_defs.specs.Operations.{first_passed};
 ghost use Rattle.frac128.specs.Faults.{FaultOf};
 ghost use Rattle.edit_apply.specs.Faults.{ApplyFaultOf};
-ghost use Rattle.edit_apply.specs.Scaled.{tested_walk};
+ghost use Rattle.edit_chances.specs.Scaled.{tested_walk};
 ghost use Rattle.edit_apply.specs.Told.{prob_told};
 
-use crate::chances::{prob_scenarios, test_tree};
 use crate::facts::{is_inner, is_known, is_last};
 use crate::fault::{ApplyFault, refusal};
-use crate::portions::fits_all_trees;
 use crate::positions::add_positions;
 use core_defs::Cause;
+use edit_chances::{fits_all_trees, prob_scenarios, test_tree};
 use frac128::{ArithmeticFault, Frac};
 use scen_defs::{Node, Program, Scenario};
 use smps_words::Name;

@@ -98,7 +98,7 @@ fn small(number: usize) -> Result<u32, Memory>
 }
 
 /// The number behind those of all nodes, where sixteen more keep within 32 bits.
-#[tactic(auto, using(crate::proofs::Grown::nodes_long))]
+#[tactic(auto, using(scen_defs::proofs::Contents::nodes_length))]
 pub(crate) fn first_new(nodes: &[Option<Node>]) -> Result<u32, Memory>
     ensures first { IfOk result (λ first. first ≡ length (nodes_content nodes.now)) }
     ensures room { OnOk result (length (nodes_content nodes.now) + 16 < 2 ^ 32) }
@@ -110,7 +110,7 @@ pub(crate) fn first_new(nodes: &[Option<Node>]) -> Result<u32, Memory>
 }
 
 /// Adds the copy of the node at a stage, where it isn't shared.
-#[tactic(auto, using(crate::proofs::Grown::nodes_push))]
+#[tactic(auto, using(scen_defs::proofs::Contents::nodes_push))]
 fn push_copy(
     alloc: Global,
     all: &mut Vec<Option<Node>>,

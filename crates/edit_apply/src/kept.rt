@@ -16,7 +16,7 @@ use scen_tree::Position;
 use std::alloc::{AllocError, Global};
 
 /// Nodes without a mark.
-#[tactic(auto, using(crate::proofs::Grown::nodes_long))]
+#[tactic(auto, using(scen_defs::proofs::Contents::nodes_length))]
 fn unmarked(alloc: Global, nodes: &[Option<Node>]) -> Result<Vec<bool>, AllocError>
     ensures { IfOk result (λ marks. marks.items ≡ replicate (length (nodes_content nodes.now)) false) }
 {

@@ -4,8 +4,8 @@ ghost use Rattle.scen_defs.specs.Program.{nodes_content, node_at};
 ghost use Rattle.edit_defs.specs.After.{set_entry};
 ghost use Rattle.edit_defs.specs.Shifts.{find_row};
 
-use crate::entry::length_with;
 use edit_defs::row_of;
+use edit_entries::length_with;
 use frac128::{Form, Frac};
 use scen_defs::{Node, NodeRow};
 use scen_nodes::find;

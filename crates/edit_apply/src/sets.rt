@@ -7,8 +7,8 @@ ghost use Rattle.edit_defs.specs.After.{after, home_of};
 ghost use Rattle.edit_defs.specs.Applies.{IsSet};
 ghost use Rattle.edit_defs.specs.Operations.{set_passed};
 
-use crate::set::{set_cost, set_ends, set_matrix};
 use edit_defs::right_ends;
+use edit_entries::{set_cost, set_ends, set_matrix};
 use frac128::{Frac, Memory, Passed};
 use scen_defs::Program;
 use smps_words::Name;

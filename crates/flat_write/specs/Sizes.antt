@@ -2,7 +2,7 @@
 use Rattle.std.specs.Prelude.{ℕ, Bool, ◌||◌, length, nat_lt}
 use Rattle.std.specs.List.{sum_by}
 use Rattle.scen_defs.specs.Program.{View}
-use Rattle.scen_defs.specs.declared.program.NodeRow.{NodeRow}
+use Rattle.edit_defs.specs.Limits.{row_entries}
 use Rattle.flat_write.specs.declared.limits.FlatLimits.{FlatLimits}
 
 -- each row stands at each live node of its stage, and so does each column; each entry of a row is one
@@ -11,9 +11,6 @@ flat_rows v n = length (v.rows n)
 
 abbrev pub flat_columns : View → ℕ → ℕ
 flat_columns v n = length (v.columns (v.stage n))
-
-abbrev pub row_entries : NodeRow → ℕ
-row_entries r = length r.entries
 
 abbrev pub flat_entries : View → ℕ → ℕ
 flat_entries v n = sum_by row_entries (v.rows n)

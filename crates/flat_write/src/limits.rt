@@ -3,7 +3,8 @@ ghost use Rattle.std.specs.Prelude.{◌≡◌, ◌-◌, IfOk, nat_lt};
 ghost use Rattle.std.specs.List.{sum_by};
 ghost use Rattle.rationals.specs.Passes.{unless};
 ghost use Rattle.scen_defs.specs.Program.{content, view_of};
-ghost use Rattle.flat_write.specs.Sizes.{flat_rows, flat_columns, row_entries, flat_entries, is_beyond};
+ghost use Rattle.edit_defs.specs.Limits.{row_entries};
+ghost use Rattle.flat_write.specs.Sizes.{flat_rows, flat_columns, flat_entries, is_beyond};
 
 use crate::lists::{columns_at, rows_at};
 use frac128::Memory;

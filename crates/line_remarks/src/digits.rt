@@ -1,9 +1,9 @@
 //! Which number of a file has the most digits.
-use crate::lines::{Line, is_blank, kind_of};
-use crate::visible::push_line;
+use file_lines::{Line, is_blank, kind_of};
 use frac128::parse;
 use std::alloc::AllocError;
 use std::fmt::Write;
+use visible_text::push_line;
 
 /// A number of a file, where it stands, and how many digits it has.
 #[derive(Clone, Copy, Drop)]

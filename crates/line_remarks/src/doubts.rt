@@ -1,10 +1,10 @@
 //! What a core file may mean otherwise than its writer thinks.
-use crate::lines::{Line, end_field, field, kind_of};
 use crate::unused::{Section, used_set};
-use crate::visible::push_line;
+use file_lines::{Line, end_field, field, kind_of};
 use frac128::parse;
 use std::alloc::AllocError;
 use std::fmt::Write;
+use visible_text::push_line;
 
 const COMMON_NONE: &[u8] = b"1E20";
 

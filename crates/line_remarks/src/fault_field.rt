@@ -1,15 +1,15 @@
 //! The fields of a refused line that are at fault, where the line and those before it tell which they are.
-use crate::bases::Bases;
-use crate::core_names::{is_free, is_stated, objective, row_kind};
-use crate::lines::{field, field_count, numbered_line};
-use crate::refused_line::RefusedLine;
-use crate::stages::period_place;
-use crate::visible::push_line;
+use crate::unused::{Section, Set, used_set};
 use core_defs::Cause;
+use file_lines::{
+    Bases, RefusedLine, field, field_count, is_free, is_stated, numbered_line, objective,
+    period_place, row_kind,
+};
 use frac128::{NumFault, parse};
 use input_files::FileKind;
 use std::alloc::AllocError;
 use std::fmt::Write;
+use visible_text::push_line;
 
 /// Where the fields at fault stand in their line, counted from 0.
 #[derive(Clone, Copy, Drop)]
@@ -275,12 +275,25 @@ fn unknown_entry(core: &[u8], at: RefusedLine<'_>) -> Option<Places> {
     }
 }
 
-/// Whether a column and a row name an entry, where the column is one of the core, and else a right-hand side.
+/// Whether a column and a row name an entry: a column of the core, or in a constraint's row what stands for a right-hand side.
 fn is_place(core: &[u8], column: &[u8], row: &[u8]) -> bool {
     match row_kind(core, row) {
         None => false,
-        Some(b"N") => objective(core) == Some(row) && is_stated(core, b"COLUMNS", 0, column),
-        Some(_) => true,
+        Some(b"N") => objective(core) == Some(row) && is_column(core, column),
+        Some(_) => is_column(core, column) || is_right_side(core, column),
+    }
+}
+
+/// Whether a core file states a column of this name.
+fn is_column(core: &[u8], name: &[u8]) -> bool {
+    is_stated(core, b"COLUMNS", 0, name)
+}
+
+/// Whether a word in place of a column stands for a right-hand side: RHS, or the name of the set of RHS that is used.
+fn is_right_side(core: &[u8], word: &[u8]) -> bool {
+    match used_set(core, Section::Rhs) {
+        Some(Set { name: Some(name) }) if name == word => true,
+        _ => word == b"RHS".as_slice(),
     }
 }
 

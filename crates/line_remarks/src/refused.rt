@@ -1,19 +1,16 @@
 //! Why a file is refused, with the fields at fault and the line.
-use crate::bases::Bases;
 use crate::causes::sentence;
-use crate::core_names::{column_named, row_named};
 use crate::fault_field::{fault_word, put_count, put_fault};
 use crate::keywords::is_small_word;
-use crate::lines::numbered_line;
-use crate::refused_line::RefusedLine;
 use crate::report_fault::report_fault;
 use crate::stage_fault::stage_fault;
 use crate::sums::put_sum;
-use crate::visible::push_line;
 use core_defs::Cause;
+use file_lines::{Bases, RefusedLine, column_named, numbered_line, row_named};
 use input_files::FileKind;
 use std::alloc::{AllocError, Global};
 use std::fmt::Write;
+use visible_text::push_line;
 
 /// Appends the fields at fault where the line tells them, why a file of these bytes is refused at the line with this number, and the line
 /// where it has one.

@@ -1,5 +1,5 @@
 //! What is wrong with a line of a report.
-use crate::lines::{end_field, raw_line};
+use file_lines::{end_field, raw_line};
 
 const NO_END: &str = "the file ends there within a report, whose last line is END";
 

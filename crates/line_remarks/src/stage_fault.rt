@@ -1,9 +1,8 @@
 //! Which period of a stoch file's line doesn't fit, and why.
-use crate::bases::Bases;
-use crate::core_names::column_place;
-use crate::lines::{Line, field, kind_of};
-use crate::refused_line::RefusedLine;
-use crate::stages::{column_stage, entry_stage, period_place, row_stage};
+use file_lines::{
+    Bases, Line, RefusedLine, column_place, column_stage, entry_stage, field, kind_of,
+    period_place, row_stage,
+};
 
 const LATE_COLUMN: &str = "that column is decided in a later period than that of the row";
 

@@ -1,10 +1,10 @@
 //! Whose probabilities don't add up to 1 in a stoch file.
-use crate::lines::{Line, end_field, field, field_count, kind_of};
-use crate::visible::push_line;
+use file_lines::{Line, end_field, field, field_count, kind_of};
 use frac128::{Frac, parse};
 use smps_words::Names;
 use std::alloc::{AllocError, Global};
 use std::fmt::Write;
+use visible_text::push_line;
 
 /// The cases of a block, of an entry of INDEP, or all scenarios.
 #[derive(Clone, Copy, Drop)]

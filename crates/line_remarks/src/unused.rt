@@ -1,6 +1,6 @@
 //! Lines of RHS, RANGES and BOUNDS that a core file states and nothing uses. In each of these sections the set of the
 //! first line is used, and lines of another set are skipped; so a misspelt set name drops lines.
-use crate::lines::{Line, field, field_count, kind_of};
+use file_lines::{Line, field, field_count, kind_of};
 
 /// A section whose lines belong to sets.
 #[derive(Clone, Copy, Drop)]

@@ -1,8 +1,8 @@
 //! What is said of lines of a core file that aren't used.
 use crate::unused::{Section, Set, Unused, unused_lines};
-use crate::visible::push_line;
 use std::alloc::AllocError;
 use std::fmt::Write;
+use visible_text::push_line;
 
 /// Appends a sentence for each section of the core file that has lines of another set than the one used, behind this beginning. The
 /// file has been read without a fault.

@@ -1,12 +1,14 @@
 //! What standard error says of a file that is refused or can't be read.
 use crate::unread::why_unread;
 use core_defs::Cause;
+use file_lines::Bases;
 use input_files::FileKind;
-use line_remarks::{Bases, push_name, put_cause, sentence};
+use line_remarks::{put_cause, sentence};
 use smps_cli::Fetched;
 use std::alloc::{AllocError, Global};
 use std::fmt::Write;
 use std::fs::Files;
+use visible_text::push_name;
 
 /// Appends what a message begins with: the program's name, and that of a file where the words have one.
 pub fn put_file(text: &mut String, fetched: &Fetched, file: FileKind) -> Result<(), AllocError> {

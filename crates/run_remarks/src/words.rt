@@ -3,8 +3,8 @@
 use clap::builder::ValueParser;
 use clap::error::ErrorKind;
 use clap::{Arg, Command, Error, value_parser};
-use line_remarks::push_line;
 use std::alloc::{AllocError, Global};
+use visible_text::push_line;
 
 /// Said of words that the library takes and `command_words` doesn't, as `--solves +3`.
 const TOO_LOOSE: &str =

@@ -14,3 +14,4 @@ pub mod Valid
 pub mod Runs
 pub mod CoverLaws
 pub mod WalkEnds
+pub mod Contents

@@ -31,22 +31,6 @@ use Rattle.tree_build.specs.Choices.{chances_of}
 use Rattle.tree_build.specs.Nodes.{digits_at}
 use Rattle.tree_build.specs.Finish.{value_rows, value_node, value_nodes, no_debut, block_paths, branch_paths, finish_walk, GivesPrograms}
 
-pub scenarios_push : (all : List ScenarioOf) (s : ScenarioOf) → scenarios_content (all ++ s ∷ []) ≡ scenarios_content all ++ scenario_content s ∷ []
-scenarios_push [] s = refl
-scenarios_push (first ∷ all) s = ap (λ (rest : List Scenario). scenario_content first ∷ rest) (scenarios_push all s)
-
-pub scenarios_length : (all : List ScenarioOf) → length (scenarios_content all) ≡ length all
-scenarios_length [] = refl
-scenarios_length (s ∷ all) = ap suc (scenarios_length all)
-
-pub nodes_push : (all : List (Option NodeOf)) (n : Option NodeOf) → nodes_content (all ++ n ∷ []) ≡ nodes_content all ++ place_content n ∷ []
-nodes_push [] n = refl
-nodes_push (first ∷ all) n = ap (λ (rest : List (Option Node)). place_content first ∷ rest) (nodes_push all n)
-
-pub nodes_length : (all : List (Option NodeOf)) → length (nodes_content all) ≡ length all
-nodes_length [] = refl
-nodes_length (n ∷ all) = ap suc (nodes_length all)
-
 -- a call that hands on why another one failed
 pub handed_build : {X Y Z : Type 0} (result : Result X BuildFault) (one : Result Y Operation) (whole : Result Z Operation) (fault : BuildFault) (Q : X → Type 0) → IsErrAnd result (λ e. e ≡ fault) → BuildFaultOf one fault →
     ((p : Operation) → one ≡ Err p → whole ≡ Err p) → MatchResult result Q (BuildFaultOf whole)

@@ -11,7 +11,7 @@ use Rattle.cut_defs.specs.declared.versions.Shift.{Shift}
 use Rattle.edit_defs.specs.declared.edit.Edit.{Edit}
 use Rattle.edit_defs.specs.declared.edit.Touched.{Touched}
 use Rattle.edit_defs.specs.Touches.{touches}
-use Rattle.edit_apply.proofs.Grown.{nodes_long}
+use Rattle.scen_defs.proofs.Contents.{nodes_length}
 use Rattle.edit_retire.specs.Dues.{dues, rows_version}
 use Rattle.edit_retire.specs.Shifted.{shift_of}
 use Rattle.run_data.specs.declared.versions.Version.{Version}
@@ -21,7 +21,7 @@ use Rattle.tree_method.specs.Edited.{touches_of, dues_of, IsTreeless, HasNoTree}
 
 -- the number of places of a program has 32 bits
 pub few_places : (program : ProgramOf) → length program.nodes.items < 2 ^ 32
-few_places program = let e = nodes_long program.nodes.items in let f = program.keeps.small.nodes in omega (arith, e, f)
+few_places program = let e = nodes_length program.nodes.items in let f = program.keeps.small.nodes in omega (arith, e, f)
 
 -- the sweeps for the touches that rise, and for the shift with the version of the rows among them
 pub dues_are : (p : Program) (e : Edit) (versions : List Version) (places : List Touched) (ts : List Touch) (version : ℕ)

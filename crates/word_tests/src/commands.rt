@@ -4,8 +4,9 @@ use std::alloc::{AllocError, Global};
 use std::process::Abort;
 use std::test::Fail;
 
-/// In each line the words, and behind the bar what they ask for: the command; of a task on files the names of the files, and of `solve`
-/// the solves and the pivots, in brackets where the words don't state them; of `make` its numbers and the text that is printed. Nothing where they are refused.
+/// In each line the words, and after the bar what they ask for: the command; of a task on files the names of the files, and of
+/// `solve` the solves and the pivots, in brackets where the words don't state them; of `make` its numbers and the text that is
+/// printed. Nothing where they are refused.
 const WORDS: &str = "\
 solve --core F|solve F - - - - (100000) (100000)
 solve --core F --solves 100000|solve F - - - - 100000 (100000)

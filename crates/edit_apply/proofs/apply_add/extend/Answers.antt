@@ -1,7 +1,7 @@
 use Rattle.std.proofs.Common.{List, Option, ap, sym, subst, ◌∙◌}
 use Rattle.scen_defs.specs.Program.{Node, Program, content, nodes_content, scenarios_content}
 use Rattle.scen_defs.specs.Valid.{IsProgram}
-use Rattle.edit_apply.proofs.Grown.{nodes_append}
+use Rattle.scen_defs.proofs.Contents.{nodes_append}
 use Rattle.edit_apply.proofs.apply_add.extend.Goals as goal
 
 pub invariant_of-program-2 : goal.invariant_of-program-2

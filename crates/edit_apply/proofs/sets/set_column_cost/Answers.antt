@@ -1,7 +1,7 @@
 use Rattle.std.proofs.Common.{ap, refl, arith}
 use Rattle.smps_words.specs.declared.entry.Entry.TheVariants.{Cost}
 use Rattle.scen_defs.specs.Program.{content, nodes_content}
-use Rattle.edit_apply.specs.InPlace.{with_cost}
+use Rattle.edit_entries.specs.InPlace.{with_cost}
 use Rattle.edit_apply.proofs.Homes.{lives_there}
 use Rattle.edit_apply.proofs.Keeping.{change_or_not_keeps, put_back}
 use Rattle.edit_apply.proofs.sets.set_column_cost.Goals as goal

@@ -1,9 +1,9 @@
 use Rattle.std.proofs.Common.{ap, refl, arith}
 use Rattle.smps_words.specs.declared.entry.Entry.TheVariants.{Matrix}
 use Rattle.scen_defs.specs.Program.{content, nodes_content}
-use Rattle.edit_apply.specs.InPlace.{with_row_entry}
+use Rattle.edit_entries.specs.InPlace.{with_row_entry}
 use Rattle.edit_apply.proofs.Homes.{lives_there}
-use Rattle.edit_apply.proofs.OneRow.{once_there}
+use Rattle.edit_entries.proofs.OneRow.{once_there}
 use Rattle.edit_apply.proofs.Keeping.{change_or_not_keeps, put_back}
 use Rattle.edit_apply.proofs.sets.set_matrix_entry.Goals as goal
 

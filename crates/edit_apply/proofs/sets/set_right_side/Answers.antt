@@ -4,9 +4,9 @@ use Rattle.scen_defs.specs.declared.program.Row.{Row}
 use Rattle.scen_defs.specs.Valid.{row_at}
 use Rattle.scen_defs.specs.Program.{content, nodes_content}
 use Rattle.edit_defs.specs.Intervals.{right_side}
-use Rattle.edit_apply.specs.InPlace.{with_row_ends}
+use Rattle.edit_entries.specs.InPlace.{with_row_ends}
 use Rattle.edit_apply.proofs.Homes.{lives_there}
-use Rattle.edit_apply.proofs.OneRow.{once_right}
+use Rattle.edit_entries.proofs.OneRow.{once_right}
 use Rattle.edit_apply.proofs.Keeping.{change_keeps, put_back}
 use Rattle.edit_apply.proofs.sets.set_right_side.Goals as goal
 

@@ -1,6 +1,6 @@
 use Rattle.std.proofs.Common.{◌≡◌, ◌+◌, drop}
 use Rattle.std.specs.List.{sum_by}
-use Rattle.flat_write.specs.Sizes.{row_entries}
+use Rattle.edit_defs.specs.Limits.{row_entries}
 use Rattle.flat_write.proofs.limits.room_behind.Given as goal
 
 abbrev pub invariant-loop-row : goal.invariant-loop-row

@@ -4,7 +4,8 @@ use Rattle.scen_defs.specs.Program.{nodes_content}
 use Rattle.scen_tree.specs.declared.position.Position.TheVariants.{Root}
 use Rattle.tree_build.specs.Values.{values_content, all_content}
 use Rattle.tree_build.specs.Finish.{value_nodes, no_debut, parent_in}
-use Rattle.tree_build.proofs.FinishLemmas.{nodes_push, nodes_length, node_step}
+use Rattle.scen_defs.proofs.Contents.{nodes_push, nodes_length}
+use Rattle.tree_build.proofs.FinishLemmas.{node_step}
 use Rattle.tree_build.proofs.finish.nodes.Goals as goal
 
 pub loop-found-preserved : goal.loop-found-preserved

@@ -10,7 +10,8 @@ use Rattle.tree_build.specs.Wheels.{sizes_of}
 use Rattle.tree_build.specs.Choices.{chances_of}
 use Rattle.tree_build.specs.Nodes.{digits_at}
 use Rattle.tree_build.specs.Finish.{block_paths}
-use Rattle.tree_build.proofs.FinishLemmas.{scenarios_push, scenarios_length, block_step, block_ends, handed_build}
+use Rattle.scen_defs.proofs.Contents.{scenarios_push, scenarios_length}
+use Rattle.tree_build.proofs.FinishLemmas.{block_step, block_ends, handed_build}
 use Rattle.tree_build.proofs.scenarios.block_scenarios.Goals as goal
 
 pub loop-found-preserved : goal.loop-found-preserved

@@ -7,7 +7,8 @@ use Rattle.stoch_defs.specs.Random.{branch_content}
 use Rattle.build_defs.specs.Scenarios.{no_branch}
 use Rattle.tree_build.specs.Numbering.{paths_content}
 use Rattle.tree_build.specs.Finish.{branch_paths}
-use Rattle.tree_build.proofs.FinishLemmas.{scenarios_push, scenarios_length, branch_step, branch_ends, handed_build}
+use Rattle.scen_defs.proofs.Contents.{scenarios_push, scenarios_length}
+use Rattle.tree_build.proofs.FinishLemmas.{branch_step, branch_ends, handed_build}
 use Rattle.tree_build.proofs.scenarios.branch_scenarios.Goals as goal
 
 pub loop-found-preserved : goal.loop-found-preserved

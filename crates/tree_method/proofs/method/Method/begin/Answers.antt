@@ -1,6 +1,6 @@
 use Rattle.std.proofs.Common.{◌≡◌, Option, IfSome, refl, subst, arith}
 use Rattle.scen_defs.specs.Program.{content}
-use Rattle.edit_apply.proofs.Grown.{nodes_long}
+use Rattle.scen_defs.proofs.Contents.{nodes_length}
 use Rattle.pass_core.specs.declared.state.State.{State}
 use Rattle.pass_core.specs.Beginning.{IsBeginning}
 use Rattle.pass_core.specs.Counting.{no_commits}
@@ -26,7 +26,7 @@ returns-in-Err-clause-begins c = λ few. (
 )
 
 pub returns-then-len-ge-MANY-clause-begins : goal.returns-then-len-ge-MANY-clause-begins
-returns-then-len-ge-MANY-clause-begins c = λ few. absurd (omega (arith, few, c.if-len-ge-MANY.true, c.len.ensures, nodes_long c.args.program.now.nodes.items))
+returns-then-len-ge-MANY-clause-begins c = λ few. absurd (omega (arith, few, c.if-len-ge-MANY.true, c.len.ensures, nodes_length c.args.program.now.nodes.items))
 
 pub returns-in-Some-clause-stands : goal.returns-in-Some-clause-stands
 returns-in-Some-clause-stands c =
