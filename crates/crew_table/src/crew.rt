@@ -4,35 +4,38 @@ ghost use Rattle.pass_table.specs.Machine.{Machine, Flight, IsValid, IsLive, IsC
 ghost use Rattle.pass_table.specs.Machine.{dropped, committed, raised, opened};
 ghost use Rattle.pass_table.specs.Fits.{Fits, AnswersBegin, IsHeld, HasRead, IsStart};
 ghost use Rattle.pass_table.specs.Readings.{AreWithin};
-ghost use Rattle.one_worker.specs.Parents.{AreParents};
+ghost use Rattle.crew_table.specs.Parents.{AreParents};
 
 use frac128::Memory;
 use pass_table::{Reading, Table, are_rising, are_within};
 use std::alloc::Global;
 use std::marker::Model;
 
-/// A table with a place for a solve in flight of each worker. Contracts see the table.
+/// A table with a place for a solve in flight of each worker, of whom there is one at least. Contracts see the table.
 #[derive(Drop)]
 pub struct Crew {
     table: Table,
 }
 
 impl Model for Crew {
+    ghost use Rattle.std.specs.Prelude.{◌<◌, length};
     ghost use Rattle.pass_table.specs.declared.table.Table.{Table};
 
     ghost Value = { Table };
 
     ghost view = { λ t. t.table };
+
+    ghost invariant = { λ t. 0 < length t.table.flights.items };
 }
 
 impl Crew {
-    /// The table before any event. None where the nodes aren't numbered from the root on.
+    /// The table before any event. None where the nodes aren't numbered from the root on, or there is no worker.
     pub fn start(alloc: Global, parents: &[u32], workers: u32) -> Result<Option<Crew>, Memory>
         ensures fits { IfOk result (λ all. IfSome all (λ t. (m : Machine) → IsStart parents.now m → Fits t m)) }
         ensures workers { IfOk result (λ all. IfSome all (λ t. length t.flights.items ≡ workers)) }
-        ensures some { IfOk result (λ all. IsSome all ↔ AreParents parents.now) }
+        ensures some { 0 < workers → IfOk result (λ all. IsSome all ↔ AreParents parents.now) }
     {
-        if parents.is_empty() || parents.len() >= u32::MAX as usize || !are_rising(parents) {
+        if workers == 0 || !are_parents(parents) {
             return Ok(None);
         }
         let own = Vec::from_slice(alloc, parents)?;
@@ -40,9 +43,17 @@ impl Crew {
         Ok(Some(Crew { table }))
     }
 
+    /// There is a worker.
+    pub fn has_workers(&self)
+        ensures { 0 < length self.now.flights.items }
+    {
+        let _table = &self.table;
+    }
+
     /// Whether every node is fresh with a point.
     pub fn is_closed(&self) -> bool
-        ensures { (m : Machine) → Fits self.now m → IsTrue result ↔ IsClosed m }
+        ensures flag { result ≡ self.now.closed }
+        ensures meaning { (m : Machine) → Fits self.now m → IsTrue result ↔ IsClosed m }
     {
         self.table.is_closed()
     }
@@ -135,4 +146,11 @@ impl Crew {
             self.table.open();
         }
     }
+}
+
+/// Whether the nodes with these parents are numbered from the root on.
+fn are_parents(parents: &[u32]) -> bool
+    ensures { IsTrue result ↔ AreParents parents.now }
+{
+    !parents.is_empty() && parents.len() < u32::MAX as usize && are_rising(parents)
 }

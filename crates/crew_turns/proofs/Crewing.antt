@@ -6,8 +6,8 @@ use Rattle.pass_table.proofs.Stale.{same_at}
 use Rattle.pass_table.proofs.Events.{none_some, flight_left, may_dropped}
 use Rattle.pass_table.proofs.ReadLaws.{may_read}
 use Rattle.pass_table.proofs.Valid.{valid_begun, valid_read, valid_committed, valid_dropped, valid_raised, valid_opened}
-use Rattle.one_worker.specs.Turn.{IsIdle, AreChildren, first_flight, read_by_each, read_each, EndsTurn, commits as commits_turn, adds as adds_turn}
-use Rattle.one_worker.proofs.Turning.{AreReads, reads_are, node_read, turn_flown, begun_others, freed}
+use Rattle.crew_turns.specs.Turn.{IsIdle, AreChildren, first_flight, read_by_each, read_each, EndsTurn, commits as commits_turn, adds as adds_turn}
+use Rattle.crew_turns.proofs.Turning.{AreReads, reads_are, node_read, turn_flown, begun_others, freed}
 use Rattle.crew_turns.specs.Clear.{IsClear, IsFair}
 use Rattle.crew_turns.specs.Alike.{AreAlike, turned_at, IsATurn}
 use Rattle.crew_turns.specs.Reads.{read_all, AllReadsArePresent}

@@ -1,3 +1,6 @@
+pub mod Turning
+pub mod Working
+pub mod Ordering
 pub mod Fair
 pub mod Turned
 pub mod Sheltered

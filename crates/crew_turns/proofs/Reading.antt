@@ -5,8 +5,8 @@ use Rattle.std.specs.List.{Contains}
 use Rattle.pass_table.specs.Machine.{next, Flight, Machine, IsChild, IsFlown, IsFlying, IsValid, begun, read_by, read, dropped, committed, raised, opened}
 use Rattle.pass_table.proofs.Stale.{same_at, other_at}
 use Rattle.pass_table.proofs.Events.{some_same, flight_left, flight_not}
-use Rattle.one_worker.specs.Turn.{AreChildren, first_flight, read_by_each}
-use Rattle.one_worker.proofs.Turning.{node_read, below_read}
+use Rattle.crew_turns.specs.Turn.{AreChildren, first_flight, read_by_each}
+use Rattle.crew_turns.proofs.Turning.{node_read, below_read}
 use Rattle.crew_turns.specs.Clear.{IsFair}
 use Rattle.crew_turns.specs.Reads.{read_all, AllReadsArePresent, ReadsStay}
 

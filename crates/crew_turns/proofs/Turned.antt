@@ -6,8 +6,8 @@ use Rattle.pass_table.specs.Machine.{IsAbove, Last, Flight, Machine, IsChild, Is
 use Rattle.pass_table.proofs.Stale.{same_at, other_at}
 use Rattle.pass_table.proofs.Events.{none_some}
 use Rattle.pass_table.proofs.Valid.{valid_begun}
-use Rattle.one_worker.specs.Turn.{IsIdle, AreChildren, first_flight, read_by_each, read_each}
-use Rattle.one_worker.proofs.Turning.{AreReads, reads_are, node_read, below_read}
+use Rattle.crew_turns.specs.Turn.{IsIdle, AreChildren, first_flight, read_by_each, read_each}
+use Rattle.crew_turns.proofs.Turning.{AreReads, reads_are, node_read, below_read}
 use Rattle.crew_turns.specs.Clear.{IsFair}
 use Rattle.crew_turns.specs.Alike.{AreAlike, ReadsArePresent, turned_at, IsATurn, CommitsAreTurns}
 

@@ -1,7 +1,7 @@
 -- A machine without solves in flight that knows the same as one with some.
 use Rattle.std.specs.Prelude.{◌≡◌, ℕ, Bool, List}
 use Rattle.pass_table.specs.Machine.{IsAbove, Flight, Machine, IsChild, IsFlown, MayBegin, IsValid, begun, committed}
-use Rattle.one_worker.specs.Turn.{IsIdle, AreChildren, first_flight, read_by_each, read_each}
+use Rattle.crew_turns.specs.Turn.{IsIdle, AreChildren, first_flight, read_by_each, read_each}
 use Rattle.crew_turns.specs.Clear.{IsFair}
 
 -- the same nodes, runs, commits and numbers of pools, and last solves of the same commits, with the same points, that saw the same commits

@@ -2,7 +2,7 @@
 use Rattle.std.specs.Prelude.{◌≡◌, ℕ, ◌<◌, Bool, None, Some, List}
 use Rattle.pass_table.specs.Machine.{Flight, Machine, IsLive, IsClosed, IsFlown, IsFlying, MayBegin, IsNext, IsValid, begun, dropped}
 use Rattle.pass_table.specs.Machine.{committed, raised, opened}
-use Rattle.one_worker.specs.Turn.{IsIdle, AreChildren, first_flight, read_by_each, read_each, EndsTurn}
+use Rattle.crew_turns.specs.Turn.{IsIdle, AreChildren, first_flight, read_by_each, read_each, EndsTurn}
 use Rattle.crew_turns.specs.Alike.{AreAlike}
 use Rattle.crew_turns.specs.Reads.{read_all}
 

@@ -1,3 +1,6 @@
+pub mod Turn
+pub mod Work
+pub mod Order
 pub mod Clear
 pub mod Alike
 pub mod Rounds

@@ -2,7 +2,7 @@
 use Rattle.std.specs.Prelude.{ℕ, ◌<◌, Bool, List, [], ◌∷◌}
 use Rattle.pass_table.specs.Machine.{Flight, Machine, IsFlown, IsFlying, IsValid, begun, read_by, read, dropped}
 use Rattle.pass_table.specs.Machine.{committed, raised, opened}
-use Rattle.one_worker.specs.Turn.{AreChildren, first_flight}
+use Rattle.crew_turns.specs.Turn.{AreChildren, first_flight}
 use Rattle.crew_turns.specs.Clear.{IsFair}
 use Rattle.crew_turns.specs.Alike.{ReadsArePresent}
 

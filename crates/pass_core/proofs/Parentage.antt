@@ -22,8 +22,8 @@ use Rattle.pass_table.specs.Machine.{Machine, unsolved, IsLive, IsChild}
 use Rattle.pass_table.specs.declared.table.Table.{Table}
 use Rattle.pass_table.specs.Fits.{IsStart, Fits}
 use Rattle.pass_table.proofs.Valid.{valid_start}
-use Rattle.one_worker.specs.Parents.{AreParents}
-use Rattle.one_worker.specs.Turn.{AreChildren}
+use Rattle.crew_table.specs.Parents.{AreParents}
+use Rattle.crew_turns.specs.Turn.{AreChildren}
 use Rattle.pass_core.specs.declared.state.State.{State}
 use Rattle.pass_core.proofs.Pooling.{empty_length, edited_pools}
 use Rattle.pass_core.specs.Tabled.{pool_number, HasPools, IsUnused, IsTabled, IsTabledBy}

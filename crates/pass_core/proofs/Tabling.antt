@@ -30,8 +30,8 @@ use Rattle.pass_table.specs.Fits.{Fits, IsStart, HasRead}
 use Rattle.pass_table.specs.Readings.{reading_at, AreWithin}
 use Rattle.pass_table.proofs.Stale.{same_at, other_at}
 use Rattle.pass_table.proofs.Valid.{valid_committed, valid_opened}
-use Rattle.one_worker.specs.Turn.{AreChildren, first_flight, read_by_each, read_each, EndsTurn, drops, commits, adds, TakesTurn}
-use Rattle.one_worker.proofs.Turning.{AreReads, node_read, readings_of, has_read, turn_reads, turn_flown, turn_keeps}
+use Rattle.crew_turns.specs.Turn.{AreChildren, first_flight, read_by_each, read_each, EndsTurn, drops, commits, adds, TakesTurn}
+use Rattle.crew_turns.proofs.Turning.{AreReads, node_read, readings_of, has_read, turn_reads, turn_flown, turn_keeps}
 use Rattle.proved_report.specs.declared.open.Open.{Open}
 use Rattle.run_ends.specs.declared.ends.Ends.{Ends}
 use Rattle.run_ends.specs.declared.last.Lasts.{Lasts}

@@ -14,7 +14,7 @@ use Rattle.pass_table.specs.Machine.{Flight, Machine, IsClosed, IsFlown, MayBegi
 use Rattle.pass_table.specs.Machine.{opened}
 use Rattle.pass_table.specs.Fits.{Fits, IsStart, HasRead}
 use Rattle.pass_table.specs.Readings.{AreWithin}
-use Rattle.one_worker.specs.Turn.{IsIdle, first_flight, read_each, read_by_each, EndsTurn, TakesTurn}
+use Rattle.crew_turns.specs.Turn.{IsIdle, first_flight, read_each, read_by_each, EndsTurn, TakesTurn}
 use Rattle.pass_core.specs.declared.state.State.{State}
 use Rattle.pass_core.specs.Explained.{cut_given}
 

@@ -23,7 +23,7 @@ ghost use Rattle.pass_core.specs.Turns.{AreUpTo, KeepsPoints, EndsBy};
 ghost use Rattle.pass_core.specs.Left.{StaysInRun, IsOffered, OffersCut, ends_behind, ends_without, TakesComplete};
 ghost use Rattle.pass_core.specs.Left.{TakesPoint, LeavesNone, LeavesBy, with_offered, offered_banks, KeepsStops, LeavesAnyhow};
 
-use crate::state::{Begun, State};
+use crate::state::{Begun, State, WORKER};
 use cut_pool::Offer;
 use cut_proof::SharedCut;
 use dual_assemble::join_policy;
@@ -104,7 +104,7 @@ impl State {
         ensures others { self.new ≡ record self.old { stop = first_stop self.old.stop stop; table = self.new.table } }
     {
         self.stop_at(stop);
-        self.table.forget();
+        self.table.forget(WORKER);
     }
 
     /// A solve that ended as none does.
@@ -116,7 +116,7 @@ impl State {
         } }
     {
         self.stuck();
-        self.table.forget();
+        self.table.forget(WORKER);
     }
 
     /// A solve that found a point.
@@ -346,7 +346,8 @@ impl State {
             → (is_raised ≡ true → 0 < node) → Fits self.new.table (committed_with m f has_point is_raised) }
     {
         let numbers = self.banks.numbers(self.kind);
-        self.table.commit(numbers, &begun.readings, has_point);
+        self.table
+            .commit(WORKER, numbers, &begun.readings, has_point);
         if is_raised {
             self.table.raise(node);
         }

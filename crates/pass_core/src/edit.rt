@@ -8,17 +8,17 @@ ghost use Rattle.cut_banks.specs.Banks.{fit_banks, swept_banks, edited_banks};
 ghost use Rattle.run_data.specs.Frames.{frame_of};
 ghost use Rattle.pass_core.specs.Versions.{next_version, with_next, next_touch, next_touches, next_versions};
 ghost use Rattle.pass_table.specs.Marks.{nothing};
-ghost use Rattle.one_worker.specs.Parents.{AreParents};
+ghost use Rattle.crew_table.specs.Parents.{AreParents};
 ghost use Rattle.pass_core.specs.Counting.{after_edit};
 ghost use Rattle.pass_core.specs.Explained.{IsUnstopped};
 ghost use Rattle.pass_core.specs.Made.{BankBooks, PoolsAreMade, CutsAreMade, HasShiftOf};
 ghost use Rattle.pass_core.specs.Tabled.{IsTabled, IsUnused};
 
-use crate::state::State;
+use crate::state::{State, WORKERS};
+use crew_table::Crew;
 use cut_defs::{Due, Part, Touch};
 use edit_defs::Touched;
 use frac128::Memory;
-use one_worker::Turns;
 use run_data::Frame;
 use run_ends::{Ends, Lasts};
 use scen_defs::{Kind, Program};
@@ -216,7 +216,7 @@ impl State {
         ensures unused { AreParents self.old.frame.parents → OnOk result (IsUnused self.new) }
         ensures stop { AreParents self.old.frame.parents → OnOk result (self.new.stop ≡ self.old.stop) }
     {
-        let Some(table) = Turns::start(alloc, self.frame.parents())? else {
+        let Some(table) = Crew::start(alloc, self.frame.parents(), WORKERS)? else {
             self.stuck();
             return Ok(());
         };

@@ -20,11 +20,11 @@ ghost use Rattle.pass_core.specs.Turns.{PointsStand, KeepsPoints, IsTaskOf, IsSe
 ghost use Rattle.pass_core.specs.Turns.{Progresses, Rests};
 
 use crate::budget::Budget;
+use crew_table::Crew;
 use cut_banks::Banks;
 use frac128::Memory;
 use node_guess::{Hints, LentHint, solved_node};
 use node_lp::{Solved, Task, fits};
-use one_worker::Turns;
 use pass_table::Reading;
 use proved_report::Open;
 use run_data::{Frame, Versions, datum_of};
@@ -32,6 +32,12 @@ use run_ends::{Ends, Lasts};
 use scen_defs::{Kind, Program};
 use scen_tree::Tree;
 use std::alloc::Global;
+
+/// How many workers there are.
+pub(crate) const WORKERS: u32 = 1;
+
+/// The worker that solves.
+pub(crate) const WORKER: u32 = 0;
 
 /// What the nested method knows of a program.
 ///
@@ -46,7 +52,7 @@ use std::alloc::Global;
 pub struct State {
     pub(crate) frame: Frame,
     pub(crate) budget: Budget,
-    pub(crate) table: Turns,
+    pub(crate) table: Crew,
     pub(crate) kind: Kind,
     pub(crate) banks: Banks,
     /// The last solves of the present run; no places before anything was done.
@@ -131,7 +137,7 @@ impl State {
         ensures untouched { (n : ℕ) → IfOk result (λ all. IfSome all (λ s. version_of s.versions n ≡ untouched)) }
     {
         let frame = Frame::of(alloc, program)?;
-        let Some(table) = Turns::start(alloc, frame.parents())? else {
+        let Some(table) = Crew::start(alloc, frame.parents(), WORKERS)? else {
             return Ok(None);
         };
         let (banks, lasts, versions) = nothing_found(alloc, frame.nodes())?;
@@ -196,7 +202,8 @@ impl State {
             self.open_next(alloc, program, tree)?;
             return Ok(true);
         }
-        match self.table.begin() {
+        self.table.has_workers();
+        match self.table.begin(WORKER) {
             Some(node) => {
                 self.solve(alloc, program, tree, node)?;
                 Ok(true)

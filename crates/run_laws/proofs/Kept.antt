@@ -11,8 +11,8 @@ use Rattle.cut_banks.specs.Banks.{pools_of}
 use Rattle.cut_banks.specs.Pools.{numbers_of}
 use Rattle.node_lp.specs.declared.solved.Solved.{Solved}
 use Rattle.node_lp.specs.declared.solved.Solved.TheVariants as solved
-use Rattle.one_worker.specs.Turn.{first_flight, read_by_each, read_each}
-use Rattle.one_worker.proofs.Turning.{turn_reads}
+use Rattle.crew_turns.specs.Turn.{first_flight, read_by_each, read_each}
+use Rattle.crew_turns.proofs.Turning.{turn_reads}
 use Rattle.pass_table.specs.Machine.{Machine, IsOpen, IsClosed, IsComplete, begun as begun_by, opened}
 use Rattle.pass_table.specs.Marks.{nothing as no_place}
 use Rattle.proved_report.specs.declared.open.Open.{Open}

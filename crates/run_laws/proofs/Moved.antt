@@ -13,7 +13,7 @@ use Rattle.cut_banks.specs.Banks.{pools_of}
 use Rattle.cut_banks.specs.Pools.{numbers_of, cuts_read}
 use Rattle.pass_table.specs.Machine.{next, Last as LastOf, Machine, IsLive, IsChild, IsMade, IsValid}
 use Rattle.pass_table.specs.Fits.{AreRead}
-use Rattle.one_worker.specs.Turn.{AreChildren}
+use Rattle.crew_turns.specs.Turn.{AreChildren}
 use Rattle.run_data.specs.declared.versions.Version.{Version}
 use Rattle.run_data.specs.Frames.{Frame, parent_in, children_in}
 use Rattle.run_ends.specs.declared.last.Last.{Last}

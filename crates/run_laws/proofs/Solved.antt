@@ -27,7 +27,7 @@ use Rattle.node_lp.specs.declared.solved.Solved.TheVariants as solved
 use Rattle.node_lp.specs.Problem.{IsProblem, problem_of, is_priced}
 use Rattle.node_lp.specs.Answers.{value_at_trial, HasCut, PointAnswer, RayAnswer, IsAnswer}
 use Rattle.pass_table.specs.Machine.{Machine, begun, IsLive, HasPoint, IsGood, IsComplete}
-use Rattle.one_worker.specs.Turn.{AreChildren, first_flight, read_by_each, read_each}
+use Rattle.crew_turns.specs.Turn.{AreChildren, first_flight, read_by_each, read_each}
 use Rattle.run_data.specs.Frames.{Frame, frame_of, parent_in, children_in}
 use Rattle.run_ends.specs.declared.last.Last.{Last}
 use Rattle.run_ends.specs.declared.last.Lasts.{Lasts}

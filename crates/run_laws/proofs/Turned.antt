@@ -2,8 +2,8 @@
 use Rattle.std.proofs.Common.{◌≡◌, ℕ, ◌+◌, ◌<◌, Bool, true, false, List, refl, sym, ap, subst, ◌∙◌, arith}
 use Rattle.pass_table.specs.Machine.{IsAbove, Last, Flight, Machine, IsMade, IsValid, IsNext, begun}
 use Rattle.pass_table.proofs.Stale.{same_at, other_at}
-use Rattle.one_worker.specs.Turn.{IsIdle, first_flight, read_by_each, read_each, EndsTurn, drops, commits, adds, TakesTurn}
-use Rattle.one_worker.proofs.Turning.{node_read, turn_reads}
+use Rattle.crew_turns.specs.Turn.{IsIdle, first_flight, read_by_each, read_each, EndsTurn, drops, commits, adds, TakesTurn}
+use Rattle.crew_turns.proofs.Turning.{node_read, turn_reads}
 use Rattle.pass_core.specs.Tabled.{committed_with}
 
 -- node n has another last solve, of the commit that comes next, and no other node has

@@ -8,6 +8,7 @@ use Rattle.pass_core.specs.declared.state.State.{State}
 use Rattle.scen_tree.specs.Trees.{Tree}
 use Rattle.pass_core.specs.Turns.{EndsAnyhow, PutsFirstCuts, OpensAnyhow}
 use Rattle.pass_core.specs.Turns.MakesStep.{begins_none, opens_run}
+use Rattle.crew_turns.proofs.Turning.{none_next}
 use Rattle.pass_core.proofs.Progressing.{ready_progresses, ready_rests}
 use Rattle.pass_core.proofs.Reasoning.{ready_gains}
 use Rattle.pass_core.proofs.Grounding.{opening_stuck}
@@ -46,7 +47,7 @@ returns-in_ok-solve-in-Some-clause-tabled c = λ m frame t.
     let s = c.get_ready.new.self in
     let u : IsTabledBy p s m = ready_tabled p m c.args.self.now s t c.in_ok-get_ready.ensures.others c.in_ok-get_ready.ensures.begun in
     let room : HasRoom m = room_of m s.table u.fits (c.if-not-has_room.ensures.0 refl) in
-    let begins = c.in-Some.ensures m u.valid u.fits (u.idle 0) in
+    let begins = c.in-Some.ensures.fits m u.valid u.fits (u.idle 0) c.has_workers.ensures in
     let b : IsBegunBy p (record s { table = c.begin.new.self }) m c.in-Some.node =
     begun_by p m s c.begin.new.self c.in-Some.node u c.in_ok-get_ready.ensures.begun room begins.0 begins.1 in
     turned EndsAnyhow p m c.in-Some.node c.solve.new.self
@@ -57,8 +58,8 @@ returns-in-None-clause-tabled c = λ m frame t.
     let p = content c.args.program.now in
     let s = c.get_ready.new.self in
     let u : IsTabledBy p s m = ready_tabled p m c.args.self.now s t c.in_ok-get_ready.ensures.others c.in_ok-get_ready.ensures.begun in
-    let none = c.in-None.ensures m u.valid u.fits (u.idle 0) in
-    rested p m (record s { table = c.begin.new.self }) (λ room. none.0) (refit p m s c.begin.new.self u c.in_ok-get_ready.ensures.begun none.1)
+    let none = c.in-None.ensures.fits m u.valid u.fits (u.idle 0) c.has_workers.ensures in
+    rested p m (record s { table = c.begin.new.self }) (λ room. none_next m u.idle none.0) (refit p m s c.begin.new.self u c.in_ok-get_ready.ensures.begun none.1)
 
 pub returns-then-not-has_room-clause-solves : goal.returns-then-not-has_room-clause-solves
 returns-then-not-has_room-clause-solves c = λ m walk frame t stand.
@@ -107,7 +108,7 @@ returns-in_ok-solve-in-Some-clause-solves c = λ m walk frame t stand.
     let s = c.get_ready.new.self in
     let u : IsTabledBy p s m = ready_tabled p m c.args.self.now s t c.in_ok-get_ready.ensures.others c.in_ok-get_ready.ensures.begun in
     let room : HasRoom m = room_of m s.table u.fits (c.if-not-has_room.ensures.0 refl) in
-    let begins = c.in-Some.ensures m u.valid u.fits (u.idle 0) in
+    let begins = c.in-Some.ensures.fits m u.valid u.fits (u.idle 0) c.has_workers.ensures in
     let b : IsBegunBy p (record s { table = c.begin.new.self }) m c.in-Some.node =
     begun_by p m s c.begin.new.self c.in-Some.node u c.in_ok-get_ready.ensures.begun room begins.0 begins.1 in
     step_solved p c.args.self.now s m c.in-Some.node c.solve.new.self c.in_ok-get_ready.ensures.others c.in_ok-get_ready.ensures.ready
@@ -119,9 +120,9 @@ returns-in-None-clause-solves c = λ m walk frame t stand.
     let p = content c.args.program.now in
     let s = c.get_ready.new.self in
     let u : IsTabledBy p s m = ready_tabled p m c.args.self.now s t c.in_ok-get_ready.ensures.others c.in_ok-get_ready.ensures.begun in
-    let none = c.in-None.ensures m u.valid u.fits (u.idle 0) in
+    let none = c.in-None.ensures.fits m u.valid u.fits (u.idle 0) c.has_workers.ensures in
     begins_none (λ room. record {
-      idle = none.0;
+      idle = none_next m u.idle none.0;
       last = λ closed. sym (ap (λ (x : State). x.kind) c.in_ok-get_ready.ensures.others) ∙ (elim c.else-is_closed.branch [
         | else-is_closed-via-then-is_closed+else-ne w ↦ only_cost s.kind w.if-ne.ensures
         | else-is_closed-via-else-is_closed w ↦ let no : false ≡ true = (w.if-is_closed.ensures.meaning m u.fits).1 closed in absurd (cc)

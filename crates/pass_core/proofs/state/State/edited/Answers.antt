@@ -1,7 +1,7 @@
 use Rattle.std.proofs.Common.{◌≡◌, false, ap, ◌∙◌}
 use Rattle.scen_defs.specs.Program.{content}
 use Rattle.cut_banks.specs.Banks.{swept_banks}
-use Rattle.one_worker.specs.Parents.{AreParents}
+use Rattle.crew_table.specs.Parents.{AreParents}
 use Rattle.pass_core.specs.Tabled.{IsTabled, IsUnused}
 use Rattle.pass_core.proofs.Explaining.{on_ok}
 use Rattle.pass_core.proofs.Parentage.{edited_tabled, parents_behind, each_ok}

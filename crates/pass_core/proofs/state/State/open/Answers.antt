@@ -30,7 +30,7 @@ returns-clause-explained c = λ p tree.
 
 pub returns-clause-tabled : goal.returns-clause-tabled
 returns-clause-tabled c = λ p m t z room.
-    run_opened p m c.args.self.now c.put_all.new.self _ t z c.in_ok-put_all.ensures.kept refl refl refl (λ number fits. c.open.ensures m number t.valid fits room)
+    run_opened p m c.args.self.now c.put_all.new.self _ t z c.in_ok-put_all.ensures.kept refl refl refl (λ number fits. c.open.ensures.fits m number t.valid fits room)
 
 pub returns-clause-points : goal.returns-clause-points
 returns-clause-points c = λ p h. none_stand p _ _ c.in_ok-self.ensures

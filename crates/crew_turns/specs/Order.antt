@@ -2,7 +2,7 @@
 -- the root on.
 use Rattle.std.specs.Prelude.{◌≡◌, ◌⊎◌, ◌↔◌, ℕ, ◌+◌, ◌<◌, ◌≤◌, true, false}
 use Rattle.pass_table.specs.Machine.{Machine, MayBegin, IsNext, IsValid}
-use Rattle.one_worker.specs.Turn.{IsIdle, TakesTurn}
+use Rattle.crew_turns.specs.Turn.{IsIdle, TakesTurn}
 
 -- number k comes before number n in rounds that go on from this number: those from it on come first, and then those below it
 abbrev pub ComesFrom : ℕ → ℕ → ℕ → Type 0

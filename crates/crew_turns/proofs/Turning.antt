@@ -6,13 +6,12 @@ use Rattle.std.proofs.lemmas.List.{get_or-map, length-map, get_or_default}
 use Rattle.pass_table.specs.declared.table.Reading.{Reading}
 use Rattle.pass_table.specs.declared.table.Table.{Table}
 use Rattle.pass_table.specs.Machine.{Flight, Machine, IsChild, IsFlown, IsFlying, MayBegin, IsFree, IsNext, HasNoNext, IsValid, with_at, begun, read_by, read, committed}
-use Rattle.pass_table.specs.Fits.{Fits, AnswersBegin, HasRead}
+use Rattle.pass_table.specs.Fits.{Fits, HasRead}
 use Rattle.pass_table.specs.Readings.{reading_at, no_reading, IsRead}
 use Rattle.pass_table.proofs.Stale.{same_at, other_at}
-use Rattle.pass_table.proofs.Begins.{fits_none}
 use Rattle.pass_table.proofs.Valid.{valid_begun, valid_read, valid_committed, valid_dropped, valid_raised}
 use Rattle.pass_table.proofs.ReadLaws.{read_fits}
-use Rattle.one_worker.specs.Turn.{AnswersTurn, IsIdle, AreChildren, first_flight, read_by_each, read_each, EndsTurn, drops, commits, adds, TakesTurn}
+use Rattle.crew_turns.specs.Turn.{IsIdle, AreChildren, first_flight, read_by_each, read_each, EndsTurn, drops, commits, adds, TakesTurn}
 
 -- ---- Reads
 -- what Reads leave as it was, and the flight
@@ -160,20 +159,6 @@ none_next m idle none n may = by (none n (idle_free m n idle may)).1
   where
     by : (k : ℕ) × IsFlying m k → ⊥
     by (k, (w, (f, flown))) = none_flown (m.flight w) f (idle w) flown.flight
-
-pub answers_turn : (m : Machine) (answer : Option ℕ) (t : Table) → IsIdle m → AnswersBegin m 0 answer t → AnswersTurn m answer t
-answers_turn m None t idle h = (none_next m idle h.0, h.1)
-answers_turn m (Some n) t idle h = h
-
-past : {A : Type 0} (xs : List A) (n : ℕ) (d : A) → length xs ≤ n → get_or xs n d ≡ d
-past [] n d out = refl
-past (x ∷ xs) zero d out = absurd (omega (arith, out))
-past (x ∷ xs) (suc n) d out = past xs n d (omega (arith, out))
-
--- a table with a place for one solve in flight fits a machine that has no other one
-pub idle_by_table : (t : Table) (m : Machine) → Fits t m → length t.flights.items ≡ 1 → m.flight 0 ≡ None → IsIdle m
-idle_by_table t m fits one none zero = none
-idle_by_table t m fits one none (suc w) = fits_none m _ _ (past t.flights.items (suc w) None (omega (arith, one))) (fits.agrees.flights (suc w))
 
 -- behind a Begin: no other worker has a solve in flight
 pub begun_others : (m : Machine) (n w : ℕ) → IsIdle m → (w ≡ 0 → ⊥) → (begun m 0 n).flight w ≡ None

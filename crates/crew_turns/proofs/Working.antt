@@ -11,9 +11,9 @@ use Rattle.pass_table.proofs.ReadLaws.{may_read}
 use Rattle.pass_table.proofs.CountBelow.{count_less, count_more}
 use Rattle.pass_table.proofs.Progressing.{progress}
 use Rattle.pass_table.proofs.Valid.{valid_committed}
-use Rattle.one_worker.specs.Turn.{IsIdle, first_flight, read_by_each, read_each}
-use Rattle.one_worker.specs.Work.{TakesVainTurn, VainTurns, none, more}
-use Rattle.one_worker.proofs.Turning.{AreReads, node_read, below_read, turn_reads, turn_flown, idle_free, freed, begun_others}
+use Rattle.crew_turns.specs.Turn.{IsIdle, first_flight, read_by_each, read_each}
+use Rattle.crew_turns.specs.Work.{TakesVainTurn, VainTurns, none, more}
+use Rattle.crew_turns.proofs.Turning.{AreReads, node_read, below_read, turn_reads, turn_flown, idle_free, freed, begun_others}
 
 -- ---- Reads
 -- a stretch goes on by Reads of these pools by the worker's solve, which has none of them left to read

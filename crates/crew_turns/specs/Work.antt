@@ -2,7 +2,7 @@
 use Rattle.std.specs.Prelude.{◌≡◌, ℕ, ◌+◌, ◌*◌, ◌<◌, ◌≤◌, Bool, List}
 use Rattle.pass_table.specs.Machine.{Machine, IsLive, IsNext, IsValid, begun, committed}
 use Rattle.pass_table.specs.Progress.{count_below}
-use Rattle.one_worker.specs.Turn.{IsIdle, AreChildren, first_flight, read_by_each, read_each}
+use Rattle.crew_turns.specs.Turn.{IsIdle, AreChildren, first_flight, read_by_each, read_each}
 
 -- a turn that leaves a last solve of its node and adds no cut
 pub record TakesVainTurn (m k : Machine) : Type 0 where

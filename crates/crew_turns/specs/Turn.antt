@@ -1,14 +1,7 @@
--- A turn of the one worker: it begins the node that is next, reads the pools of the node's children, and commits.
-use Rattle.std.specs.Prelude.{◌≡◌, ◌↔◌, ℕ, ◌<◌, Bool, true, false, Option, Some, None, List, [], ◌∷◌}
+-- A turn of one worker: it begins the node that is next, reads the pools of the node's children, and commits.
+use Rattle.std.specs.Prelude.{◌≡◌, ◌↔◌, ℕ, ◌<◌, Bool, true, false, None, List, [], ◌∷◌}
 use Rattle.std.specs.List.{Contains}
-use Rattle.pass_table.specs.declared.table.Table.{Table}
-use Rattle.pass_table.specs.Machine.{Flight, Machine, IsChild, MayBegin, IsNext, IsValid, begun, read_by, read, dropped, committed, raised}
-use Rattle.pass_table.specs.Fits.{Fits}
-
--- what a Begin of the one worker answers and leaves: the node that is begun next, or that none may be begun
-abbrev pub AnswersTurn : Machine → Option ℕ → Table → Type 0
-AnswersTurn m None t = ((n : ℕ) → MayBegin m n → ⊥) × Fits t m
-AnswersTurn m (Some n) t = IsNext m n × Fits t (begun m 0 n)
+use Rattle.pass_table.specs.Machine.{Flight, Machine, IsChild, IsNext, IsValid, begun, read_by, read, dropped, committed, raised}
 
 -- no solve is in flight
 abbrev pub IsIdle : Machine → Type 0

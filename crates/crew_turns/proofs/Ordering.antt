@@ -7,9 +7,9 @@ use Rattle.pass_table.proofs.Stale.{same_at, other_at, may_before}
 use Rattle.pass_table.proofs.Events.{may_dropped, may_begun, may_raised}
 use Rattle.pass_table.proofs.ReadLaws.{may_read}
 use Rattle.pass_table.proofs.Valid.{valid_committed}
-use Rattle.one_worker.specs.Turn.{IsIdle, first_flight, read_by_each, read_each, EndsTurn, drops, commits, adds, TakesTurn}
-use Rattle.one_worker.specs.Order.{ComesFrom, IsNextFrom, GoesFrom, TurnsGoRound}
-use Rattle.one_worker.proofs.Turning.{AreReads, node_read, turn_reads, turn_flown, idle_free}
+use Rattle.crew_turns.specs.Turn.{IsIdle, first_flight, read_by_each, read_each, EndsTurn, drops, commits, adds, TakesTurn}
+use Rattle.crew_turns.specs.Order.{ComesFrom, IsNextFrom, GoesFrom, TurnsGoRound}
+use Rattle.crew_turns.proofs.Turning.{AreReads, node_read, turn_reads, turn_flown, idle_free}
 
 clash : (b : Bool) → b ≡ true → b ≡ false → ⊥
 clash b t f = false≢true (sym f ∙ t)

@@ -1,4 +1,0 @@
-pub mod Parents
-pub mod Turn
-pub mod Work
-pub mod Order
