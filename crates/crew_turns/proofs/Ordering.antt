@@ -158,17 +158,18 @@ goes_ends m from f added k valid flown live is waits h (adds point low) =
     goes_raised (committed m 0 f point) f.node from (valid_committed m 0 f point valid flown) low live
     (omega (arith, valid.lower f.node low live, is)) (goes_committed m 0 from f point valid flown is waits h)
 
-goes_turn : (m k : Machine) (from : ℕ) → IsValid m → IsIdle m → GoesFrom m from → (turn : TakesTurn m k) → GoesFrom k (turn.node + 1)
-goes_turn m k from valid idle h turn =
+goes_turn : (m k : Machine) (from : ℕ) → IsValid m → IsIdle m → GoesFrom m from → (turn : TakesTurn m k) → IsNext m turn.node
+    → GoesFrom k (turn.node + 1)
+goes_turn m k from valid idle h turn next =
     let n : ℕ = turn.node in
     let c : List ℕ = turn.children in
     let x : Machine = read_each (begun m 0 n) (first_flight m n) c in
-    let reads : AreReads (begun m 0 n) (first_flight m n) c x = turn_reads m n c valid idle turn.next in
+    let reads : AreReads (begun m 0 n) (first_flight m n) c x = turn_reads m n c valid idle turn.may in
     let f : Flight = read_by_each m.number (first_flight m n) c in
     let here : f.node ≡ n = node_read m.number (first_flight m n) c in
     let behind : GoesFrom x (n + 1) = goes_reads (begun m 0 n) (n + 1) (first_flight m n) c (same_at m.flight 0 _ 0 refl)
-    (goes_begun m 0 from n (idle 0) (next_to m from n idle h turn.next) h) in
-    let live : IsLive x f.node = subst (IsLive x) (sym here) (ap (λ (l : ℕ → Bool). l n) reads.live ∙ turn.next.may.live) in
+    (goes_begun m 0 from n (idle 0) (next_to m from n idle h next) h) in
+    let live : IsLive x f.node = subst (IsLive x) (sym here) (ap (λ (l : ℕ → Bool). l n) reads.live ∙ turn.may.live) in
     let waits : x.waits f.node ≡ true = ap (λ (w : ℕ → Bool). w f.node) reads.waits ∙ same_at (cond (m.waits n) (λ (j : ℕ). false) m.waits) n true f.node here in
     goes_ends x (n + 1) f turn.added k reads.valid (turn_flown m n c x reads) live (ap (λ (j : ℕ). j + 1) (sym here)) waits behind turn.ends
 

@@ -5,7 +5,7 @@ use Rattle.std.proofs.lemmas.Bool.{cases_eq}
 use Rattle.std.proofs.lemmas.List.{get_or-map, length-map, get_or_default}
 use Rattle.pass_table.specs.declared.table.Reading.{Reading}
 use Rattle.pass_table.specs.declared.table.Table.{Table}
-use Rattle.pass_table.specs.Machine.{Flight, Machine, IsChild, IsFlown, IsFlying, MayBegin, IsFree, IsNext, HasNoNext, IsValid, with_at, begun, read_by, read, committed}
+use Rattle.pass_table.specs.Machine.{Flight, Machine, IsChild, IsFlown, IsFlying, MayBegin, IsFree, HasNoNext, IsValid, with_at, begun, read_by, read, committed}
 use Rattle.pass_table.specs.Fits.{Fits, HasRead}
 use Rattle.pass_table.specs.Readings.{reading_at, no_reading, IsRead}
 use Rattle.pass_table.proofs.Stale.{same_at, other_at}
@@ -164,10 +164,10 @@ none_next m idle none n may = by (none n (idle_free m n idle may)).1
 pub begun_others : (m : Machine) (n w : ℕ) → IsIdle m → (w ≡ 0 → ⊥) → (begun m 0 n).flight w ≡ None
 begun_others m n w idle ne = other_at m.flight 0 _ w ne ∙ idle w
 
-pub turn_reads : (m : Machine) (n : ℕ) (cs : List ℕ) → IsValid m → IsIdle m → IsNext m n
+pub turn_reads : (m : Machine) (n : ℕ) (cs : List ℕ) → IsValid m → IsIdle m → MayBegin m n
     → AreReads (begun m 0 n) (first_flight m n) cs (read_each (begun m 0 n) (first_flight m n) cs)
-turn_reads m n cs valid idle next =
-    reads_are (begun m 0 n) (first_flight m n) cs (valid_begun m 0 n valid (idle 0) next.may) (same_at m.flight 0 _ 0 refl)
+turn_reads m n cs valid idle may =
+    reads_are (begun m 0 n) (first_flight m n) cs (valid_begun m 0 n valid (idle 0) may) (same_at m.flight 0 _ 0 refl)
 
 -- the solve that read is in flight
 pub turn_flown : (m : Machine) (n : ℕ) (cs : List ℕ) (k : Machine) → AreReads (begun m 0 n) (first_flight m n) cs k
@@ -198,7 +198,7 @@ ends_idle m f added k others (adds point low) = freed m others
 
 pub turn_keeps : (m k : Machine) → IsValid m → IsIdle m → TakesTurn m k → IsValid k × IsIdle k
 turn_keeps m k valid idle turn =
-    let reads = turn_reads m turn.node turn.children valid idle turn.next in (
+    let reads = turn_reads m turn.node turn.children valid idle turn.may in (
       ends_valid _ _ _ k reads.valid (turn_flown m turn.node turn.children _ reads) turn.ends,
       ends_idle _ _ _ k (λ w ne. reads.others w ne ∙ begun_others m turn.node w idle ne) turn.ends,
     )

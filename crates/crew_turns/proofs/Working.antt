@@ -119,7 +119,7 @@ behind m k valid idle turn = subst (λ (x : Machine). IsBehind m x turn.node) (s
     after = committed reached 0 flight turn.point
 
     all : AreReads (begun m 0 turn.node) (first_flight m turn.node) turn.children reached
-    all = turn_reads m turn.node turn.children valid idle turn.next
+    all = turn_reads m turn.node turn.children valid idle turn.next.may
 
     flown : IsFlown reached flight.node 0 flight
     flown = turn_flown m turn.node turn.children reached all
@@ -194,7 +194,7 @@ one_more start m k turns before turn opens = subst (λ (x : Machine). GoesOn sta
     at = read_each (begun m 0 turn.node) (first_flight m turn.node) turn.children
 
     all : AreReads (begun m 0 turn.node) (first_flight m turn.node) turn.children at
-    all = turn_reads m turn.node turn.children before.valid before.idle turn.next
+    all = turn_reads m turn.node turn.children before.valid before.idle turn.next.may
 
     flown : IsFlown at flight.node 0 flight
     flown = turn_flown m turn.node turn.children at all

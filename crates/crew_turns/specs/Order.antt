@@ -23,4 +23,5 @@ pub record TurnsGoRound : Type 0 where
   -- a run begins with the root
   pub start : (m : Machine) → ((n : ℕ) → m.waits n ≡ false) → GoesFrom m 0
   pub next : (m : Machine) (from n : ℕ) → IsIdle m → GoesFrom m from → IsNext m n ↔ IsNextFrom m from n
-  pub turn : (m k : Machine) (from : ℕ) → IsValid m → IsIdle m → GoesFrom m from → (turn : TakesTurn m k) → GoesFrom k (turn.node + 1)
+  pub turn : (m k : Machine) (from : ℕ) → IsValid m → IsIdle m → GoesFrom m from → (turn : TakesTurn m k) → IsNext m turn.node
+      → GoesFrom k (turn.node + 1)

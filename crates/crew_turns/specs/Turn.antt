@@ -1,7 +1,7 @@
--- A turn of one worker: it begins the node that is next, reads the pools of the node's children, and commits.
+-- A turn of one worker: it begins a node that may be begun, reads the pools of the node's children, and commits.
 use Rattle.std.specs.Prelude.{◌≡◌, ◌↔◌, ℕ, ◌<◌, Bool, true, false, None, List, [], ◌∷◌}
 use Rattle.std.specs.List.{Contains}
-use Rattle.pass_table.specs.Machine.{Flight, Machine, IsChild, IsNext, IsValid, begun, read_by, read, dropped, committed, raised}
+use Rattle.pass_table.specs.Machine.{Flight, Machine, IsChild, MayBegin, IsValid, begun, read_by, read, dropped, committed, raised}
 
 -- no solve is in flight
 abbrev pub IsIdle : Machine → Type 0
@@ -35,7 +35,7 @@ pub data EndsTurn (m : Machine) (f : Flight) : Bool → Machine → Type 0 where
 -- a whole turn
 pub record TakesTurn (m k : Machine) : Type 0 where
   pub node : ℕ
-  pub next : IsNext m node
+  pub may : MayBegin m node
   pub children : List ℕ
   pub are_children : AreChildren m node children
   -- whether its cut was added

@@ -49,7 +49,7 @@ module _ (p : Program) (s : State) (i : IsProgram p) where
   is_counted : (new : State) (told : Bool) → MakesStep p s (first_machine p s) new told → new.counts ≡ with_commit s.counts
   is_counted new told (begins_none rests points reasons ready) = absurd ((rests (omega arith, omega arith)).idle 0 root_begins)
   is_counted new told (opens_run closed earlier opens points reasons run first left) = absurd (not_closed closed)
-  is_counted new told (solves lasts n ready node) = node.reasons.counts
+  is_counted new told (solves lasts n ready is_next node) = node.reasons.counts
 
   pub first_counted : (new : State) (told : Bool) → s.frame ≡ frame_of p → s.is_begun ≡ false → IsTabled p s
       → ((m : Machine) → IsTabledBy p s m → MakesStep p s m new told) → new.counts ≡ with_commit s.counts

@@ -11,7 +11,7 @@ use Rattle.node_lp.specs.Tested.{IsToldOf}
 use Rattle.node_lp.specs.Answers.{IsAnswer}
 use Rattle.run_data.specs.Frames.{frame_of}
 use Rattle.pass_table.specs.declared.table.Table.{Table}
-use Rattle.pass_table.specs.Machine.{Machine}
+use Rattle.pass_table.specs.Machine.{Machine, IsNext}
 use Rattle.pass_core.specs.declared.state.Counts.{Counts}
 use Rattle.pass_core.specs.declared.state.State.{State}
 use Rattle.pass_core.specs.Counting.{with_commit}
@@ -110,8 +110,8 @@ task_ready p old s n t e h =
     let k = subst (λ (x : State). IsTaskOf p x n t) e h in record { kind = k.kind; datum = k.datum; trial = k.trial; cuts = k.cuts; pivots = k.pivots }
 
 pub step_solved : (p : Program) (old s : State) (m : Machine) (n : ℕ) (new : State) → s ≡ record old { lasts = s.lasts; is_begun = s.is_begun } → AreReady old s.lasts
-    → SolvesNode p s m n new → MakesStep p old m new true
-step_solved p old s m n new e ready h = solves s.lasts n ready (record {
+    → IsNext m n → SolvesNode p s m n new → MakesStep p old m new true
+step_solved p old s m n new e ready next h = solves s.lasts n ready next (record {
   task = h.task;
   is_task = task_ready p old s n h.task e h.is_task;
   fits = h.fits;

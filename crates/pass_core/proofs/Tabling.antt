@@ -316,12 +316,12 @@ module _ (p : Program) (s : State) (m : Machine) (n : ℕ) (i : IsProgram p) (fr
   read_machine = read_each (begun m 0 n) (first_flight m n) (children_in s.frame n)
 
   pub reads : AreReads (begun m 0 n) (first_flight m n) (children_in s.frame n) read_machine
-  reads = turn_reads m n (children_in s.frame n) b.valid b.idle b.next
+  reads = turn_reads m n (children_in s.frame n) b.valid b.idle b.may
 
   pub are_children : AreChildren m n (children_in s.frame n)
   are_children = subst (λ (g : Frame). AreChildren m n (children_in g n)) (sym frame)
       (children_are p m i b.machine.live (λ k. ap (λ (g : ℕ → ℕ). g k) b.machine.parent ∙ ap (λ (g : Frame). get_or g.parents k 0) frame) n
-      (sym (b.machine.live n) ∙ b.next.may.live))
+      (sym (b.machine.live n) ∙ b.may.live))
 
   pub at_node : begun_flight.node ≡ n
   at_node = node_read m.number (first_flight m n) (children_in s.frame n)
@@ -342,7 +342,7 @@ module _ (p : Program) (s : State) (m : Machine) (n : ℕ) (i : IsProgram p) (fr
       omega (arith, pools_long s.kind, place, long)
 
   pub lives : Lives p n
-  lives = sym (b.machine.live n) ∙ b.next.may.live
+  lives = sym (b.machine.live n) ∙ b.may.live
 
   -- each child has a pool
   pub within_pools : Each (λ (c : ℕ). c < length (pools_of s.kind s.banks)) (children_in s.frame n)
@@ -389,7 +389,7 @@ module _ (p : Program) (s : State) (m : Machine) (n : ℕ) (i : IsProgram p) (fr
   solve_ends Way new e =
       let turn : TakesTurn m e.machine = record {
         node = n;
-        next = b.next;
+        may = b.may;
         children = children_in s.frame n;
         are_children = are_children;
         added = e.added;
@@ -477,12 +477,12 @@ pub room_in : (m : Machine) (table : Table) → Fits table m → HasRoom m → (
 room_in m table fits room = (omega (arith, fits.agrees.commits, room.0), omega (arith, fits.agrees.run, room.1))
 
 -- a node was begun
-pub begun_by : (p : Program) (m : Machine) (s : State) (table : Table) (n : ℕ) → IsTabledBy p s m → s.is_begun ≡ true → HasRoom m → IsNext m n
+pub begun_by : (p : Program) (m : Machine) (s : State) (table : Table) (n : ℕ) → IsTabledBy p s m → s.is_begun ≡ true → HasRoom m → MayBegin m n
     → Fits table (begun m 0 n) → IsBegunBy p (record s { table = table }) m n
-begun_by p m s table n t z room next fits = record {
+begun_by p m s table n t z room may fits = record {
   valid = t.valid;
   idle = t.idle;
-  next = next;
+  may = may;
   fits = fits;
   machine = record { live = t.machine.live; parent = t.machine.parent; number = t.machine.number };
   pools = t.pools;
@@ -500,8 +500,8 @@ opening p m s closed (not_opened stops t) = record { machine = m; step = waits c
 opening p m s closed (is_opened number t) = record { machine = opened m number; step = opens closed number; tabled = t }
 
 -- a node was solved
-pub turned : (Way : Machine → Flight → Bool → Machine → Type 0) (p : Program) (m : Machine) (n : ℕ) (s : State) → EndsBegun Way p m n s → StepsTo p m true s
-turned Way p m n s e = record { machine = e.machine; step = turns e.machine e.turn; tabled = e.tabled }
+pub turned : (Way : Machine → Flight → Bool → Machine → Type 0) (p : Program) (m : Machine) (n : ℕ) (s : State) → IsNext m n → EndsBegun Way p m n s → StepsTo p m true s
+turned Way p m n s next e = record { machine = e.machine; step = turns e.machine e.turn (subst (IsNext m) (sym e.node) next); tabled = e.tabled }
 
 -- the next run opened
 pub run_opened : (p : Program) (m : Machine) (old mid new : State) → IsTabledBy p old m → old.is_begun ≡ true → KeepsTable old mid
@@ -554,7 +554,7 @@ pub begun_counted : (p : Program) (s : State) (m : Machine) (n : ℕ) (counts : 
 begun_counted p s m n counts b = record {
   valid = b.valid;
   idle = b.idle;
-  next = b.next;
+  may = b.may;
   fits = b.fits;
   machine = record { live = b.machine.live; parent = b.machine.parent; number = b.machine.number };
   pools = b.pools;

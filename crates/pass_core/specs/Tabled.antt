@@ -57,12 +57,12 @@ abbrev pub HasRoom : Machine → Type 0
 HasRoom m = (m.commits + 1 < 2 ^ 64) × (m.run + 1 < 2 ^ 64)
 
 -- a step, and whether it is told that something was done: nothing may be begun, or there is no room for it; the run is closed and the
--- next one doesn't open; it opens; or the worker takes a turn
+-- next one doesn't open; it opens; or the worker takes a turn, at the node that is next
 pub data TakesStep (m : Machine) : Bool → Machine → Type 0 where
   rests : (HasRoom m → (n : ℕ) → MayBegin m n → ⊥) → TakesStep m false m
   waits : IsClosed m → TakesStep m true m
   opens : IsClosed m → (number : ℕ → ℕ) → TakesStep m true (opened m number)
-  turns : (k : Machine) → TakesTurn m k → TakesStep m true k
+  turns : (k : Machine) (turn : TakesTurn m k) → IsNext m turn.node → TakesStep m true k
 
 -- the machine took such a step, and the table fits it there
 pub record StepsTo (p : Program) (m : Machine) (told : Bool) (s : State) : Type 0 where
@@ -137,11 +137,11 @@ pub record EndsSolve (Way : Machine → Flight → Bool → Machine → Type 0) 
   pub number : (n : ℕ) → machine.number n ≡ pool_number new n
   pub run : KeepsRun old new
 
--- the node that is next was begun in this machine
+-- a node that may be begun was begun in this machine
 pub record IsBegunBy (p : Program) (s : State) (m : Machine) (n : ℕ) : Type 0 where
   pub valid : IsValid m
   pub idle : IsIdle m
-  pub next : IsNext m n
+  pub may : MayBegin m n
   pub fits : Fits s.table (begun m 0 n)
   pub machine : IsMachineOf p s m
   pub pools : HasPools (length s.frame.parents) s.banks

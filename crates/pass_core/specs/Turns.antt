@@ -27,7 +27,7 @@ use Rattle.node_lp.specs.declared.solved.Solved.TheVariants as solved
 use Rattle.node_lp.specs.Problem.{IsProblem, problem_of}
 use Rattle.node_lp.specs.Tested.{IsToldOf}
 use Rattle.node_lp.specs.Answers.{IsAnswer}
-use Rattle.pass_table.specs.Machine.{Flight, Machine, IsClosed, MayBegin, dropped}
+use Rattle.pass_table.specs.Machine.{Flight, Machine, IsClosed, MayBegin, IsNext, dropped}
 use Rattle.proved_report.specs.declared.open.Open.{Open}
 use Rattle.run_data.specs.declared.versions.Version.{Version}
 use Rattle.run_data.specs.Counts.{version_of}
@@ -245,7 +245,7 @@ pub data OpensAnyhow (p : Program) (old new : State) : Type 0 where
 
 -- a step of a state whose table fits this machine, and whether it is told that something was done: the run is at rest, or there is no
 -- room for another solve, and nothing is found; the run is closed, and the next one opens or something stops the method; or the program
--- of a node is solved, which alone is counted
+-- of the node that is next is solved, which alone is counted
 pub data MakesStep (p : Program) (old : State) (m : Machine) (new : State) : Bool → Type 0 where
   begins_none : (HasRoom m → IsAtRest old m) → PointsStand p new.lasts.nodes.items
       → GainsReasons (λ why. ⊥) old new → StaysReady p old m new → MakesStep p old m new false
@@ -254,7 +254,8 @@ pub data MakesStep (p : Program) (old : State) (m : Machine) (new : State) : Boo
       → (new.stop ≡ None → OpensRun old new)
       → ((tree : Tree) → tree_walk p ≡ Ok tree → new.stop ≡ None → PutsFirstCuts p tree old new)
       → OpensAnyhow p old new → MakesStep p old m new true
-  solves : (lasts : Lasts) (n : ℕ) → AreReady old lasts → SolvesNode p (record old { lasts = lasts }) m n new → MakesStep p old m new true
+  solves : (lasts : Lasts) (n : ℕ) → AreReady old lasts → IsNext m n → SolvesNode p (record old { lasts = lasts }) m n new
+      → MakesStep p old m new true
 
 -- no solve was counted, and something stops the method, or the run behind one that isn't a Cost run is open
 pub record OpensOrStops (old new : State) : Type 0 where

@@ -44,7 +44,7 @@ right_books p i versions = record { plain = λ n l. right run_kind.Cost n _ _ l;
 pub solve_lives : (p : Program) (s new : State) (lasts : Lasts) (m : Machine) (n : ℕ) → IsTabledBy p s m
     → SolvesNode p (record s { lasts = lasts }) m n new → Lives p n
 solve_lives p s new lasts m n table solve =
-    subst (Lives p) solve.ends.node (sym (table.machine.live solve.ends.turn.node) ∙ solve.ends.turn.next.may.live)
+    subst (Lives p) solve.ends.node (sym (table.machine.live solve.ends.turn.node) ∙ solve.ends.turn.may.live)
 
 -- all cuts are made of the data of the program and up to date, and the pools changed at most so often
 pub record IsHeld (p : Program) (most : ℕ) (s : State) : Type 0 where
@@ -165,7 +165,7 @@ module _ (p : Program) (most : ℕ) (i : IsProgram p) (tree : Tree) (t : tree_wa
       go (stays_closed e) = holds_on old new (ap (λ (s : State). s.frame) e) (ap (λ (s : State). s.versions) e) keeps h
           (same_pools old new h (ap (λ (s : State). s.banks) e) (ap (λ (s : State). s.counts) e) (ap (λ (s : State). s.kind) e))
       go (is_open o gets halts) = holds_on old new o.frame o.versions keeps h (opening_pools old new h earlier reasons.counts o (gets tree t))
-  held_step old new m told h table (solves lasts n ready solve) keeps =
+  held_step old new m told h table (solves lasts n ready is_next solve) keeps =
       holds_on old new solve.stays.frame solve.stays.versions keeps h (solve_pools old new lasts m n h table solve)
 
   held_told : (s : State) → IsHeld p most s → IsHeld p most (behind_report s)
@@ -204,7 +204,7 @@ module _ (p : Program) (most : ℕ) (i : IsProgram p) (tree : Tree) (t : tree_wa
       go : Opens p m new → (k : Machine) → IsTabledBy p new k → m.commits ≡ k.commits
       go (not_opened stops now) k fits = same_commits p new m k now fits
       go (is_opened number now) k fits = same_commits p new (opened m number) k now fits
-  step_counted old new m told h table (solves lasts n ready solve) = record {
+  step_counted old new m told h table (solves lasts n ready is_next solve) = record {
     most = λ small k fits.
         let all : new.counts.all ≡ (with_commit old.counts).all = ap (λ (c : Counts). c.all) solve.reasons.counts in
         omega (

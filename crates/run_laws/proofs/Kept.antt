@@ -186,7 +186,7 @@ module _ (p : Program) (tree : Tree) (i : IsProgram p) (few : length p.nodes < n
       by (is_open o gets halts) =
           let stop : new.stop ≡ None = not_stuck new old.budget.solves clear (halts before) in
           run_opens old new m h table closed stop (run stop) (puts tree t stop) opens
-  stepped old new m told h table (solves lasts n ready solve) before clear = by solve.all solve.anyhow.halts solve.ends.way
+  stepped old new m told h table (solves lasts n ready is_next solve) before clear = by solve.all solve.anyhow.halts solve.ends.way
     where
       r : IsReadyState p tree old lasts m
       r = ready_stands p tree old lasts m i few h.frame table (h.stands m table) h.long ready
@@ -207,7 +207,7 @@ module _ (p : Program) (tree : Tree) (i : IsProgram p) (few : length p.nodes < n
           (read_by_each m.number (first_flight m solve.ends.turn.node) solve.ends.turn.children) solve.ends.turn.added solve.ends.machine
           → IsStanding p tree new
       nothing kept (none, e) =
-          let reads = turn_reads m solve.ends.turn.node solve.ends.turn.children table.valid table.idle solve.ends.turn.next in
+          let reads = turn_reads m solve.ends.turn.node solve.ends.turn.children table.valid table.idle solve.ends.turn.may in
           let same : known_of new ≡ known_of (record old { lasts = lasts })
           = same_known old.kind old.frame old.versions lasts.nodes.items old.banks old.ends new.kind new.frame new.versions new.lasts.nodes.items
           new.banks new.ends solve.stays.kind solve.stays.frame solve.stays.versions kept.lasts kept.banks kept.ends in
@@ -251,7 +251,7 @@ module _ (p : Program) (tree : Tree) (i : IsProgram p) (few : length p.nodes < n
       by : OpensAnyhow p old new → new.lasting ≡ None
       by (stays_closed e) = ap (λ (s : State). s.lasting) e ∙ h before
       by (is_open o gets halts) = o.lasting
-  step_lasting old new m told (solves lasts n ready solve) h before stop = solve.anyhow.lasting stop ∙ h before
+  step_lasting old new m told (solves lasts n ready is_next solve) h before stop = solve.anyhow.lasting stop ∙ h before
 
   pub goes_lasting : (most : ℕ) (first s : State) → IsOpening p most first → GoesFrom p first s → s.stop ≡ None → s.lasting ≡ None
   goes_lasting most first s o g = course p first (λ s. s.stop ≡ None → s.lasting ≡ None) (λ budget k b stop. b.lasting)

@@ -51,7 +51,7 @@ module _ (solves_are_used : SolvesAreUsed) (openings_are_made : OpeningsAreMade)
       kept : (n : ℕ) → (old.stop ≡ Some (Solves n)) ⊎ (old.lasting ≡ Some (Solves n)) → ⊥
       kept n (inl k) = h.stop n k
       kept n (inr k) = h.lasting n k
-  stepped old new m told r small open_yet table h (solves lasts n ready solve) = record {
+  stepped old new m told r small open_yet table h (solves lasts n ready is_next solve) = record {
     stop = λ j e. ⊎_elim (λ k. kept j k) (λ k. solves_are_used p old m lasts n new r small table open_yet solve k.1) (solve.reasons.stop (Solves j) e);
     lasting = λ j e. ⊎_elim (h.lasting j) (λ k. k.1) (solve.reasons.lasting (Solves j) e);
   }
@@ -64,7 +64,7 @@ module _ (solves_are_used : SolvesAreUsed) (openings_are_made : OpeningsAreMade)
   step_fewer : (old new : State) (m : Machine) (told : Bool) → MakesStep p old m new told → new.counts.all < 2 ^ 63 → old.counts.all ≤ new.counts.all
   step_fewer old new m told (begins_none rests points reasons ready) small = omega (arith, ap (λ (c : Counts). c.all) reasons.counts)
   step_fewer old new m told (opens_run closed earlier opens points reasons run puts left) small = omega (arith, ap (λ (c : Counts). c.all) reasons.counts)
-  step_fewer old new m told (solves lasts n ready solve) small = omega (arith, small, ap (λ (c : Counts). c.all) solve.reasons.counts)
+  step_fewer old new m told (solves lasts n ready is_next solve) small = omega (arith, small, ap (λ (c : Counts). c.all) solve.reasons.counts)
 
   module _ (i : IsProgram p) (few : length p.nodes < nothing) (tree : Tree) (t : tree_walk p ≡ Ok tree) (most : ℕ) (first : State)
       (o : IsOpening p most first) where

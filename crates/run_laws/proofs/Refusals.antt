@@ -23,7 +23,7 @@ never_refuses p s m lasts n new cut r small table open_yet solve given refuses =
     held = run_held p s r
 
     live : Lives p n
-    live = subst (Lives p) solve.ends.node (sym (table.machine.live solve.ends.turn.node) ∙ solve.ends.turn.next.may.live)
+    live = subst (Lives p) solve.ends.node (sym (table.machine.live solve.ends.turn.node) ∙ solve.ends.turn.may.live)
 
     at_most_two : (k : Kind) → runs_before k ≤ 2
     at_most_two run_kind.Feasible = omega arith

@@ -59,7 +59,7 @@ module _ (p : Program) (i : IsProgram p) where
       }
       by (is_open o gets halts) =
           let stop : new.stop ≡ None = not_stuck new old.budget.solves clear (halts before) in go (run stop) stop opens
-  step_early old new m told h table (solves lasts n ready solve) before clear = record {
+  step_early old new m told h table (solves lasts n ready is_next solve) before clear = record {
     most = λ k t. omega (
       arith,
       h.most m table,

@@ -250,7 +250,7 @@ module _ (p : Program) (tree : Tree) (i : IsProgram p) (few : length p.nodes < n
         ends = subst (EndsShow p) (sym o.ends)
             (record { upper = h.ends.upper; direction = h.ends.direction; lower = h.ends.lower; nowhere = h.ends.nowhere; root = tt });
       }
-  step_shows old new m told h held standing table (solves lasts n ready solve) stop clear =
+  step_shows old new m told h held standing table (solves lasts n ready is_next solve) stop clear =
       solve_shows old new lasts m n (ready_live p old lasts ready h.lasts) h.ends held standing table solve solve.all
       (told_forms old new lasts m n (ready_live p old lasts ready h.lasts) h.ends held standing table solve) solve.answer solve.anyhow.halts
       (λ stop. solve.leaves tree t stop) stop clear
@@ -287,7 +287,7 @@ module _ (p : Program) (tree : Tree) (i : IsProgram p) (few : length p.nodes < n
       go : Opens p m new → HasEnds new
       go (not_opened stops fits) = ends_of_stands new m (h.stands m fits)
       go (is_opened number fits) = ends_of_stands new (opened m number) (h.stands (opened m number) fits)
-  step_ends old new m told before h (solves lasts n ready solve) clear =
+  step_ends old new m told before h (solves lasts n ready is_next solve) clear =
       ends_of_stands new solve.ends.machine (h.stands solve.ends.machine solve.ends.tabled)
 
   goes_end : (first s : State) → IsOpening p most first → GoesFrom p first s → IsClear s → HasEnds s

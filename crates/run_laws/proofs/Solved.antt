@@ -516,7 +516,7 @@ solve_stands p tree i t old new m n frame table long stands solves none =
     go solves.all solves.answer (solves.leaves tree t none) solves.ends.way
   where
     live : Lives p n
-    live = subst (Lives p) solves.ends.node (sym (table.machine.live solves.ends.turn.node) ∙ solves.ends.turn.next.may.live)
+    live = subst (Lives p) solves.ends.node (sym (table.machine.live solves.ends.turn.node) ∙ solves.ends.turn.may.live)
 
     behind : (point : Bool) → solves.ends.machine ≡ committed_with
         (read_each (begun m 0 solves.ends.turn.node) (first_flight m solves.ends.turn.node) solves.ends.turn.children)
@@ -524,7 +524,7 @@ solve_stands p tree i t old new m n frame table long stands solves none =
         → IsTurned m solves.ends.machine n point
     behind point e = subst (λ (j : ℕ). IsTurned m solves.ends.machine j point) solves.ends.node
         (turned m solves.ends.machine solves.ends.turn.node solves.ends.turn.children point solves.ends.turn.added table.valid table.idle
-        solves.ends.turn.next e)
+        solves.ends.turn.may e)
 
     go : (all : Solved) → IsAnswer solves.task all → LeavesBy p tree n solves.task.trial all old new
         → EndsBy solves.task.trial all

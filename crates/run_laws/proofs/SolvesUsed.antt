@@ -32,7 +32,7 @@ solves_are_used p s m lasts n new r small table open_yet solve stuck = go solve.
     frame = (run_stands p s r (unstopped s open_yet)).frame
 
     live : Lives p n
-    live = subst (Lives p) solve.ends.node (sym (table.machine.live solve.ends.turn.node) ∙ solve.ends.turn.next.may.live)
+    live = subst (Lives p) solve.ends.node (sym (table.machine.live solve.ends.turn.node) ∙ solve.ends.turn.may.live)
 
     -- the first cuts of the run
     first : (s.kind ≡ run_kind.Feasible → ⊥) → HasFirstCuts p r.tree (known_of (record s { lasts = lasts }))

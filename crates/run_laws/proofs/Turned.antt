@@ -1,6 +1,6 @@
 -- The machine behind a turn that leaves a last solve.
 use Rattle.std.proofs.Common.{◌≡◌, ℕ, ◌+◌, ◌<◌, Bool, true, false, List, refl, sym, ap, subst, ◌∙◌, arith}
-use Rattle.pass_table.specs.Machine.{IsAbove, Last, Flight, Machine, IsMade, IsValid, IsNext, begun}
+use Rattle.pass_table.specs.Machine.{IsAbove, Last, Flight, Machine, IsMade, MayBegin, IsValid, begun}
 use Rattle.pass_table.proofs.Stale.{same_at, other_at}
 use Rattle.crew_turns.specs.Turn.{IsIdle, first_flight, read_by_each, read_each, EndsTurn, drops, commits, adds, TakesTurn}
 use Rattle.crew_turns.proofs.Turning.{node_read, turn_reads}
@@ -35,11 +35,11 @@ committed_turns m f point false n e = record {
 }
 
 -- behind the Reads of a turn
-pub turned : (m k : Machine) (n : ℕ) (cs : List ℕ) (point added : Bool) → IsValid m → IsIdle m → IsNext m n
+pub turned : (m k : Machine) (n : ℕ) (cs : List ℕ) (point added : Bool) → IsValid m → IsIdle m → MayBegin m n
     → k ≡ committed_with (read_each (begun m 0 n) (first_flight m n) cs) (read_by_each m.number (first_flight m n) cs) point added
     → IsTurned m k n point
-turned m k n cs point added valid idle next e =
-    let reads = turn_reads m n cs valid idle next in
+turned m k n cs point added valid idle may e =
+    let reads = turn_reads m n cs valid idle may in
     let c = committed_turns (read_each (begun m 0 n) (first_flight m n) cs) (read_by_each m.number (first_flight m n) cs) point added n
     (node_read m.number (first_flight m n) cs) in
     subst (λ (k : Machine). IsTurned m k n point) (sym e) (record {
@@ -79,7 +79,7 @@ ends_commits m f added k (adds point low) = refl
 
 pub turn_commits : (m k : Machine) → IsValid m → IsIdle m → TakesTurn m k → k.commits ≡ m.commits + 1
 turn_commits m k valid idle turn =
-    let reads = turn_reads m turn.node turn.children valid idle turn.next in
+    let reads = turn_reads m turn.node turn.children valid idle turn.may in
     ends_commits (read_each (begun m 0 turn.node) (first_flight m turn.node) turn.children)
     (read_by_each m.number (first_flight m turn.node) turn.children) turn.added k turn.ends ∙ ap (λ (x : ℕ). x + 1) reads.commits
 
@@ -93,4 +93,4 @@ pub turn_run : (m k : Machine) → IsValid m → IsIdle m → TakesTurn m k → 
 turn_run m k valid idle turn =
     ends_run (read_each (begun m 0 turn.node) (first_flight m turn.node) turn.children)
     (read_by_each m.number (first_flight m turn.node) turn.children) turn.added k turn.ends
-    ∙ (turn_reads m turn.node turn.children valid idle turn.next).run
+    ∙ (turn_reads m turn.node turn.children valid idle turn.may).run

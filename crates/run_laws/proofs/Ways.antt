@@ -107,7 +107,7 @@ module _ (budget : Budget) (came : ℕ) where
       by : OpensAnyhow p old new → IsCountedBy budget came new
       by (stays_closed e) = counted_on old new (ap (λ (s : State). s.versions) e) (inl reasons.counts) h
       by (is_open o gets halts) = counted_on old new o.versions (inl reasons.counts) h
-  step_counted p old new m told (solves lasts n ready solve) h = counted_on old new solve.stays.versions (inr solve.reasons.counts) h
+  step_counted p old new m told (solves lasts n ready is_next solve) h = counted_on old new solve.stays.versions (inr solve.reasons.counts) h
 
   solves_counted : (p : Program) (old new : State) → SolvesNodes p old new → IsCountedBy budget came old → IsCountedBy budget came new
   solves_counted p old new none h = h

@@ -37,7 +37,7 @@ rests_there p old new m told (begins_none rests points reasons ready) e k t room
     let r = rests (room_too p new m k ready.tabled t room) in
     rests_too p new m k ready.tabled t (record { idle = r.idle; last = λ closed. ready.run.kind ∙ r.last closed })
 rests_there p old new m told (opens_run closed earlier opens points reasons run first left) e k t room = absurd (let no : true ≡ false = e in cc)
-rests_there p old new m told (solves lasts n ready node) e k t room = absurd (let no : true ≡ false = e in cc)
+rests_there p old new m told (solves lasts n ready is_next node) e k t room = absurd (let no : true ≡ false = e in cc)
 
 -- a step is told to do nothing
 pub rest_ends : (p : Program) (old new : State) (told : Bool) → told ≡ false → IsTabled p old

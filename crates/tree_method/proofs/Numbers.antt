@@ -168,7 +168,7 @@ module _ (p : Program) (old : State) where
             | inr i ↦
                 inr (at_opening why mid new m before tabled closed (opens_run closed earlier opens points reasons run first left) i)
           ]
-      go b (solves lasts n ready node) =
+      go b (solves lasts n ready is_next node) =
           elim (gained (IsOfThis mid lasts n node.task node.all) (record mid { lasts = lasts; counts = with_commit mid.counts }) new why node.reasons h) [
             | inl x ↦ kept (rest x)
             | inr i ↦ inr (at_solve mid m lasts n new before ready node why i)
@@ -192,7 +192,7 @@ module _ (p : Program) (old : State) where
       go : (b : Bool) → MakesStep p mid m new b → IsLasting why
       go b (begins_none rests points reasons ready) = by (λ w. ⊥) (reasons.lasting why e)
       go b (opens_run closed earlier opens points reasons run first left) = by (IsBeforeRun p mid) (reasons.lasting why e)
-      go b (solves lasts n ready node) = by (IsOfThis mid lasts n node.task node.all) (node.reasons.lasting why e)
+      go b (solves lasts n ready is_next node) = by (IsOfThis mid lasts n node.task node.all) (node.reasons.lasting why e)
 
   -- what lasts for a run is told of a cut or of a cost
   still_lasts : (new : State) → SolvesNodes p old new → ((why : Open) → old.lasting ≡ Some why → IsLasting why) → (why : Open) → new.lasting ≡ Some why

@@ -145,7 +145,7 @@ step_tabled p old new told step h = let s = step h.0 h.1 in (s.machine, s.tabled
 step_points : (p : Program) (old new : State) (m : Machine) (told : Bool) → MakesStep p old m new told → PointsStand p new.lasts.nodes.items
 step_points p old new m told (begins_none rests points reasons ready) = points
 step_points p old new m told (opens_run closed earlier opens points reasons run first left) = points
-step_points p old new m told (solves lasts n ready node) = node.points
+step_points p old new m told (solves lasts n ready is_next node) = node.points
 
 pub steps_points : (p : Program) (old new : State) (told : Bool)
     → ((m : Machine) → IsTabledBy p old m → PointsStand p old.lasts.nodes.items → MakesStep p old m new told)
@@ -157,7 +157,7 @@ step_counts : (p : Program) (old new : State) (m : Machine) (told : Bool) → Ma
     → (new.counts ≡ old.counts) ⊎ (new.counts ≡ with_commit old.counts)
 step_counts p old new m told (begins_none rests points reasons ready) = inl reasons.counts
 step_counts p old new m told (opens_run closed earlier opens points reasons run first left) = inl reasons.counts
-step_counts p old new m told (solves lasts n ready node) = inr node.reasons.counts
+step_counts p old new m told (solves lasts n ready is_next node) = inr node.reasons.counts
 
 -- where something is left to find, so many solves aren't counted yet as are allowed
 not_spent : (stop : Option Open) (counted allowed : ℕ) → ended stop counted allowed ≡ None → counted < allowed

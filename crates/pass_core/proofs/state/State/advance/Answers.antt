@@ -49,8 +49,8 @@ returns-in_ok-solve-in-Some-clause-tabled c = λ m frame t.
     let room : HasRoom m = room_of m s.table u.fits (c.if-not-has_room.ensures.0 refl) in
     let begins = c.in-Some.ensures.fits m u.valid u.fits (u.idle 0) c.has_workers.ensures in
     let b : IsBegunBy p (record s { table = c.begin.new.self }) m c.in-Some.node =
-    begun_by p m s c.begin.new.self c.in-Some.node u c.in_ok-get_ready.ensures.begun room begins.0 begins.1 in
-    turned EndsAnyhow p m c.in-Some.node c.solve.new.self
+    begun_by p m s c.begin.new.self c.in-Some.node u c.in_ok-get_ready.ensures.begun room begins.0.may begins.1 in
+    turned EndsAnyhow p m c.in-Some.node c.solve.new.self begins.0
     (c.in_ok-solve-in-Some.ensures.tabled m (ap (λ (x : State). x.frame) c.in_ok-get_ready.ensures.others ∙ frame) b)
 
 pub returns-in-None-clause-tabled : goal.returns-in-None-clause-tabled
@@ -110,8 +110,8 @@ returns-in_ok-solve-in-Some-clause-solves c = λ m walk frame t stand.
     let room : HasRoom m = room_of m s.table u.fits (c.if-not-has_room.ensures.0 refl) in
     let begins = c.in-Some.ensures.fits m u.valid u.fits (u.idle 0) c.has_workers.ensures in
     let b : IsBegunBy p (record s { table = c.begin.new.self }) m c.in-Some.node =
-    begun_by p m s c.begin.new.self c.in-Some.node u c.in_ok-get_ready.ensures.begun room begins.0 begins.1 in
-    step_solved p c.args.self.now s m c.in-Some.node c.solve.new.self c.in_ok-get_ready.ensures.others c.in_ok-get_ready.ensures.ready
+    begun_by p m s c.begin.new.self c.in-Some.node u c.in_ok-get_ready.ensures.begun room begins.0.may begins.1 in
+    step_solved p c.args.self.now s m c.in-Some.node c.solve.new.self c.in_ok-get_ready.ensures.others c.in_ok-get_ready.ensures.ready begins.0
     (solves_before p s c.begin.new.self m c.in-Some.node c.solve.new.self
     (c.in_ok-solve-in-Some.ensures.solves m walk (ap (λ (x : State). x.frame) c.in_ok-get_ready.ensures.others ∙ frame) b (c.in_ok-get_ready.ensures.points p stand)))
 
