@@ -6,34 +6,19 @@ ghost use Rattle.scen_defs.specs.Program.{node_at, node_content, no_node, nodes_
 ghost use Rattle.edit_defs.specs.After.{copies, copy, new_path};
 
 use frac128::{Form, Memory};
-use scen_defs::{Node, NodeRow};
+use scen_copies::copied_node_rows;
+use scen_defs::Node;
 use std::alloc::Global;
 
 /// So many places of nodes a program has at most where a scenario is added: there are at most 16 new ones, and numbers have 32 bits.
 const MOST_PLACES: usize = u32::MAX as usize - 16;
-
-fn copied_rows(alloc: Global, rows: &[NodeRow]) -> Result<Vec<NodeRow>, Memory>
-    ensures { IfOk result (λ all. all.items ≡ rows.now) }
-{
-    let mut all = Vec::new(alloc);
-    for row in rows {
-        let entries = row.entries.copy(alloc)?;
-        all.push(NodeRow {
-            row: row.row,
-            entries,
-            low: row.low,
-            high: row.high,
-        })?;
-    }
-    Ok(all)
-}
 
 /// A copy of a node below another parent.
 fn copied(alloc: Global, node: &Node, above: Option<u32>) -> Result<Node, Memory>
     ensures { IfOk result (λ new. node_content new ≡ record (node_content node.now) { parent = above }) }
 {
     let cost = node.cost.copy(alloc)?;
-    let rows = copied_rows(alloc, &node.rows)?;
+    let rows = copied_node_rows(alloc, &node.rows)?;
     Ok(Node {
         stage: node.stage,
         parent: above,

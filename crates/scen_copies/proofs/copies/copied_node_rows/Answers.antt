@@ -3,7 +3,7 @@ use Rattle.std.proofs.Common.{◌≡◌, ◌∙◌, ◌+◌, ◌++◌, ◌∷◌
 use Rattle.rationals.specs.Sparse.{Entry}
 use Rattle.scen_defs.specs.declared.program.NodeRow.{NodeRow}
 use Rattle.scen_defs.proofs.NodeReads.{drop_read}
-use Rattle.edit_apply.proofs.copies.copied_rows.Goals as goal
+use Rattle.scen_copies.proofs.copies.copied_node_rows.Goals as goal
 
 pub loop-row-preserved : goal.loop-row-preserved
 loop-row-preserved c =

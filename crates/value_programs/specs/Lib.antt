@@ -1,0 +1,4 @@
+pub mod Line
+pub mod OneScenario
+pub mod Fixed
+pub mod Mean

@@ -1,0 +1,166 @@
+// The least costs of programs of scenarios, of means, and with a fixed first period.
+use frac128::{Form, Frac, Memory, parse};
+use sample_programs::{COVER, Source, read_source};
+use scen_defs::{Finding, Program};
+use scen_tree::Tree;
+use smps_session::{StatedLimits, session};
+use std::alloc::Global;
+use std::process::Abort;
+use std::test::Fail;
+use value_programs::{fixed_program, mean_program, scenario_program};
+
+const FARMER_CORE: &str = "\
+NAME FARMER
+ROWS
+ N COST
+ L LAND
+ G REQW
+ G REQC
+ L SUPB
+COLUMNS
+ WHEAT COST 150 LAND 1
+ WHEAT REQW 2.5
+ CORN COST 230 LAND 1
+ CORN REQC 3
+ BEETS COST 260 LAND 1
+ BEETS SUPB -20
+ WBUY COST 238 REQW 1
+ WSELL COST -170 REQW -1
+ CBUY COST 210 REQC 1
+ CSELL COST -150 REQC -1
+ BSELL COST -36 SUPB 1
+ BLOW COST -10 SUPB 1
+RHS
+ RHS LAND 500 REQW 200
+ RHS REQC 240
+BOUNDS
+ UP BND BSELL 6000
+ENDATA
+";
+
+const FARMER_TIME: &str = "\
+TIME FARMER
+PERIODS LP
+ WHEAT LAND P1
+ WBUY REQW P2
+ENDATA
+";
+
+const FARMER_STOCH: &str = "\
+STOCH FARMER
+BLOCKS DISCRETE
+ BL YIELD P2 .333333
+ WHEAT REQW 3.0
+ CORN REQC 3.6
+ BEETS SUPB -24
+ BL YIELD P2 .333333
+ WHEAT REQW 2.5
+ CORN REQC 3.0
+ BEETS SUPB -20
+ BL YIELD P2 .333333
+ WHEAT REQW 2.0
+ CORN REQC 2.4
+ BEETS SUPB -16
+ENDATA
+";
+
+/// The farmer's problem of Birge and Louveaux: wheat, corn and beets are sown, then yields are seen.
+const FARMER: Source<'static> = Source {
+    core: FARMER_CORE,
+    time: FARMER_TIME,
+    stoch: FARMER_STOCH,
+};
+
+/// What is wanted of a program.
+struct Wanted {
+    source: Source<'static>,
+    /// The least cost of each scenario by itself.
+    scenarios: &'static [&'static str],
+    /// That of the means.
+    means: &'static str,
+    /// The columns of the first period as the means decide them.
+    first: &'static [(u64, &'static str)],
+    /// The least cost where they are fixed.
+    fixed: &'static str,
+}
+
+/// A demand of 2 or 6 costs as much where it is known, and 4 in the mean; 4 cost 4, and 2 more cost 3 with probability 1/2.
+const COVER_WANTED: Wanted = Wanted {
+    source: COVER,
+    scenarios: &["2", "6"],
+    means: "4",
+    first: &[(0, "4")],
+    fixed: "11/2",
+};
+
+/// As published: a profit of 167,667, 118,600 and 59,950 where the yield is known; 118,600 at the mean yield, by 120, 80 and 300 acres;
+/// 107,240 where these are sown.
+const FARMER_WANTED: Wanted = Wanted {
+    source: FARMER,
+    scenarios: &["-503000/3", "-118600", "-59950"],
+    means: "-118600",
+    first: &[(0, "120"), (1, "80"), (2, "300")],
+    fixed: "-107240",
+};
+
+/// The least cost of a program.
+fn least_cost(alloc: Global, program: &Program) -> Result<Frac, Fail> {
+    let stated = StatedLimits {
+        solves: false,
+        pivots: false,
+    };
+    let answered = session(alloc, program, 100_000, 100_000, stated)?;
+    match answered.report.finding {
+        Finding::Optimal => Ok(answered.report.lower.ok_or("no end")?),
+        _ => Err(Fail::from("no optimum")),
+    }
+}
+
+fn expect_cost(alloc: Global, program: &Program, wanted: &str) -> Result<(), Fail> {
+    let cost = least_cost(alloc, program)?;
+    if cost == parse(wanted.as_bytes())? {
+        Ok(())
+    } else {
+        Err(Fail::from("another cost"))
+    }
+}
+
+/// The form with one value.
+fn single(rt: &impl Abort, alloc: Global, column: u64, value: Frac) -> Result<Form, Memory> {
+    assert!(rt; !value.is_zero());
+    let mut form = Form::empty(alloc);
+    form.push(column, value)?;
+    Ok(form)
+}
+
+fn expect(rt: &impl Abort, alloc: Global, wanted: &Wanted) -> Result<(), Fail> {
+    let read = read_source(alloc, wanted.source)?;
+    let program = read.ok_or("it isn't read")?;
+    for (place, cost) in wanted.scenarios.iter().enumerate() {
+        if place >= program.scenarios.len() {
+            return Err(Fail::from("too few scenarios"));
+        }
+        let only = scenario_program(alloc, &program, place)?;
+        expect_cost(alloc, &only, cost)?;
+    }
+    let tree = Tree::of(alloc, &program)?;
+    let means = mean_program(alloc, &program, &tree)?;
+    expect_cost(alloc, &means, wanted.means)?;
+    let mut first = Form::empty(alloc);
+    for (column, value) in wanted.first {
+        let one = single(rt, alloc, *column, parse(value.as_bytes())?)?;
+        first = first.add_scaled(Frac::one(), &one)?;
+    }
+    let held = fixed_program(alloc, &program, &first)?;
+    expect_cost(alloc, &held, wanted.fixed)
+}
+
+#[test]
+fn cover_is_valued(rt: HostRuntime) -> Result<(), Fail> {
+    expect(&rt, rt.alloc(), &COVER_WANTED)
+}
+
+#[test]
+fn the_farm_is_valued(rt: HostRuntime) -> Result<(), Fail> {
+    expect(&rt, rt.alloc(), &FARMER_WANTED)
+}
