@@ -151,7 +151,7 @@ goes_raised m q from valid low live early h = record {
 
 -- ---- a whole turn
 goes_ends : (m : Machine) (from : ℕ) (f : Flight) (added : Bool) (k : Machine) → IsValid m → IsFlown m f.node 0 f → IsLive m f.node
-    → from ≡ f.node + 1 → m.waits f.node ≡ true → GoesFrom m from → EndsTurn m f added k → GoesFrom k from
+    → from ≡ f.node + 1 → m.waits f.node ≡ true → GoesFrom m from → EndsTurn 0 m f added k → GoesFrom k from
 goes_ends m from f added k valid flown live is waits h drops = goes_dropped m 0 from f flown.flight waits h
 goes_ends m from f added k valid flown live is waits h (commits point) = goes_committed m 0 from f point valid flown is waits h
 goes_ends m from f added k valid flown live is waits h (adds point low) =

@@ -1,5 +1,5 @@
 -- What Reads leave, what a commit is given behind them, and that a turn keeps a machine valid and idle.
-use Rattle.std.proofs.Common.{◌≡◌, ℕ, zero, suc, ◌<◌, ◌≤◌, ◌⊎◌, inl, inr, Bool, Option, Some, None, List, [], ◌∷◌, length, get_or, map, arith, refl, sym, ap, subst, ◌∙◌}
+use Rattle.std.proofs.Common.{◌≡◌, ℕ, zero, suc, ◌<◌, ◌⊎◌, inl, inr, Bool, Option, Some, None, List, [], ◌∷◌, length, get_or, map, arith, refl, sym, ap, subst, ◌∙◌}
 use Rattle.std.specs.List.{Contains}
 use Rattle.std.proofs.lemmas.Bool.{cases_eq}
 use Rattle.std.proofs.lemmas.List.{get_or-map, length-map, get_or_default}
@@ -179,7 +179,7 @@ turn_flown m n cs k reads = record {
 }
 
 -- a turn keeps a machine valid, and leaves no solve in flight
-ends_valid : (m : Machine) (f : Flight) (added : Bool) (k : Machine) → IsValid m → IsFlown m f.node 0 f → EndsTurn m f added k → IsValid k
+ends_valid : (m : Machine) (f : Flight) (added : Bool) (k : Machine) → IsValid m → IsFlown m f.node 0 f → EndsTurn 0 m f added k → IsValid k
 ends_valid m f added k valid flown drops = valid_dropped m 0 valid
 ends_valid m f added k valid flown (commits point) = valid_committed m 0 f point valid flown
 ends_valid m f added k valid flown (adds point low) = valid_raised (committed m 0 f point) f.node (valid_committed m 0 f point valid flown)
@@ -191,7 +191,7 @@ freed m others w = go (cases_eq w 0)
     go (inl same) = same_at m.flight 0 None w same
     go (inr ne) = other_at m.flight 0 None w ne ∙ others w ne
 
-ends_idle : (m : Machine) (f : Flight) (added : Bool) (k : Machine) → ((w : ℕ) → (w ≡ 0 → ⊥) → m.flight w ≡ None) → EndsTurn m f added k → IsIdle k
+ends_idle : (m : Machine) (f : Flight) (added : Bool) (k : Machine) → ((w : ℕ) → (w ≡ 0 → ⊥) → m.flight w ≡ None) → EndsTurn 0 m f added k → IsIdle k
 ends_idle m f added k others drops = freed m others
 ends_idle m f added k others (commits point) = freed m others
 ends_idle m f added k others (adds point low) = freed m others

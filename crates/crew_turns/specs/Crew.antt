@@ -35,7 +35,7 @@ pub data CrewRuns (start : Machine) : Machine → Type 0 where
 pub data TurnRuns (start : Machine) : Machine → Type 0 where
   nothing : TurnRuns start start
   turns : (k j : Machine) (n : ℕ) (children : List ℕ) (added : Bool) → TurnRuns start k → MayBegin k n → AreChildren k n children
-      → EndsTurn (read_each (begun k 0 n) (first_flight k n) children) (read_by_each k.number (first_flight k n) children) added j
+      → EndsTurn 0 (read_each (begun k 0 n) (first_flight k n) children) (read_by_each k.number (first_flight k n) children) added j
       → TurnRuns start j
   drops : (k : Machine) → TurnRuns start k → TurnRuns start (dropped k 0)
   adds_late : (k : Machine) (pool : ℕ) → TurnRuns start k → 0 < pool → IsLive k pool → TurnRuns start (raised (dropped k 0) pool)

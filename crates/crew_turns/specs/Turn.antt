@@ -27,10 +27,10 @@ read_each m f (c ∷ cs) = read_each (read m 0 f c) (read_by f c (m.number c)) c
 
 -- how the worker's solve ends, and whether the number of its node's pool rises: it leaves no last solve; it is its node's last solve
 -- from now on; or it is, and its cut was added
-pub data EndsTurn (m : Machine) (f : Flight) : Bool → Machine → Type 0 where
-  drops : EndsTurn m f false (dropped m 0)
-  commits : (point : Bool) → EndsTurn m f false (committed m 0 f point)
-  adds : (point : Bool) → 0 < f.node → EndsTurn m f true (raised (committed m 0 f point) f.node)
+pub data EndsTurn (worker : ℕ) (m : Machine) (f : Flight) : Bool → Machine → Type 0 where
+  drops : EndsTurn worker m f false (dropped m worker)
+  commits : (point : Bool) → EndsTurn worker m f false (committed m worker f point)
+  adds : (point : Bool) → 0 < f.node → EndsTurn worker m f true (raised (committed m worker f point) f.node)
 
 -- a whole turn
 pub record TakesTurn (m k : Machine) : Type 0 where
@@ -40,7 +40,7 @@ pub record TakesTurn (m k : Machine) : Type 0 where
   pub are_children : AreChildren m node children
   -- whether its cut was added
   pub added : Bool
-  pub ends : EndsTurn (read_each (begun m 0 node) (first_flight m node) children)
+  pub ends : EndsTurn 0 (read_each (begun m 0 node) (first_flight m node) children)
       (read_by_each m.number (first_flight m node) children) added k
 
 -- a turn keeps a machine valid, and leaves no solve in flight

@@ -39,7 +39,7 @@ use Rattle.pass_core.specs.declared.state.State.{State}
 use Rattle.pass_core.specs.Counting.{first_stop, first_or, after_answer}
 use Rattle.run_ends.specs.Ends.{raises, greater_end, after_root, after_policy}
 use Rattle.run_ends.specs.Lasts.{with_last, kept}
-use Rattle.pass_core.specs.Explained.{IsTask, ComesOfSolve, cut_given, point_found, GivesCut, FindsPoint, PointsAreFound, IsCutOfSolve, AreOfSolves}
+use Rattle.pass_core.specs.Explained.{IsTask, ComesOfSolve, GivesCut, FindsPoint, PointsAreFound, IsCutOfSolve, AreOfSolves}
 use Rattle.pass_core.specs.Explained.{PassesInOffer, FailsToOpen, PassesInRun}
 use Rattle.pass_core.specs.Explained.{IsExplained, AreExplained, IsUnstopped, KeepsExplained}
 

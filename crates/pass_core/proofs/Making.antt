@@ -52,7 +52,7 @@ use Rattle.cut_proof.specs.declared.child.ChildCuts.{ChildCuts}
 use Rattle.node_lp.specs.declared.task.Task.{Task}
 use Rattle.node_lp.specs.declared.solved.Solved.{Solved}
 use Rattle.node_lp.specs.declared.solved.Solved.TheVariants as solved
-use Rattle.node_lp.specs.Problem.{is_priced, is_taken, problem_of}
+use Rattle.node_lp.specs.Problem.{is_priced, is_taken}
 use Rattle.node_lp.specs.Stored.{stored_uses}
 use Rattle.node_lp.specs.Told.{stored_of, stored_cuts, cut_made, with_cut, told, told_of}
 use Rattle.node_lp.specs.Tested.{IsToldOf}

@@ -46,7 +46,7 @@ pub solved_by : (p : Program) (tree : Tree) (s : State) (counts : Counts) (m : M
     (t : Task) (all : Solved) (new : State) {X E : Type 0} (r : Result X E)
     → counts ≡ with_commit s.counts → IsTaskOf p s n t → IsProblem (problem_of t) → PointsStand p s.lasts.nodes.items → IsToldOf t all
     → IsAnswer t all
-    → OnOk r (EndsSolve (EndsBy t.trial all) (record s { counts = counts }) new (read_machine p (record s { counts = counts }) m n i frame b)
+    → OnOk r (EndsSolve 0 (EndsBy 0 t.trial all) (record s { counts = counts }) new (read_machine p (record s { counts = counts }) m n i frame b)
     (begun_flight p (record s { counts = counts }) m n i frame b)) → OnOk r (KeepsPoints p (record s { counts = counts }) new)
     → OnOk r (GainsReasons (IsOfSolve counts.all s.budget.solves all (solve_halts s.kind s.banks n t.trial all
     (PassesAtCost p tree s.lasts.nodes.items n t.trial all))) (record s { counts = counts }) new)
@@ -58,7 +58,7 @@ solved_by p tree s counts m n i walk frame b t all new r raised task problem sta
     let rm = read_machine p counted m n i frame b in
     let bf = begun_flight p counted m n i frame b in
     let halts = solve_halts s.kind s.banks n t.trial all (PassesAtCost p tree s.lasts.nodes.items n t.trial all) in
-    on_six r (EndsSolve (EndsBy t.trial all) counted new rm bf) (KeepsPoints p counted new)
+    on_six r (EndsSolve 0 (EndsBy 0 t.trial all) counted new rm bf) (KeepsPoints p counted new)
     (GainsReasons (IsOfSolve counts.all s.budget.solves all halts) counted new) (StaysInRun counted new)
     (new.stop ≡ None → LeavesBy p tree n t.trial all counted new) (LeavesAnyhow n t.trial all counted new)
     (SolvesNode p s m n new)
@@ -68,7 +68,7 @@ solved_by p tree s counts m n i walk frame b t all new r raised task problem sta
       fits = problem;
       all = all;
       told = exact;
-      ends = solve_ends p counted m n i frame b (EndsBy t.trial all) new e;
+      ends = solve_ends p counted m n i frame b (EndsBy 0 t.trial all) new e;
       points = k stand;
       reasons = subst (λ (c : Counts). GainsReasons (IsOfSolve c.all s.budget.solves all
           (node_halts p s n t.trial all)) (record s { counts = c }) new) raised

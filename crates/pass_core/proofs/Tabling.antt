@@ -39,7 +39,7 @@ use Rattle.pass_core.specs.declared.state.Counts.{Counts}
 use Rattle.pass_core.specs.declared.state.State.{State}
 use Rattle.pass_core.specs.Counting.{is_added, after_answer, after_report}
 use Rattle.pass_core.specs.Turns.{EndsAnyhow, EndsBy}
-use Rattle.pass_core.specs.Tabled.{pool_number, HasPools, IsTabledBy, KeepsRun, KeepsTable, KeepsPools, RaisesPool, Drops, IsSolving, committed_with, EndsSolve, IsBegunBy, EndsBegun, Opens, HasRoom, StepsTo, GoesBySteps}
+use Rattle.pass_core.specs.Tabled.{pool_number, HasPools, IsTabledBy, KeepsRun, KeepsTable, KeepsPools, RaisesPool, Drops, IsSolving, committed_by, EndsSolve, IsBegunBy, EndsBegun, Opens, HasRoom, StepsTo, GoesBySteps}
 use Rattle.pass_core.specs.Tabled.TakesStep.{rests, waits, opens, turns}
 use Rattle.pass_core.specs.Tabled.TakesSteps.{stays, goes}
 use Rattle.pass_core.specs.Tabled.Opens.{not_opened, is_opened}
@@ -179,15 +179,15 @@ module _ (old : State) (cut : Stored) (trial : List Entry) (n : ℕ) where
 
 -- ---- the end of a solve
 -- what a table leaves where it forgets the solve in flight
-pub drop_by : (old mid new : Table) → mid ≡ old → ((m : Machine) (f : Flight) → IsValid m → Fits mid m → m.flight 0 ≡ Some f → IsLive m f.node → m.commits + 1 < 2 ^ 64
-    → Fits new (dropped m 0)) → Drops old new
-drop_by old mid new e h m f valid fits flown room = h m f valid (subst (λ (t : Table). Fits t m) (sym e) fits) flown.flight (valid.flown_live f.node 0 f flown) room
+pub drop_by : (w : ℕ) (old mid new : Table) → mid ≡ old → ((m : Machine) (f : Flight) → IsValid m → Fits mid m → m.flight w ≡ Some f → IsLive m f.node → m.commits + 1 < 2 ^ 64
+    → Fits new (dropped m w)) → Drops w old new
+drop_by w old mid new e h m f valid fits flown room = h m f valid (subst (λ (t : Table). Fits t m) (sym e) fits) flown.flight (valid.flown_live f.node w f flown) room
 
 -- no last solve is left
-pub drop_ends : (Way : Machine → Flight → Bool → Machine → Type 0) (old new : State) (m : Machine) (f : Flight) (rs : List Reading) → IsSolving old m f rs → ((k : ℕ) → m.number k ≡ pool_number old k)
-    → Drops old.table new.table → KeepsRun old new → ((k : ℕ) → pool_number new k ≡ pool_number old k) → Way m f false (dropped m 0) → EndsSolve Way old new m f
-drop_ends Way old new m f rs s number drop run same way = record {
-  machine = dropped m 0;
+pub drop_ends : (w : ℕ) (Way : Machine → Flight → Bool → Machine → Type 0) (old new : State) (m : Machine) (f : Flight) (rs : List Reading) → IsSolving old w m f rs → ((k : ℕ) → m.number k ≡ pool_number old k)
+    → Drops w old.table new.table → KeepsRun old new → ((k : ℕ) → pool_number new k ≡ pool_number old k) → Way m f false (dropped m w) → EndsSolve w Way old new m f
+drop_ends w Way old new m f rs s number drop run same way = record {
+  machine = dropped m w;
   added = false;
   ends = drops;
   way = way;
@@ -197,36 +197,36 @@ drop_ends Way old new m f rs s number drop run same way = record {
 }
 
 -- a table commits, and the number of the node's pool rises, where that is told
-pub commit_fits : (told point : Bool) (n : ℕ) (s : State) (m : Machine) (f : Flight) (rs : List Reading) (mid new : Table) → IsSolving s m f rs → f.node ≡ n
+pub commit_fits : (w : ℕ) (told point : Bool) (n : ℕ) (s : State) (m : Machine) (f : Flight) (rs : List Reading) (mid new : Table) → IsSolving s w m f rs → f.node ≡ n
     → (told ≡ true → 0 < n)
-    → ((m : Machine) (f : Flight) → IsValid m → Fits s.table m → IsFlown m f.node 0 f → HasRead m f (numbers_of (pools_of s.kind s.banks)) rs
-    → AreWithin rs (length (numbers_of (pools_of s.kind s.banks))) → m.commits + 1 < 2 ^ 64 → Fits mid (committed m 0 f point))
+    → ((m : Machine) (f : Flight) → IsValid m → Fits s.table m → IsFlown m f.node w f → HasRead m f (numbers_of (pools_of s.kind s.banks)) rs
+    → AreWithin rs (length (numbers_of (pools_of s.kind s.banks))) → m.commits + 1 < 2 ^ 64 → Fits mid (committed m w f point))
     → (told ≡ true → (m : Machine) → IsValid m → Fits mid m → IsLive m n → 0 < n → Fits new (raised m n)) → (told ≡ false → new ≡ mid)
-    → Fits new (committed_with m f point told)
-commit_fits true point n s m f rs mid new solving node low commit raise same =
-    subst (λ (k : ℕ). Fits new (raised (committed m 0 f point) k)) (sym node)
-    (raise refl (committed m 0 f point) (valid_committed m 0 f point solving.valid solving.flown)
+    → Fits new (committed_by w m f point told)
+commit_fits w true point n s m f rs mid new solving node low commit raise same =
+    subst (λ (k : ℕ). Fits new (raised (committed m w f point) k)) (sym node)
+    (raise refl (committed m w f point) (valid_committed m w f point solving.valid solving.flown)
     (commit m f solving.valid solving.fits solving.flown solving.read solving.within solving.room)
-    (subst (IsLive m) node (solving.valid.flown_live f.node 0 f solving.flown)) (low refl))
-commit_fits false point n s m f rs mid new solving node low commit raise same =
-    subst (λ (t : Table). Fits t (committed m 0 f point)) (sym (same refl))
+    (subst (IsLive m) node (solving.valid.flown_live f.node w f solving.flown)) (low refl))
+commit_fits w false point n s m f rs mid new solving node low commit raise same =
+    subst (λ (t : Table). Fits t (committed m w f point)) (sym (same refl))
     (commit m f solving.valid solving.fits solving.flown solving.read solving.within solving.room)
 
 -- the same where the numbers and the readings were handed on
-pub commit_given : (point : Bool) (old mid : Table) (ns ns' : List ℕ) (rs rs' : List Reading) → ns ≡ ns' → rs ≡ rs'
-    → ((m : Machine) (f : Flight) → IsValid m → Fits old m → IsFlown m f.node 0 f → HasRead m f ns rs → AreWithin rs (length ns) → m.commits + 1 < 2 ^ 64
-    → Fits mid (committed m 0 f point))
-    → (m : Machine) (f : Flight) → IsValid m → Fits old m → IsFlown m f.node 0 f → HasRead m f ns' rs' → AreWithin rs' (length ns') → m.commits + 1 < 2 ^ 64
-    → Fits mid (committed m 0 f point)
-commit_given point old mid ns ns' rs rs' n r h = λ m f valid fits flown read within room.
+pub commit_given : (w : ℕ) (point : Bool) (old mid : Table) (ns ns' : List ℕ) (rs rs' : List Reading) → ns ≡ ns' → rs ≡ rs'
+    → ((m : Machine) (f : Flight) → IsValid m → Fits old m → IsFlown m f.node w f → HasRead m f ns rs → AreWithin rs (length ns) → m.commits + 1 < 2 ^ 64
+    → Fits mid (committed m w f point))
+    → (m : Machine) (f : Flight) → IsValid m → Fits old m → IsFlown m f.node w f → HasRead m f ns' rs' → AreWithin rs' (length ns') → m.commits + 1 < 2 ^ 64
+    → Fits mid (committed m w f point)
+commit_given w point old mid ns ns' rs rs' n r h = λ m f valid fits flown read within room.
     h m f valid fits flown
     (subst (λ (x : List ℕ). HasRead m f x rs) (sym n) (subst (λ (x : List Reading). HasRead m f ns' x) (sym r) read))
     (subst (λ (x : List ℕ). AreWithin rs (length x)) (sym n) (subst (λ (x : List Reading). AreWithin x (length ns')) (sym r) within)) room
 
 -- a solve goes on in flight while the pools but its node's own stay
-pub still_solving : (told : Bool) (n : ℕ) (old new : State) (m : Machine) (f : Flight) (rs : List Reading) → IsSolving old m f rs
-    → ((k : ℕ) → m.number k ≡ pool_number old k) → f.node ≡ n → RaisesPool told n old new → IsSolving new m f rs
-still_solving told n old new m f rs s number node raise = record {
+pub still_solving : (w : ℕ) (told : Bool) (n : ℕ) (old new : State) (m : Machine) (f : Flight) (rs : List Reading) → IsSolving old w m f rs
+    → ((k : ℕ) → m.number k ≡ pool_number old k) → f.node ≡ n → RaisesPool told n old new → IsSolving new w m f rs
+still_solving w told n old new m f rs s number node raise = record {
   valid = s.valid;
   fits = subst (λ (t : Table). Fits t m) (sym raise.kept.table) s.fits;
   flown = s.flown;
@@ -255,11 +255,11 @@ still_solving told n old new m f rs s number node raise = record {
         ∙ sym (length-map (pools_of old.kind old.banks) (λ (p : Held). p.number))
 
 -- its node has a last solve from now on, and the number of the node's pool rose, where that is told
-pub commit_ends : (Way : Machine → Flight → Bool → Machine → Type 0) (told point : Bool) (n : ℕ) (old mid new : State) (m : Machine) (f : Flight) → ((k : ℕ) → m.number k ≡ pool_number old k) → f.node ≡ n
-    → RaisesPool told n old mid → (told ≡ true → 0 < n) → Fits new.table (committed_with m f point told)
-    → KeepsRun mid new → ((k : ℕ) → pool_number new k ≡ pool_number mid k) → Way m f told (committed_with m f point told) → EndsSolve Way old new m f
-commit_ends Way true point n old mid new m f number node raise low fits run same way = record {
-  machine = raised (committed m 0 f point) f.node;
+pub commit_ends : (w : ℕ) (Way : Machine → Flight → Bool → Machine → Type 0) (told point : Bool) (n : ℕ) (old mid new : State) (m : Machine) (f : Flight) → ((k : ℕ) → m.number k ≡ pool_number old k) → f.node ≡ n
+    → RaisesPool told n old mid → (told ≡ true → 0 < n) → Fits new.table (committed_by w m f point told)
+    → KeepsRun mid new → ((k : ℕ) → pool_number new k ≡ pool_number mid k) → Way m f told (committed_by w m f point told) → EndsSolve w Way old new m f
+commit_ends w Way true point n old mid new m f number node raise low fits run same way = record {
+  machine = raised (committed m w f point) f.node;
   added = true;
   ends = adds point (omega (arith, low refl, node));
   way = way;
@@ -274,8 +274,8 @@ commit_ends Way true point n old mid new m f number node raise low fits run same
         ∙ sym (same n) ∙ ap (pool_number new) (sym (e ∙ node))
     go k (inr ne) =
         other_at m.number f.node (m.number f.node + 1) k ne ∙ number k ∙ sym (raise.others k (λ t e. ne (e ∙ sym node))) ∙ sym (same k)
-commit_ends Way false point n old mid new m f number node raise low fits run same way = record {
-  machine = committed m 0 f point;
+commit_ends w Way false point n old mid new m f number node raise low fits run same way = record {
+  machine = committed m w f point;
   added = false;
   ends = commits point;
   way = way;
@@ -285,8 +285,8 @@ commit_ends Way false point n old mid new m f number node raise low fits run sam
 }
 
 -- what follows leaves the table and the pools
-pub ends_then : (Way : Machine → Flight → Bool → Machine → Type 0) (old mid new : State) (m : Machine) (f : Flight) → EndsSolve Way old mid m f → KeepsPools mid new → EndsSolve Way old new m f
-ends_then Way old mid new m f e k = record {
+pub ends_then : (w : ℕ) (Way : Machine → Flight → Bool → Machine → Type 0) (old mid new : State) (m : Machine) (f : Flight) → EndsSolve w Way old mid m f → KeepsPools mid new → EndsSolve w Way old new m f
+ends_then w Way old mid new m f e k = record {
   machine = e.machine;
   added = e.added;
   ends = e.ends;
@@ -302,10 +302,10 @@ pools_kept old new k h =
     let same : length new.frame.parents ≡ length old.frame.parents = ap (λ (g : Frame). length g.parents) k.frame in
     record { plain = omega (arith, same, k.plain, h.plain); cone = omega (arith, same, k.cone, h.cone) }
 
-ends_keep : (m : Machine) (f : Flight) (told : Bool) (k : Machine) → EndsTurn m f told k → (k.live ≡ m.live) × (k.parent ≡ m.parent)
-ends_keep m f told k drops = (refl, refl)
-ends_keep m f told k (commits point) = (refl, refl)
-ends_keep m f told k (adds point low) = (refl, refl)
+ends_keep : (w : ℕ) (m : Machine) (f : Flight) (told : Bool) (k : Machine) → EndsTurn w m f told k → (k.live ≡ m.live) × (k.parent ≡ m.parent)
+ends_keep w m f told k drops = (refl, refl)
+ends_keep w m f told k (commits point) = (refl, refl)
+ends_keep w m f told k (adds point low) = (refl, refl)
 
 -- ---- a whole turn
 module _ (p : Program) (s : State) (m : Machine) (n : ℕ) (i : IsProgram p) (frame : s.frame ≡ frame_of p) (b : IsBegunBy p s m n) where
@@ -359,8 +359,8 @@ module _ (p : Program) (s : State) (m : Machine) (n : ℕ) (i : IsProgram p) (fr
   )
 
   -- the solve that was begun and has read is in flight
-  pub begun_solving : (rs : List Reading) → rs ≡ numbers_read (pools_of s.kind s.banks) (children_in s.frame n) → IsSolving s read_machine begun_flight rs
-  begun_solving rs e = subst (IsSolving s read_machine begun_flight) (sym all) (record {
+  pub begun_solving : (rs : List Reading) → rs ≡ numbers_read (pools_of s.kind s.banks) (children_in s.frame n) → IsSolving s 0 read_machine begun_flight rs
+  begun_solving rs e = subst (IsSolving s 0 read_machine begun_flight) (sym all) (record {
     valid = reads.valid;
     fits = reads.fits s.table b.fits;
     flown = turn_flown m n (children_in s.frame n) read_machine reads;
@@ -385,7 +385,7 @@ module _ (p : Program) (s : State) (m : Machine) (n : ℕ) (i : IsProgram p) (fr
           begun_children reads (λ j less. sym (b.machine.number (get_or (children_in s.frame n) j 0)))
 
   -- and where it ends, the worker took its turn
-  pub solve_ends : (Way : Machine → Flight → Bool → Machine → Type 0) (new : State) → EndsSolve Way s new read_machine begun_flight → EndsBegun Way p m n new
+  pub solve_ends : (Way : Machine → Flight → Bool → Machine → Type 0) (new : State) → EndsSolve 0 Way s new read_machine begun_flight → EndsBegun Way p m n new
   solve_ends Way new e =
       let turn : TakesTurn m e.machine = record {
         node = n;
@@ -405,8 +405,8 @@ module _ (p : Program) (s : State) (m : Machine) (n : ℕ) (i : IsProgram p) (fr
           fits = e.fits;
           idle = (turn_keeps m e.machine b.valid b.idle turn).1;
           machine = record {
-            live = λ k. ap (λ (l : ℕ → Bool). l k) ((ends_keep _ _ _ _ e.ends).0 ∙ reads.live) ∙ b.machine.live k;
-            parent = (ends_keep _ _ _ _ e.ends).1 ∙ reads.parent ∙ b.machine.parent ∙ ap (λ (g : Frame). slice_index g.parents) (sym e.run.frame);
+            live = λ k. ap (λ (l : ℕ → Bool). l k) ((ends_keep 0 _ _ _ _ e.ends).0 ∙ reads.live) ∙ b.machine.live k;
+            parent = (ends_keep 0 _ _ _ _ e.ends).1 ∙ reads.parent ∙ b.machine.parent ∙ ap (λ (g : Frame). slice_index g.parents) (sym e.run.frame);
             number = e.number;
           };
           pools = pools_kept s new e.run b.pools;
@@ -563,19 +563,19 @@ begun_counted p s m n counts b = record {
 }
 
 -- one that leaves no last solve
-pub left_ends : (Way : Machine → Flight → Bool → Machine → Type 0) (s new : State) (m : Machine) (f : Flight) (rs : List Reading) (why : Option Open) (table : Table) → IsSolving s m f rs
-    → ((k : ℕ) → m.number k ≡ pool_number s k) → Drops s.table new.table → new ≡ record s { stop = why; table = table } → Way m f false (dropped m 0) → EndsSolve Way s new m f
-left_ends Way s new m f rs why table solving number drop e way =
-    let k = stopped_keeps s new why table e in drop_ends Way s new m f rs solving number drop k.0 k.1 way
+pub left_ends : (w : ℕ) (Way : Machine → Flight → Bool → Machine → Type 0) (s new : State) (m : Machine) (f : Flight) (rs : List Reading) (why : Option Open) (table : Table) → IsSolving s w m f rs
+    → ((k : ℕ) → m.number k ≡ pool_number s k) → Drops w s.table new.table → new ≡ record s { stop = why; table = table } → Way m f false (dropped m w) → EndsSolve w Way s new m f
+left_ends w Way s new m f rs why table solving number drop e way =
+    let k = stopped_keeps s new why table e in drop_ends w Way s new m f rs solving number drop k.0 k.1 way
 
 -- one whose cut was offered
-pub offered_ends : (Way : Machine → Flight → Bool → Machine → Type 0) (told point : Bool) (n : ℕ) (a b c d : State) (m : Machine) (f : Flight) (rs : List Reading) (table : Table) → IsSolving a m f rs
+pub offered_ends : (w : ℕ) (Way : Machine → Flight → Bool → Machine → Type 0) (told point : Bool) (n : ℕ) (a b c d : State) (m : Machine) (f : Flight) (rs : List Reading) (table : Table) → IsSolving a w m f rs
     → ((k : ℕ) → m.number k ≡ pool_number a k) → f.node ≡ n → KeepsPools a b → RaisesPool told n b c → (told ≡ true → 0 < n)
-    → d ≡ record c { table = table } → (IsSolving c m f rs → Fits d.table (committed_with m f point told)) → Way m f told (committed_with m f point told) → EndsSolve Way a d m f
-offered_ends Way told point n a b c d m f rs table solving number node kept raise low e commit way =
+    → d ≡ record c { table = table } → (IsSolving c w m f rs → Fits d.table (committed_by w m f point told)) → Way m f told (committed_by w m f point told) → EndsSolve w Way a d m f
+offered_ends w Way told point n a b c d m f rs table solving number node kept raise low e commit way =
     let r = then_raise told n a b c kept raise in
     let k = table_keeps c d table e in
-    commit_ends Way told point n a c d m f number node r low (commit (still_solving told n a c m f rs solving number node r)) k.0 k.1 way
+    commit_ends w Way told point n a c d m f number node r low (commit (still_solving w told n a c m f rs solving number node r)) k.0 k.1 way
 
 pub not_true : (b : Bool) → not b ≡ true → b ≡ false
 not_true true e = absurd (let no : false ≡ true = e in cc)
@@ -587,25 +587,25 @@ not_false false e = absurd (let no : true ≡ false = e in cc)
 
 -- where the node has no program
 pub stuck_ends : (p : Program) (s : State) (m : Machine) (n : ℕ) (i : IsProgram p) (frame : s.frame ≡ frame_of p) (b : IsBegunBy p s m n)
-    (new : State) (why : Option Open) (table : Table) → Drops s.table new.table → new ≡ record s { stop = why; table = table } → EndsBegun EndsAnyhow p m n new
+    (new : State) (why : Option Open) (table : Table) → Drops 0 s.table new.table → new ≡ record s { stop = why; table = table } → EndsBegun EndsAnyhow p m n new
 stuck_ends p s m n i frame b new why table drop e =
     solve_ends p s m n i frame b EndsAnyhow new
-    (left_ends EndsAnyhow s new (read_machine p s m n i frame b) (begun_flight p s m n i frame b) (numbers_read (pools_of s.kind s.banks) (children_in s.frame n)) why table
+    (left_ends 0 EndsAnyhow s new (read_machine p s m n i frame b) (begun_flight p s m n i frame b) (numbers_read (pools_of s.kind s.banks) (children_in s.frame n)) why table
     (begun_solving p s m n i frame b (numbers_read (pools_of s.kind s.banks) (children_in s.frame n)) refl) (reads_number p s m n i frame b) drop e tt)
 
 -- by what is told of the solve
-pub told_ends : (trial : List Entry) (a b : Solved) (old new : State) (m : Machine) (f : Flight) → a ≡ b → EndsSolve (EndsBy trial b) old new m f
-    → EndsSolve (EndsBy trial a) old new m f
-told_ends trial a b old new m f e h = subst (λ (all : Solved). EndsSolve (EndsBy trial all) old new m f) (sym e) h
+pub told_ends : (w : ℕ) (trial : List Entry) (a b : Solved) (old new : State) (m : Machine) (f : Flight) → a ≡ b → EndsSolve w (EndsBy w trial b) old new m f
+    → EndsSolve w (EndsBy w trial a) old new m f
+told_ends w trial a b old new m f e h = subst (λ (all : Solved). EndsSolve w (EndsBy w trial all) old new m f) (sym e) h
 
 -- there is no least cost, or a used end isn't finite
-pub neither_ends : (trial : List Entry) (a : Solved) (s new : State) (m : Machine) (f : Flight) (rs : List Reading) (why : Option Open) (table : Table) → IsSolving s m f rs
-    → ((k : ℕ) → m.number k ≡ pool_number s k) → Drops s.table new.table → new ≡ record s { stop = why; table = table }
-    → (a ≡ solved.Loose) ⊎ (a ≡ solved.NotGood) → EndsSolve (EndsBy trial a) s new m f
-neither_ends trial a s new m f rs why table solving number drop e (inl q) =
-    told_ends trial a solved.Loose s new m f q (left_ends (EndsBy trial solved.Loose) s new m f rs why table solving number drop e (refl, refl))
-neither_ends trial a s new m f rs why table solving number drop e (inr q) =
-    told_ends trial a solved.NotGood s new m f q (left_ends (EndsBy trial solved.NotGood) s new m f rs why table solving number drop e (refl, refl))
+pub neither_ends : (w : ℕ) (trial : List Entry) (a : Solved) (s new : State) (m : Machine) (f : Flight) (rs : List Reading) (why : Option Open) (table : Table) → IsSolving s w m f rs
+    → ((k : ℕ) → m.number k ≡ pool_number s k) → Drops w s.table new.table → new ≡ record s { stop = why; table = table }
+    → (a ≡ solved.Loose) ⊎ (a ≡ solved.NotGood) → EndsSolve w (EndsBy w trial a) s new m f
+neither_ends w trial a s new m f rs why table solving number drop e (inl q) =
+    told_ends w trial a solved.Loose s new m f q (left_ends w (EndsBy w trial solved.Loose) s new m f rs why table solving number drop e (refl, refl))
+neither_ends w trial a s new m f rs why table solving number drop e (inr q) =
+    told_ends w trial a solved.NotGood s new m f q (left_ends w (EndsBy w trial solved.NotGood) s new m f rs why table solving number drop e (refl, refl))
 
 -- in whatever way
 pub anyhow : (Way : Machine → Flight → Bool → Machine → Type 0) (p : Program) (m : Machine) (n : ℕ) (s : State) → EndsBegun Way p m n s → EndsBegun EndsAnyhow p m n s

@@ -110,28 +110,30 @@ pub record RaisesPool (told : Bool) (n : ℕ) (old new : State) : Type 0 where
 abbrev pub IsAbout : ℕ → Solved → Type 0
 IsAbout n all = IfSome (cut_given all) (λ c. (source_of c).node ≡ n)
 
--- the solve in flight leaves no last solve
-abbrev pub Drops : Table → Table → Type 0
-Drops old new = (m : Machine) (f : Flight) → IsValid m → Fits old m → IsFlown m f.node 0 f → m.commits + 1 < 2 ^ 64 → Fits new (dropped m 0)
+-- the worker's solve in flight leaves no last solve
+abbrev pub Drops : ℕ → Table → Table → Type 0
+Drops worker old new = (m : Machine) (f : Flight) → IsValid m → Fits old m → IsFlown m f.node worker f → m.commits + 1 < 2 ^ 64
+    → Fits new (dropped m worker)
 
--- a solve of the machine is in flight, and read this of its children's pools
-pub record IsSolving (s : State) (m : Machine) (f : Flight) (readings : List Reading) : Type 0 where
+-- a solve of the machine's worker is in flight, and read this of its children's pools
+pub record IsSolving (s : State) (worker : ℕ) (m : Machine) (f : Flight) (readings : List Reading) : Type 0 where
   pub valid : IsValid m
   pub fits : Fits s.table m
-  pub flown : IsFlown m f.node 0 f
+  pub flown : IsFlown m f.node worker f
   pub read : HasRead m f (numbers_of (pools_of s.kind s.banks)) readings
   pub within : AreWithin readings (length (numbers_of (pools_of s.kind s.banks)))
   pub room : m.commits + 1 < 2 ^ 64
 
 -- its commit, and the rise of its node's pool, where that is told
-abbrev pub committed_with : Machine → Flight → Bool → Bool → Machine
-committed_with m f point told = pick told (raised (committed m 0 f point) f.node) (committed m 0 f point)
+abbrev pub committed_by : ℕ → Machine → Flight → Bool → Bool → Machine
+committed_by worker m f point told = pick told (raised (committed m worker f point) f.node) (committed m worker f point)
 
--- the solve ends, and in this way, and the table fits the machine behind it
-pub record EndsSolve (Way : Machine → Flight → Bool → Machine → Type 0) (old new : State) (m : Machine) (f : Flight) : Type 0 where
+-- the worker's solve ends, and in this way, and the table fits the machine behind it
+pub record EndsSolve (worker : ℕ) (Way : Machine → Flight → Bool → Machine → Type 0) (old new : State) (m : Machine) (f : Flight)
+    : Type 0 where
   pub machine : Machine
   pub added : Bool
-  pub ends : EndsTurn m f added machine
+  pub ends : EndsTurn worker m f added machine
   pub way : Way m f added machine
   pub fits : Fits new.table machine
   pub number : (n : ℕ) → machine.number n ≡ pool_number new n

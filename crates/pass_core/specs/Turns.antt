@@ -41,7 +41,7 @@ use Rattle.pass_core.specs.declared.state.State.{State}
 use Rattle.pass_core.specs.Counting.{with_commit}
 use Rattle.pass_core.specs.Explained.{IsTask}
 use Rattle.pass_core.specs.Reasons.{PassesInJoin, PassesAtCost, Halts, solve_halts, IsOfSolve, IsOfOpening, GainsReasons}
-use Rattle.pass_core.specs.Tabled.{HasRoom, IsTabledBy, committed_with, EndsBegun, Opens}
+use Rattle.pass_core.specs.Tabled.{HasRoom, IsTabledBy, committed_by, EndsBegun, Opens}
 use Rattle.pass_core.specs.Left.{StaysInRun, LeavesBy, IsOpenOrStuck, LeavesAnyhow, places_in, next_kind, OpensRun}
 use Rattle.pass_core.specs.Grounds.{OpeningDual, PassesInDual, put_cuts, CanPutCuts, OneIsNotPut}
 use Rattle.pass_core.specs.Made.{cuts_there}
@@ -160,18 +160,19 @@ FaultsBefore p tree s fault.Memory = ⊤
 
 -- ---- ends
 -- no last solve is left, and no pool changes
-abbrev pub EndsWithout : Machine → Flight → Bool → Machine → Type 0
-EndsWithout m f added k = (added ≡ false) × (k ≡ dropped m 0)
+abbrev pub EndsWithout : ℕ → Machine → Flight → Bool → Machine → Type 0
+EndsWithout worker m f added k = (added ≡ false) × (k ≡ dropped m worker)
 
 -- how the turn ends by what is told of its solve: a point makes it the node's last solve with a point, unless it can't be kept; that
 -- there is no point makes it one without; else the node has no last solve
-abbrev pub EndsBy : List Entry → Solved → Machine → Flight → Bool → Machine → Type 0
-EndsBy trial (solved.Point x value cut) m f added k = (k ≡ committed_with m f true added) ⊎ (PassesInJoin trial x × EndsWithout m f added k)
-EndsBy trial (solved.NoPoint cut) m f added k = k ≡ committed_with m f false added
-EndsBy trial solved.Loose m f added k = EndsWithout m f added k
-EndsBy trial solved.PivotsEnded m f added k = EndsWithout m f added k
-EndsBy trial (solved.Passed in_cut o) m f added k = EndsWithout m f added k
-EndsBy trial solved.NotGood m f added k = EndsWithout m f added k
+abbrev pub EndsBy : ℕ → List Entry → Solved → Machine → Flight → Bool → Machine → Type 0
+EndsBy worker trial (solved.Point x value cut) m f added k =
+    (k ≡ committed_by worker m f true added) ⊎ (PassesInJoin trial x × EndsWithout worker m f added k)
+EndsBy worker trial (solved.NoPoint cut) m f added k = k ≡ committed_by worker m f false added
+EndsBy worker trial solved.Loose m f added k = EndsWithout worker m f added k
+EndsBy worker trial solved.PivotsEnded m f added k = EndsWithout worker m f added k
+EndsBy worker trial (solved.Passed in_cut o) m f added k = EndsWithout worker m f added k
+EndsBy worker trial solved.NotGood m f added k = EndsWithout worker m f added k
 
 -- however it ends
 abbrev pub EndsAnyhow : Machine → Flight → Bool → Machine → Type 0
@@ -196,7 +197,7 @@ pub record SolvesNode (p : Program) (old : State) (m : Machine) (n : ℕ) (new :
   -- what is told of it
   pub all : Solved
   pub told : IsToldOf task all
-  pub ends : EndsBegun (EndsBy task.trial all) p m n new
+  pub ends : EndsBegun (EndsBy 0 task.trial all) p m n new
   pub points : PointsStand p new.lasts.nodes.items
   pub reasons : let counts : Counts = with_commit old.counts in
       GainsReasons (IsOfSolve counts.all old.budget.solves all (node_halts p old n task.trial all))

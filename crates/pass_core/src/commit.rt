@@ -18,12 +18,12 @@ ghost use Rattle.run_ends.specs.Ends.{with_lower, cheaper, after_root, after_pol
 ghost use Rattle.pass_core.specs.Counting.{first_stop, is_added, after_answer};
 ghost use Rattle.pass_core.specs.Made.{BankBooks, run_book, IsMadeAbout, KeepsMade};
 ghost use Rattle.pass_core.specs.Explained.{IsTask, GivesCut, cut_given, point_found, FindsPoint, KeepsExplained};
-ghost use Rattle.pass_core.specs.Tabled.{pool_number, IsSolving, EndsSolve, Drops, RaisesPool, KeepsPools, committed_with, IsAbout};
+ghost use Rattle.pass_core.specs.Tabled.{pool_number, IsSolving, EndsSolve, Drops, RaisesPool, KeepsPools, committed_by, IsAbout};
 ghost use Rattle.pass_core.specs.Turns.{AreUpTo, KeepsPoints, EndsBy};
 ghost use Rattle.pass_core.specs.Left.{StaysInRun, IsOffered, OffersCut, ends_behind, ends_without, TakesComplete};
 ghost use Rattle.pass_core.specs.Left.{TakesPoint, LeavesNone, LeavesBy, with_offered, offered_banks, KeepsStops, LeavesAnyhow};
 
-use crate::state::{Begun, State, WORKER};
+use crate::state::{Begun, State};
 use cut_pool::Offer;
 use cut_proof::SharedCut;
 use dual_assemble::join_policy;
@@ -47,21 +47,23 @@ fn solve_place(in_cut: bool, solve: u64) -> Place
 }
 
 impl State {
-    /// Takes what a solve gave, which is counted: its cut is offered to the node's pool, and its point becomes the node's last one.
+    /// Takes what the worker's solve gave, which is counted: its cut is offered to the node's pool, and its point becomes the node's
+    /// last one.
     pub(crate) fn commit(
         &mut self,
         alloc: Global,
         program: &Program,
         tree: &Tree,
+        worker: u32,
         node: u32,
         begun: &Begun,
         solved: Solved,
     ) -> Result<(), Memory>
         ensures explained { IsTask (content program.now) self.old.frame tree.now self.old.budget.pivots begun.now.task
             → IsToldOf begun.now.task solved → OnOk result (KeepsExplained (content program.now) tree.now self.old self.new) }
-        ensures tabled { (m : Machine) (f : Flight) → IsSolving self.old m f begun.now.readings.items
+        ensures tabled { (m : Machine) (f : Flight) → IsSolving self.old worker m f begun.now.readings.items
             → ((k : ℕ) → m.number k ≡ pool_number self.old k) → f.node ≡ node → IsAbout node solved
-            → OnOk result (EndsSolve (EndsBy begun.now.task.trial solved) self.old self.new m f) }
+            → OnOk result (EndsSolve worker (EndsBy worker begun.now.task.trial solved) self.old self.new m f) }
         ensures points { (p : ProgramOf) → AreUpTo p (node_at p.nodes node).stage begun.now.task.trial
             → IfSome (point_found solved) (AreUpTo p (node_at p.nodes node).stage) → OnOk result (KeepsPoints p self.old self.new) }
         ensures made { (b : BankBooks) → IfSome (cut_given solved) (IsMadeAbout (run_book self.old.kind b) node)
@@ -71,57 +73,58 @@ impl State {
             let halts = solve_halts self.old.kind self.old.banks node trial solved in_cost in
             OnOk result (GainsReasons (IsOfSolve self.old.counts.all self.old.budget.solves solved halts) self.old self.new) }
         ensures stays { OnOk result (StaysInRun self.old self.new) }
-        ensures left { (m : Machine) (f : Flight) → IsSolving self.old m f begun.now.readings.items
+        ensures left { (m : Machine) (f : Flight) → IsSolving self.old worker m f begun.now.readings.items
             → ((k : ℕ) → m.number k ≡ pool_number self.old k) → f.node ≡ node → IsAbout node solved → OnOk result (self.new.stop ≡ None
             → LeavesBy (content program.now) tree.now node begun.now.task.trial solved self.old self.new) }
         ensures anyhow { OnOk result (LeavesAnyhow node begun.now.task.trial solved self.old self.new) }
     {
         match solved {
             Solved::Point { point, value, cut } => {
-                self.point(node, begun, point, value, cut)?;
+                self.point(worker, node, begun, point, value, cut)?;
                 self.complete(alloc, program, tree)
             }
-            Solved::NoPoint { cut } => self.no_point(node, begun, cut),
+            Solved::NoPoint { cut } => self.no_point(worker, node, begun, cut),
             Solved::PivotsEnded => {
-                self.left_open(Open::Pivots(self.counts.all));
+                self.left_open(worker, Open::Pivots(self.counts.all));
                 Ok(())
             }
             Solved::Passed { in_cut, passed } => {
                 let place = solve_place(in_cut, self.counts.all);
-                self.left_open(Open::Passed(place, passed));
+                self.left_open(worker, Open::Passed(place, passed));
                 Ok(())
             }
             Solved::Loose | Solved::NotGood => {
-                self.left_stuck();
+                self.left_stuck(worker);
                 Ok(())
             }
         }
     }
 
-    /// A solve that leaves no last solve.
-    fn left_open(&mut self, stop: Open)
-        ensures drops { Drops self.old.table self.new.table }
+    /// The worker's solve leaves no last solve.
+    fn left_open(&mut self, worker: u32, stop: Open)
+        ensures drops { Drops worker self.old.table self.new.table }
         ensures others { self.new ≡ record self.old { stop = first_stop self.old.stop stop; table = self.new.table } }
     {
         self.stop_at(stop);
-        self.table.forget(WORKER);
+        self.table.forget(worker);
     }
 
-    /// A solve that ended as none does.
-    pub(crate) fn left_stuck(&mut self)
-        ensures drops { Drops self.old.table self.new.table }
+    /// The worker's solve ended as none does.
+    pub(crate) fn left_stuck(&mut self, worker: u32)
+        ensures drops { Drops worker self.old.table self.new.table }
         ensures others { self.new ≡ record self.old {
           stop = first_stop self.old.stop (Open.Solves self.old.budget.solves);
           table = self.new.table;
         } }
     {
         self.stuck();
-        self.table.forget(WORKER);
+        self.table.forget(worker);
     }
 
     /// A solve that found a point.
     fn point(
         &mut self,
+        worker: u32,
         node: u32,
         begun: &Begun,
         point: Form,
@@ -131,9 +134,9 @@ impl State {
         ensures explained { (p : ProgramOf) (tree : TreeOf) → FindsPoint p self.old.frame tree self.old.budget.pivots point
             → IfSome cut (GivesCut p self.old.frame tree self.old.budget.pivots begun.now.task.trial)
             → OnOk result (KeepsExplained p tree self.old self.new) }
-        ensures tabled { (m : Machine) (f : Flight) → IsSolving self.old m f begun.now.readings.items
+        ensures tabled { (m : Machine) (f : Flight) → IsSolving self.old worker m f begun.now.readings.items
             → ((k : ℕ) → m.number k ≡ pool_number self.old k) → f.node ≡ node → IfSome cut (λ c. (source_of c).node ≡ node)
-            → OnOk result (EndsSolve (EndsBy begun.now.task.trial (Solved.Point point value cut)) self.old self.new m f) }
+            → OnOk result (EndsSolve worker (EndsBy worker begun.now.task.trial (Solved.Point point value cut)) self.old self.new m f) }
         ensures points { (p : ProgramOf) → AreUpTo p (node_at p.nodes node).stage begun.now.task.trial
             → AreUpTo p (node_at p.nodes node).stage point → OnOk result (KeepsPoints p self.old self.new) }
         ensures made { (b : BankBooks) → IfSome cut (IsMadeAbout (run_book self.old.kind b) node)
@@ -149,11 +152,11 @@ impl State {
             ⊎ (self.new.banks ≡ offered_banks self.old.kind node cut begun.now.task.trial self.old.banks)) }
         ensures stops { OnOk result (KeepsStops self.old self.new) }
     {
-        if !self.keep(node, &begun.task.trial, point)? {
+        if !self.keep(worker, node, &begun.task.trial, point)? {
             return Ok(());
         }
         let is_raised = self.take_bound(node, &begun.task.trial, value, cut)?;
-        self.commit_last(node, begun, true, is_raised);
+        self.commit_last(worker, node, begun, true, is_raised);
         Ok(())
     }
 
@@ -193,13 +196,19 @@ impl State {
     }
 
     /// A solve that showed that there is no point.
-    fn no_point(&mut self, node: u32, begun: &Begun, cut: SharedCut) -> Result<(), Memory>
+    fn no_point(
+        &mut self,
+        worker: u32,
+        node: u32,
+        begun: &Begun,
+        cut: SharedCut,
+    ) -> Result<(), Memory>
         ensures explained { (p : ProgramOf) (tree : TreeOf)
             → GivesCut p self.old.frame tree self.old.budget.pivots begun.now.task.trial cut
             → OnOk result (KeepsExplained p tree self.old self.new) }
-        ensures tabled { (m : Machine) (f : Flight) → IsSolving self.old m f begun.now.readings.items
+        ensures tabled { (m : Machine) (f : Flight) → IsSolving self.old worker m f begun.now.readings.items
             → ((k : ℕ) → m.number k ≡ pool_number self.old k) → f.node ≡ node → (source_of cut).node ≡ node
-            → OnOk result (EndsSolve (EndsBy begun.now.task.trial (Solved.NoPoint cut)) self.old self.new m f) }
+            → OnOk result (EndsSolve worker (EndsBy worker begun.now.task.trial (Solved.NoPoint cut)) self.old self.new m f) }
         ensures points { (p : ProgramOf) → OnOk result (KeepsPoints p self.old self.new) }
         ensures made { (b : BankBooks) → IsMadeAbout (run_book self.old.kind b) node cut → OnOk result (KeepsMade b self.old self.new) }
         ensures reasons { (all : SolvedOf) →
@@ -213,7 +222,7 @@ impl State {
     {
         self.lasts.forget(node);
         let is_raised = self.take_ray(node, &begun.task.trial, cut)?;
-        self.commit_last(node, begun, false, is_raised);
+        self.commit_last(worker, node, begun, false, is_raised);
         Ok(())
     }
 
@@ -243,7 +252,7 @@ impl State {
     }
 
     /// Keeps the point of a node. False where its values can't be joined with those above, which never comes.
-    fn keep(&mut self, node: u32, trial: &Form, point: Form) -> Result<bool, Memory>
+    fn keep(&mut self, worker: u32, node: u32, trial: &Form, point: Form) -> Result<bool, Memory>
         ensures kept { result ≡ Ok true → kept self.old.lasts.nodes.items node trial.now point ≡ Ok self.new.lasts.nodes.items }
         ensures others { result ≡ Ok true → self.new ≡ record self.old { lasts = self.new.lasts } }
         ensures passed { result ≡ Ok false → (p : Operation) × (kept self.old.lasts.nodes.items node trial.now point ≡ Err p) }
@@ -254,7 +263,7 @@ impl State {
         ensures explained { (p : ProgramOf) (tree : TreeOf) → FindsPoint p self.old.frame tree self.old.budget.pivots point
             → OnOk result (KeepsExplained p tree self.old self.new) }
         ensures err { OnErr result (self.new ≡ self.old) }
-        ensures drops { result ≡ Ok false → Drops self.old.table self.new.table }
+        ensures drops { result ≡ Ok false → Drops worker self.old.table self.new.table }
         ensures reasons { (all : SolvedOf) → let halts = point_halts trial.now point in
             OnOk result (GainsReasons (IsOfSolve self.old.counts.all self.old.budget.solves all halts) self.old self.new) }
     {
@@ -262,7 +271,7 @@ impl State {
             Ok(()) => Ok(true),
             Err(ArithmeticFault::Memory) => Err(Memory),
             Err(ArithmeticFault::Passed(_)) => {
-                self.left_stuck();
+                self.left_stuck(worker);
                 Ok(false)
             }
         }
@@ -339,15 +348,22 @@ impl State {
         }
     }
 
-    /// The solve becomes its node's last one; where its cut was added, the number of the node's pool rose.
-    fn commit_last(&mut self, node: u32, begun: &Begun, has_point: bool, is_raised: bool)
+    /// The worker's solve becomes its node's last one; where its cut was added, the number of the node's pool rose.
+    fn commit_last(
+        &mut self,
+        worker: u32,
+        node: u32,
+        begun: &Begun,
+        has_point: bool,
+        is_raised: bool,
+    )
         ensures others { self.new ≡ record self.old { table = self.new.table } }
-        ensures commits { (m : Machine) (f : Flight) → IsSolving self.old m f begun.now.readings.items → f.node ≡ node
-            → (is_raised ≡ true → 0 < node) → Fits self.new.table (committed_with m f has_point is_raised) }
+        ensures commits { (m : Machine) (f : Flight) → IsSolving self.old worker m f begun.now.readings.items → f.node ≡ node
+            → (is_raised ≡ true → 0 < node) → Fits self.new.table (committed_by worker m f has_point is_raised) }
     {
         let numbers = self.banks.numbers(self.kind);
         self.table
-            .commit(WORKER, numbers, &begun.readings, has_point);
+            .commit(worker, numbers, &begun.readings, has_point);
         if is_raised {
             self.table.raise(node);
         }

@@ -37,7 +37,7 @@ use std::alloc::Global;
 pub(crate) const WORKERS: u32 = 1;
 
 /// The worker that solves.
-pub(crate) const WORKER: u32 = 0;
+const WORKER: u32 = 0;
 
 /// What the nested method knows of a program.
 ///
@@ -250,7 +250,7 @@ impl State {
             → OnOk result (CutsAreMade b self.new) }
     {
         let Some(mut begun) = self.set_out(alloc, program, tree, node)? else {
-            self.left_stuck();
+            self.left_stuck(WORKER);
             return Ok(());
         };
         begun.hint = self.hints.lend(alloc, &begun.task)?;
@@ -310,7 +310,7 @@ impl State {
     {
         self.hints.take_back(&begun.task, &mut begun.hint)?;
         self.counts.raise();
-        self.commit(alloc, program, tree, begun.node, begun, solved)
+        self.commit(alloc, program, tree, WORKER, begun.node, begun, solved)
     }
 
     /// The task of a node. None where the node has no data.

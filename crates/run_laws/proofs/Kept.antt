@@ -202,7 +202,7 @@ module _ (p : Program) (tree : Tree) (i : IsProgram p) (few : length p.nodes < n
           }
 
       -- where it comes to nothing, all that is known stays
-      nothing : KeepsKnown (record old { lasts = lasts }) new → EndsWithout
+      nothing : KeepsKnown (record old { lasts = lasts }) new → EndsWithout 0
           (read_each (begun_by m 0 solve.ends.turn.node) (first_flight m solve.ends.turn.node) solve.ends.turn.children)
           (read_by_each m.number (first_flight m solve.ends.turn.node) solve.ends.turn.children) solve.ends.turn.added solve.ends.machine
           → IsStanding p tree new
@@ -223,7 +223,7 @@ module _ (p : Program) (tree : Tree) (i : IsProgram p) (few : length p.nodes < n
             stands = λ k fits. stands_too p tree new solve.ends.machine k solve.ends.tabled fits stands;
           }
 
-      by : (all : Solved) → HaltsBy all (record old { lasts = lasts }) new → EndsBy solve.task.trial all
+      by : (all : Solved) → HaltsBy all (record old { lasts = lasts }) new → EndsBy 0 solve.task.trial all
           (read_each (begun_by m 0 solve.ends.turn.node) (first_flight m solve.ends.turn.node) solve.ends.turn.children)
           (read_by_each m.number (first_flight m solve.ends.turn.node) solve.ends.turn.children) solve.ends.turn.added solve.ends.machine
           → IsStanding p tree new

@@ -38,7 +38,7 @@ use Rattle.run_ends.specs.Lasts.{last_at, trial_of, with_last, kept, joined_poin
 use Rattle.run_ends.specs.Ends.{after_policy}
 use Rattle.pass_core.specs.declared.state.State.{State}
 use Rattle.pass_core.specs.Left.{OffersCut, ends_behind, ends_without, TakesComplete, LeavesPoint, LeavesNone, LeavesBy}
-use Rattle.pass_core.specs.Tabled.{IsTabledBy, committed_with}
+use Rattle.pass_core.specs.Tabled.{IsTabledBy, committed_by}
 use Rattle.pass_core.specs.Turns.{IsTaskOf, EndsBy, SolvesNode}
 use Rattle.pass_core.proofs.Parentage.{children_are}
 use Rattle.policy_laws.specs.Points.{AllMeet}
@@ -518,7 +518,7 @@ solve_stands p tree i t old new m n frame table long stands solves none =
     live : Lives p n
     live = subst (Lives p) solves.ends.node (sym (table.machine.live solves.ends.turn.node) ∙ solves.ends.turn.may.live)
 
-    behind : (point : Bool) → solves.ends.machine ≡ committed_with
+    behind : (point : Bool) → solves.ends.machine ≡ committed_by 0
         (read_each (begun m 0 solves.ends.turn.node) (first_flight m solves.ends.turn.node) solves.ends.turn.children)
         (read_by_each m.number (first_flight m solves.ends.turn.node) solves.ends.turn.children) point solves.ends.turn.added
         → IsTurned m solves.ends.machine n point
@@ -527,7 +527,7 @@ solve_stands p tree i t old new m n frame table long stands solves none =
         solves.ends.turn.may e)
 
     go : (all : Solved) → IsAnswer solves.task all → LeavesBy p tree n solves.task.trial all old new
-        → EndsBy solves.task.trial all
+        → EndsBy 0 solves.task.trial all
         (read_each (begun m 0 solves.ends.turn.node) (first_flight m solves.ends.turn.node) solves.ends.turn.children)
         (read_by_each m.number (first_flight m solves.ends.turn.node) solves.ends.turn.children)
         solves.ends.turn.added solves.ends.machine → StandsBehind p tree new

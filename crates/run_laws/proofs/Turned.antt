@@ -4,7 +4,7 @@ use Rattle.pass_table.specs.Machine.{IsAbove, Last, Flight, Machine, IsMade, May
 use Rattle.pass_table.proofs.Stale.{same_at, other_at}
 use Rattle.crew_turns.specs.Turn.{IsIdle, first_flight, read_by_each, read_each, EndsTurn, drops, commits, adds, TakesTurn}
 use Rattle.crew_turns.proofs.Turning.{node_read, turn_reads}
-use Rattle.pass_core.specs.Tabled.{committed_with}
+use Rattle.pass_core.specs.Tabled.{committed_by}
 
 -- node n has another last solve, of the commit that comes next, and no other node has
 pub record IsTurned (m k : Machine) (n : ℕ) (point : Bool) : Type 0 where
@@ -16,7 +16,7 @@ pub record IsTurned (m k : Machine) (n : ℕ) (point : Bool) : Type 0 where
   pub others : (j : ℕ) → (j ≡ n → ⊥) → k.last j ≡ m.last j
 
 -- a commit, with the rise of a pool's number or without it
-committed_turns : (m : Machine) (f : Flight) (point added : Bool) (n : ℕ) → f.node ≡ n → IsTurned m (committed_with m f point added) n point
+committed_turns : (m : Machine) (f : Flight) (point added : Bool) (n : ℕ) → f.node ≡ n → IsTurned m (committed_by 0 m f point added) n point
 committed_turns m f point true n e = record {
   live = refl;
   parent = refl;
@@ -36,7 +36,7 @@ committed_turns m f point false n e = record {
 
 -- behind the Reads of a turn
 pub turned : (m k : Machine) (n : ℕ) (cs : List ℕ) (point added : Bool) → IsValid m → IsIdle m → MayBegin m n
-    → k ≡ committed_with (read_each (begun m 0 n) (first_flight m n) cs) (read_by_each m.number (first_flight m n) cs) point added
+    → k ≡ committed_by 0 (read_each (begun m 0 n) (first_flight m n) cs) (read_by_each m.number (first_flight m n) cs) point added
     → IsTurned m k n point
 turned m k n cs point added valid idle may e =
     let reads = turn_reads m n cs valid idle may in
@@ -72,7 +72,7 @@ made_before m k n j point valid turn ne made = (
     go a up = ap (λ (l : Last). l.commit) (sym (turn.others a (λ e. below (subst (λ (x : ℕ). IsAbove m.parent x j) e up)))) ∙ seen a up
 
 -- a turn is one commit, however it ends
-ends_commits : (m : Machine) (f : Flight) (added : Bool) (k : Machine) → EndsTurn m f added k → k.commits ≡ m.commits + 1
+ends_commits : (m : Machine) (f : Flight) (added : Bool) (k : Machine) → EndsTurn 0 m f added k → k.commits ≡ m.commits + 1
 ends_commits m f added k drops = refl
 ends_commits m f added k (commits point) = refl
 ends_commits m f added k (adds point low) = refl
@@ -84,7 +84,7 @@ turn_commits m k valid idle turn =
     (read_by_each m.number (first_flight m turn.node) turn.children) turn.added k turn.ends ∙ ap (λ (x : ℕ). x + 1) reads.commits
 
 -- in the same run
-ends_run : (m : Machine) (f : Flight) (added : Bool) (k : Machine) → EndsTurn m f added k → k.run ≡ m.run
+ends_run : (m : Machine) (f : Flight) (added : Bool) (k : Machine) → EndsTurn 0 m f added k → k.run ≡ m.run
 ends_run m f added k drops = refl
 ends_run m f added k (commits point) = refl
 ends_run m f added k (adds point low) = refl

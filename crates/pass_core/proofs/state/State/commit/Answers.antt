@@ -1,4 +1,4 @@
-use Rattle.std.proofs.Common.{◌≡◌, None, IfSome, OnOk, refl, sym, ap, subst, ◌∙◌}
+use Rattle.std.proofs.Common.{◌≡◌, None, IfSome, OnOk, refl, sym, ap, subst}
 use Rattle.scen_defs.specs.Program.{content, node_at}
 use Rattle.scen_defs.specs.declared.report.Place.{Place}
 use Rattle.scen_defs.specs.declared.report.Place.TheVariants.{Solve, Cut}
@@ -63,9 +63,9 @@ returns-in_ok-point-in-Point-clause-tabled c = λ m f solving number node about.
     let old = c.args.self.now in
     let trial = c.args.begun.now.task.trial in
     let all : Solved = solved.Point c.in-Point.point c.in-Point.value c.in-Point.cut in
-    on_ok c.complete.result (KeepsPools c.point.new.self c.complete.new.self) (EndsSolve (EndsBy trial c.args.solved) old c.complete.new.self m f)
-    (λ k. told_ends trial c.args.solved all old c.complete.new.self m f c.in-Point.is
-    (ends_then (EndsBy trial all) old c.point.new.self c.complete.new.self m f
+    on_ok c.complete.result (KeepsPools c.point.new.self c.complete.new.self) (EndsSolve c.args.worker (EndsBy c.args.worker trial c.args.solved) old c.complete.new.self m f)
+    (λ k. told_ends c.args.worker trial c.args.solved all old c.complete.new.self m f c.in-Point.is
+    (ends_then c.args.worker (EndsBy c.args.worker trial all) old c.point.new.self c.complete.new.self m f
     (c.in_ok-point-in-Point.ensures.tabled m f solving number node (subst (IsAbout c.args.node) c.in-Point.is about)) k))
     c.complete.ensures.pools
 
@@ -74,8 +74,8 @@ returns-in-NoPoint-clause-tabled c = λ m f solving number node about.
     let old = c.args.self.now in
     let trial = c.args.begun.now.task.trial in
     let all : Solved = solved.NoPoint c.in-NoPoint.cut in
-    on_ok c.no_point.result (EndsSolve (EndsBy trial all) old c.no_point.new.self m f) (EndsSolve (EndsBy trial c.args.solved) old c.no_point.new.self m f)
-    (told_ends trial c.args.solved all old c.no_point.new.self m f c.in-NoPoint.is)
+    on_ok c.no_point.result (EndsSolve c.args.worker (EndsBy c.args.worker trial all) old c.no_point.new.self m f) (EndsSolve c.args.worker (EndsBy c.args.worker trial c.args.solved) old c.no_point.new.self m f)
+    (told_ends c.args.worker trial c.args.solved all old c.no_point.new.self m f c.in-NoPoint.is)
     (c.no_point.ensures.tabled m f solving number node (subst (IsAbout c.args.node) c.in-NoPoint.is about))
 
 pub returns-in-PivotsEnded-clause-tabled : goal.returns-in-PivotsEnded-clause-tabled
@@ -83,8 +83,8 @@ returns-in-PivotsEnded-clause-tabled c = λ m f solving number node about.
     let old = c.args.self.now in
     let trial = c.args.begun.now.task.trial in
     let all : Solved = solved.PivotsEnded in
-    told_ends trial c.args.solved all old c.left_open.new.self m f c.in-PivotsEnded.is
-    (left_ends (EndsBy trial all) old c.left_open.new.self m f c.args.begun.now.readings.items _ _ solving number
+    told_ends c.args.worker trial c.args.solved all old c.left_open.new.self m f c.in-PivotsEnded.is
+    (left_ends c.args.worker (EndsBy c.args.worker trial all) old c.left_open.new.self m f c.args.begun.now.readings.items _ _ solving number
     c.left_open.ensures.drops c.left_open.ensures.others (refl, refl))
 
 pub returns-in-Passed-clause-tabled : goal.returns-in-Passed-clause-tabled
@@ -92,13 +92,13 @@ returns-in-Passed-clause-tabled c = λ m f solving number node about.
     let old = c.args.self.now in
     let trial = c.args.begun.now.task.trial in
     let all : Solved = solved.Passed c.in-Passed.in_cut c.in-Passed.passed in
-    told_ends trial c.args.solved all old c.left_open-in-Passed.new.self m f c.in-Passed.is
-    (left_ends (EndsBy trial all) old c.left_open-in-Passed.new.self m f c.args.begun.now.readings.items _ _ solving number
+    told_ends c.args.worker trial c.args.solved all old c.left_open-in-Passed.new.self m f c.in-Passed.is
+    (left_ends c.args.worker (EndsBy c.args.worker trial all) old c.left_open-in-Passed.new.self m f c.args.begun.now.readings.items _ _ solving number
     c.left_open-in-Passed.ensures.drops c.left_open-in-Passed.ensures.others (refl, refl))
 
 pub returns-in-Loose-clause-tabled : goal.returns-in-Loose-clause-tabled
 returns-in-Loose-clause-tabled c = λ m f solving number node about.
-    neither_ends c.args.begun.now.task.trial c.args.solved c.args.self.now c.left_stuck.new.self m f c.args.begun.now.readings.items _ _ solving number
+    neither_ends c.args.worker c.args.begun.now.task.trial c.args.solved c.args.self.now c.left_stuck.new.self m f c.args.begun.now.readings.items _ _ solving number
     c.left_stuck.ensures.drops c.left_stuck.ensures.others c.in-Loose.is
 
 pub returns-in_ok-point-in-Point-clause-points : goal.returns-in_ok-point-in-Point-clause-points

@@ -33,9 +33,9 @@ returns-clause-tabled c = λ m frame out begun.
     let s : State = record c.args.self.now { counts = c.raise.new.self } in
     let n = c.args.begun.now.node in
     let b = begun_counted p c.args.self.now m n c.raise.new.self begun in
-    let w : Machine → Flight → Bool → Machine → Type 0 = EndsBy c.args.begun.now.task.trial c.args.solved in
+    let w : Machine → Flight → Bool → Machine → Type 0 = EndsBy 0 c.args.begun.now.task.trial c.args.solved in
     on_ok c.commit.result
-    (EndsSolve w s c.commit.new.self (read_machine p s m n i frame b) (begun_flight p s m n i frame b))
+    (EndsSolve 0 w s c.commit.new.self (read_machine p s m n i frame b) (begun_flight p s m n i frame b))
     (EndsBegun EndsAnyhow p m n c.commit.new.self)
     (λ e. anyhow w p m n c.commit.new.self (solve_ends p s m n i frame b w c.commit.new.self e))
     (c.commit.ensures.tabled (read_machine p s m n i frame b) (begun_flight p s m n i frame b)

@@ -24,7 +24,7 @@ returns-clause-explained c = λ p tree g.
 pub returns-clause-tabled : goal.returns-clause-tabled
 returns-clause-tabled c = λ m f solving number node about.
     let s : State = record c.args.self.now { lasts = c.forget.new.self } in
-    offered_ends (EndsBy c.args.begun.now.task.trial (solved.NoPoint c.args.cut)) c.in_ok-is_raised.is_raised false c.args.node c.args.self.now s c.take_ray.new.self c.commit_last.new.self m f
+    offered_ends c.args.worker (EndsBy c.args.worker c.args.begun.now.task.trial (solved.NoPoint c.args.cut)) c.in_ok-is_raised.is_raised false c.args.node c.args.self.now s c.take_ray.new.self c.commit_last.new.self m f
     c.args.begun.now.readings.items _ solving number node (lasts_keeps c.args.self.now s c.forget.new.self refl)
     (c.in_ok-is_raised.ensures.raises about) c.in_ok-is_raised.ensures.low c.commit_last.ensures.others
     (λ still. c.commit_last.ensures.commits m f still node c.in_ok-is_raised.ensures.low) refl

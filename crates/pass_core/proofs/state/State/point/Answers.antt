@@ -27,14 +27,14 @@ returns-clause-explained c = λ p tree x g.
 pub returns-then-not-branch-clause-tabled : goal.returns-then-not-branch-clause-tabled
 returns-then-not-branch-clause-tabled c = λ m f solving number node about.
     let q : c.in_ok-keep.field-0 ≡ false = first_of (cc, search (rules, not_true, c.if-not-branch.true)) in
-    left_ends (EndsBy c.args.begun.now.task.trial (solved.Point c.args.point c.args.value c.args.cut)) c.args.self.now c.keep.new.self m f c.args.begun.now.readings.items _ _ solving number
+    left_ends c.args.worker (EndsBy c.args.worker c.args.begun.now.task.trial (solved.Point c.args.point c.args.value c.args.cut)) c.args.self.now c.keep.new.self m f c.args.begun.now.readings.items _ _ solving number
     (c.in_ok-keep.ensures.drops (ap (λ (b : Bool). Ok b) q)) (c.in_ok-keep.ensures.stuck (ap (λ (b : Bool). Ok b) q))
     (inr (join_passes c.args.self.now.lasts.nodes.items c.args.node c.args.begun.now.task.trial c.args.point (c.in_ok-keep.ensures.passed (ap (λ (b : Bool). Ok b) q)), (refl, refl)))
 
 pub returns-clause-tabled : goal.returns-clause-tabled
 returns-clause-tabled c = λ m f solving number node about.
     let q : c.in_ok-keep.field-0 ≡ true = first_of (cc, search (rules, not_false, c.if-not-branch.false)) in
-    offered_ends (EndsBy c.args.begun.now.task.trial (solved.Point c.args.point c.args.value c.args.cut)) c.in_ok-is_raised.is_raised true c.args.node c.args.self.now c.keep.new.self c.take_bound.new.self c.commit_last.new.self m f
+    offered_ends c.args.worker (EndsBy c.args.worker c.args.begun.now.task.trial (solved.Point c.args.point c.args.value c.args.cut)) c.in_ok-is_raised.is_raised true c.args.node c.args.self.now c.keep.new.self c.take_bound.new.self c.commit_last.new.self m f
     c.args.begun.now.readings.items _ solving number node
     (lasts_keeps c.args.self.now c.keep.new.self _ (c.in_ok-keep.ensures.others (ap (λ (b : Bool). Ok b) q)))
     (c.in_ok-is_raised.ensures.raises about) c.in_ok-is_raised.ensures.low c.commit_last.ensures.others
