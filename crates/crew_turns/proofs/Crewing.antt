@@ -33,11 +33,11 @@ record Stands (start m : Machine) : Type 0 where
 
 -- ---- Reads
 -- what a worker's Reads keep
-record KeepsByReads (m k : Machine) (j : Machine) : Type 0 where
-  valid : IsValid k
-  fair : IsFair k
-  sheltered : IsSheltered k
-  alike : AreAlike k j
+pub record KeepsByReads (m k : Machine) (j : Machine) : Type 0 where
+  pub valid : IsValid k
+  pub fair : IsFair k
+  pub sheltered : IsSheltered k
+  pub alike : AreAlike k j
 
 sheltered_read : (m : Machine) (v : ℕ) (f : Flight) (c : ℕ) → m.flight v ≡ Some f → IsSheltered m → IsSheltered (read m v f c)
 sheltered_read m v f c has h d a (u, (g, flown)) up may =
@@ -56,7 +56,7 @@ alike_read m j v f c e = record {
   below = λ n d child. e.below n d (record { live = child.live; lower = child.lower; parent = child.parent });
 }
 
-reads_keep : (m j : Machine) (v : ℕ) (f : Flight) (cs : List ℕ) → m.flight v ≡ Some f → IsValid m → IsFair m → IsSheltered m → AreAlike m j
+pub reads_keep : (m j : Machine) (v : ℕ) (f : Flight) (cs : List ℕ) → m.flight v ≡ Some f → IsValid m → IsFair m → IsSheltered m → AreAlike m j
     → KeepsByReads m (read_all m v f cs) j
 reads_keep m j v f [] has valid fair sheltered alike = record { valid = valid; fair = fair; sheltered = sheltered; alike = alike }
 reads_keep m j v f (c ∷ cs) has valid fair sheltered alike =
@@ -64,7 +64,7 @@ reads_keep m j v f (c ∷ cs) has valid fair sheltered alike =
     (keeps_fair.reads m v f c fair has) (sheltered_read m v f c has sheltered) (alike_read m j v f c alike) in
     record { valid = rest.valid; fair = rest.fair; sheltered = rest.sheltered; alike = rest.alike }
 
-alike_begun : (m j : Machine) (v n : ℕ) → AreAlike m j → AreAlike (begun m v n) j
+pub alike_begun : (m j : Machine) (v n : ℕ) → AreAlike m j → AreAlike (begun m v n) j
 alike_begun m j v n e = record {
   live = e.live;
   parent = e.parent;
@@ -112,15 +112,15 @@ turned_well k n cs p valid idle may =
       node = node_read k.number (first_flight k n) cs;
     }
 
+pub child_from : (m k : Machine) → AreAlike m k → (n c : ℕ) → IsChild k n c → IsChild m n c
+child_from m k e n c q = record {
+  live = ap (λ (l : ℕ → Bool). l c) (sym e.live) ∙ q.live;
+  lower = q.lower;
+  parent = ap (λ (p : ℕ → ℕ). p c) (sym e.parent) ∙ q.parent;
+}
+
 children_of : (m k : Machine) → AreAlike m k → (n : ℕ) (cs : List ℕ) → AreChildren m n cs → AreChildren k n cs
-children_of m k e n cs h c = ((λ q. (h c).0 (back q)), (λ q. child_to m k e n c ((h c).1 q)))
-  where
-    back : IsChild k n c → IsChild m n c
-    back q = record {
-      live = ap (λ (l : ℕ → Bool). l c) (sym e.live) ∙ q.live;
-      lower = q.lower;
-      parent = ap (λ (p : ℕ → ℕ). p c) (sym e.parent) ∙ q.parent;
-    }
+children_of m k e n cs h c = ((λ q. (h c).0 (child_from m k e n c q)), (λ q. child_to m k e n c ((h c).1 q)))
 
 stands_committed : (start m : Machine) (v : ℕ) (f : Flight) (cs : List ℕ) (p : Bool) → IsFlown m f.node v f → AreChildren m f.node cs
     → Stands start m → Stands start (committed m v f p)
@@ -140,7 +140,7 @@ stands_committed start m v f cs p mine children h =
       alike = turn.alike;
     }
 
-alike_raised : (m k : Machine) (q : ℕ) → AreAlike m k → AreAlike (raised m q) (raised k q)
+pub alike_raised : (m k : Machine) (q : ℕ) → AreAlike m k → AreAlike (raised m q) (raised k q)
 alike_raised m k q e = record {
   live = e.live;
   parent = e.parent;

@@ -6,3 +6,4 @@ pub mod Turned
 pub mod Sheltered
 pub mod Reading
 pub mod Crewing
+pub mod Beside

@@ -37,7 +37,7 @@ made_from m k e n h = record {
   above = λ a up. sym (e.commit a) ∙ h.above a (up_to m k e a n up) ∙ e.above n a up;
 }
 
-fresh_from : (m k : Machine) → AreAlike m k → (n : ℕ) → IsFresh k n → IsFresh m n
+pub fresh_from : (m k : Machine) → AreAlike m k → (n : ℕ) → IsFresh k n → IsFresh m n
 fresh_from m k e n h = record {
   made = made_from m k e n h.made;
   below = λ c child. ap (λ (q : ℕ → ℕ). q c) (sym e.number) ∙ h.below c (child_to m k e n c child) ∙ e.below n c child;
@@ -55,6 +55,9 @@ fresh_to m k e n h = record {
 
 pub good_to : (m k : Machine) → AreAlike m k → (n : ℕ) → IsGood m n → IsGood k n
 good_to m k e n h = (made_to m k e n h.0, e.point n ∙ h.1)
+
+pub good_from : (m k : Machine) → AreAlike m k → (n : ℕ) → IsGood k n → IsGood m n
+good_from m k e n h = (made_from m k e n h.0, sym (e.point n) ∙ h.1)
 
 -- ---- what Reads leave of what was seen above
 above_read : (number : ℕ → ℕ) (f : Flight) (cs : List ℕ) → (read_by_each number f cs).above ≡ f.above

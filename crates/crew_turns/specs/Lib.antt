@@ -6,3 +6,4 @@ pub mod Alike
 pub mod Rounds
 pub mod Reads
 pub mod Crew
+pub mod Besides

@@ -2,6 +2,7 @@
 ghost use Rattle.crew_turns.specs.Turn.{TurnsKeepValid};
 ghost use Rattle.crew_turns.specs.Work.{TurnsAddCuts};
 ghost use Rattle.crew_turns.specs.Order.{TurnsGoRound};
+ghost use Rattle.crew_turns.specs.Besides.{TablesFitBesides};
 ghost use Rattle.crew_turns.specs.Clear.{EventsKeepFair};
 ghost use Rattle.crew_turns.specs.Alike.{CommitsAreTurns};
 ghost use Rattle.crew_turns.specs.Crew.{CrewsTakeTurns};
@@ -46,4 +47,9 @@ pub fn reads_stay()
 /// What several workers leave is one run of turns.
 pub fn crews_take_turns()
     ensures { CrewsTakeTurns }
+{}
+
+/// A table that fits a machine with solves in flight tells the same of one without any, and the end of a solve is a turn of that one.
+pub fn tables_fit_besides()
+    ensures { TablesFitBesides }
 {}

@@ -6,5 +6,5 @@ mod laws;
 
 pub use laws::{
     commits_are_turns, crews_take_turns, events_keep_fair, reads_stay, rounds_keep_clear,
-    turns_add_cuts, turns_go_round, turns_keep_valid,
+    tables_fit_besides, turns_add_cuts, turns_go_round, turns_keep_valid,
 };
