@@ -27,3 +27,4 @@ pub mod NeverStuck
 pub mod RootForms
 pub mod Ways
 pub mod WhereMet
+pub mod Apart

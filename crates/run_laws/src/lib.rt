@@ -1,6 +1,7 @@
 //! What the runs of the nested method come to on a program, and its way through a script of edits and reports. No code that runs.
 #![tactic(auto)]
 
+ghost use Rattle.run_laws.specs.Apart.{SolvesApartStay};
 ghost use Rattle.run_laws.specs.Laws.{ClosedRunsMeet, RunsGoOn, EndsAreSettled, NeverRefuses};
 ghost use Rattle.run_laws.specs.Finished.{EndsAreFinished};
 ghost use Rattle.run_laws.specs.Settled.{SettledClaimsHold};
@@ -81,4 +82,9 @@ pub fn edits_keep_way()
 /// An operation that a state keeps of a cut or of a cost passed behind the solve with its number, on the way to the state.
 pub fn reasons_were_met()
     ensures { ReasonsWereMet }
+{}
+
+/// A solve that was begun stays as it was begun where a node apart from its own is solved before it ends.
+pub fn solves_apart_stay()
+    ensures { SolvesApartStay }
 {}
