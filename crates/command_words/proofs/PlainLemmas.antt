@@ -1,18 +1,21 @@
 -- Plain words are read as what they were made of.
 use Rattle.std.proofs.Common.{◌≡◌, ◌∙◌, ◌+◌, ◌&&◌, ◌||◌, ◌==◌, ℕ, suc, Bool, true, false, not, cond, List, [], ◌∷◌, ◌++◌, length, take, drop, map}
-use Rattle.std.proofs.Common.{Option, Some, None, is_some, refl, sym, ap, arith, length-append, append-nil, append_assoc, lt-ltb}
+use Rattle.std.proofs.Common.{Option, Some, None, is_some, refl, sym, ap, arith, length-append, append-nil, append_assoc, lt-ltb, codes}
 use Rattle.std.specs.Prelude.{ltb}
 use Rattle.std.specs.List.{list_all, list_any, position_or_len}
 use Rattle.std.proofs.lemmas.List.{take_at, drop_at, length_push}
 use Rattle.std.proofs.lemmas.Slice.Eq.{bytes_eq-Decides}
 use Rattle.clap.proofs.WalkLemmas.{both}
 use Rattle.command_words.specs.declared.flag.Flag.{Flag}
-use Rattle.command_words.specs.declared.flag.Flag.TheVariants.{Core, Time, Stoch, Edits, Report, Solves, Pivots, Workers}
+use Rattle.command_words.specs.declared.flag.Flag.TheVariants.{Core, Time, Stoch, Edits, Report, Whole, Solves, Pivots, Workers}
 use Rattle.command_words.specs.declared.flag.Flag.TheVariants.{Start, Stages, Branches, Size, Text}
 use Rattle.command_words.specs.declared.command.Verb.{Verb}
 use Rattle.command_words.specs.Table.{flag_text}
-use Rattle.command_words.specs.Words.{ArePlain, Given, after_cut, cut, flag_named, is_equals, is_value, plain_word, same_flag}
-use Rattle.command_words.specs.Words.{setting_of, settings_from, settings_of, then_some, valued}
+use Rattle.command_words.specs.declared.table.ValueKind.{ValueKind}
+use Rattle.command_words.specs.declared.table.ValueKind.TheVariants as kind
+use Rattle.command_words.specs.Table.{value_kind}
+use Rattle.command_words.specs.Words.{ArePlain, Given, after_cut, after_switch, cut, flag_named, is_equals, is_value, plain_word, same_flag}
+use Rattle.command_words.specs.Words.{setting_of, settings_from, settings_of, switch_among, switch_by_kind, switch_of, then_some, valued}
 use Rattle.command_words.specs.Commands.{Asked, command_by, command_with}
 use Rattle.command_words.proofs.WordLemmas.{joined}
 
@@ -24,6 +27,7 @@ named Time = refl
 named Stoch = refl
 named Edits = refl
 named Report = refl
+named Whole = refl
 named Solves = refl
 named Pivots = refl
 named Workers = refl
@@ -39,6 +43,7 @@ lacks_equals Time = refl
 lacks_equals Stoch = refl
 lacks_equals Edits = refl
 lacks_equals Report = refl
+lacks_equals Whole = refl
 lacks_equals Solves = refl
 lacks_equals Pivots = refl
 lacks_equals Workers = refl
@@ -110,6 +115,16 @@ valued_has (Some flag) value g e = go (is_value value) refl e
     go true t f = let same : made flag value ≡ g = cc in ap (λ (x : Given). is_value x.value) (sym same) ∙ t
     go false t f = cc
 
+switch_kind_has : (flag : Flag) (kind : ValueKind) (g : Given) → switch_by_kind flag kind ≡ Some g → is_value g.value ≡ true
+switch_kind_has flag kind.File g e = cc
+switch_kind_has flag (kind.Number least most) g e = cc
+switch_kind_has flag kind.Page g e = cc
+switch_kind_has flag kind.Yes g e = let same : made flag (codes "yes") ≡ g = cc in ap (λ (x : Given). is_value x.value) (sym same)
+
+switch_has : (flag : Option Flag) (g : Given) → switch_among flag ≡ Some g → is_value g.value ≡ true
+switch_has None g e = cc
+switch_has (Some flag) g e = switch_kind_has flag (value_kind flag) g e
+
 pub both_true : (a b : Bool) → a ≡ true → b ≡ true → (a && b) ≡ true
 both_true true b x y = y
 both_true false b x y = x
@@ -127,8 +142,15 @@ from_has : (done : List Given) (words : List (List ℕ)) (gs : List Given) → h
 from_has done [] gs d e = let same : done ≡ gs = cc in ap have_values (sym same) ∙ d
 from_has done (word ∷ []) gs d e = go (cut word) e
   where
-    go : (parts : Option (List ℕ × List ℕ)) → after_cut parts None (λ s. Some (done ++ s ∷ [])) ≡ Some gs → have_values gs ≡ true
-    go None f = cc
+    alone : (s : Option Given) → switch_of word ≡ s → after_switch s None (λ s. Some (done ++ s ∷ [])) ≡ Some gs → have_values gs ≡ true
+    alone None is f = cc
+    alone (Some g) is f =
+        let same : done ++ g ∷ [] ≡ gs = cc in
+        ap have_values (sym same) ∙ push_has done g d (switch_has (flag_named word) g is)
+
+    go : (parts : Option (List ℕ × List ℕ)) → after_cut parts (after_switch (switch_of word) None (λ s. Some (done ++ s ∷ []))) (λ s. Some (done ++ s ∷ [])) ≡ Some gs
+        → have_values gs ≡ true
+    go None f = alone (switch_of word) refl f
     go (Some parts) f =
         let found = then_gives (setting_of parts.0 parts.1) (λ s. Some (done ++ s ∷ [])) gs f in
         let ends : Some (done ++ found.0 ∷ []) ≡ Some gs = found.2 in
@@ -136,14 +158,25 @@ from_has done (word ∷ []) gs d e = go (cut word) e
         ap have_values (sym same) ∙ push_has done found.0 d (valued_has (flag_named parts.0) parts.1 found.0 found.1)
 from_has done (word ∷ next ∷ words) gs d e = go (cut word) e (λ g. from_has (done ++ g ∷ []) words gs) (λ g. from_has (done ++ g ∷ []) (next ∷ words) gs)
   where
-    go : (parts : Option (List ℕ × List ℕ))
-        → after_cut parts (then_some (setting_of word next) (λ s. settings_from (done ++ s ∷ []) words)) (λ s. settings_from (done ++ s ∷ []) (next ∷ words)) ≡ Some gs
+    uncut : (s : Option Given) → switch_of word ≡ s
+        → after_switch s (then_some (setting_of word next) (λ s. settings_from (done ++ s ∷ []) words)) (λ s. settings_from (done ++ s ∷ []) (next ∷ words)) ≡ Some gs
         → ((g : Given) → have_values (done ++ g ∷ []) ≡ true → settings_from (done ++ g ∷ []) words ≡ Some gs → have_values gs ≡ true)
         → ((g : Given) → have_values (done ++ g ∷ []) ≡ true → settings_from (done ++ g ∷ []) (next ∷ words) ≡ Some gs → have_values gs ≡ true)
         → have_values gs ≡ true
-    go None f apart one =
+    uncut None is f apart one =
         let found = then_gives (setting_of word next) (λ s. settings_from (done ++ s ∷ []) words) gs f in
         apart found.0 (push_has done found.0 d (valued_has (flag_named word) next found.0 found.1)) found.2
+    uncut (Some g) is f apart one = one g (push_has done g d (switch_has (flag_named word) g is)) f
+
+    go : (parts : Option (List ℕ × List ℕ))
+        → after_cut parts
+        (after_switch (switch_of word) (then_some (setting_of word next) (λ s. settings_from (done ++ s ∷ []) words))
+        (λ s. settings_from (done ++ s ∷ []) (next ∷ words)))
+        (λ s. settings_from (done ++ s ∷ []) (next ∷ words)) ≡ Some gs
+        → ((g : Given) → have_values (done ++ g ∷ []) ≡ true → settings_from (done ++ g ∷ []) words ≡ Some gs → have_values gs ≡ true)
+        → ((g : Given) → have_values (done ++ g ∷ []) ≡ true → settings_from (done ++ g ∷ []) (next ∷ words) ≡ Some gs → have_values gs ≡ true)
+        → have_values gs ≡ true
+    go None f apart one = uncut (switch_of word) refl f apart one
     go (Some parts) f apart one =
         let found = then_gives (setting_of parts.0 parts.1) (λ s. settings_from (done ++ s ∷ []) (next ∷ words)) gs f in
         one found.0 (push_has done found.0 d (valued_has (flag_named parts.0) parts.1 found.0 found.1)) found.2

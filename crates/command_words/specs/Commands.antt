@@ -1,11 +1,13 @@
 -- The command that words are.
 use Rattle.std.specs.Prelude.{ℕ, Bool, true, List, [], ◌∷◌, Option, Some, None, is_some, if◌then◌else◌, ◌&&◌, ◌||◌, codes}
 use Rattle.command_words.specs.declared.flag.Flag.{Flag}
-use Rattle.command_words.specs.declared.flag.Flag.TheVariants.{Core, Time, Stoch, Edits, Report, Start, Stages, Branches, Size, Text}
+use Rattle.command_words.specs.declared.flag.Flag.TheVariants.{Core, Time, Stoch, Edits, Report, Whole, Start, Stages, Branches, Size, Text}
 use Rattle.command_words.specs.declared.command.Verb.{Verb}
-use Rattle.command_words.specs.declared.command.Verb.TheVariants.{Solve, Check, Show, Make}
+use Rattle.command_words.specs.declared.command.Verb.TheVariants.{Solve, Check, Show, Flat, Make}
 use Rattle.command_words.specs.declared.command.Task.{Task}
 use Rattle.command_words.specs.declared.command.Task.TheVariants as task
+use Rattle.command_words.specs.declared.command.Extent.{Extent}
+use Rattle.command_words.specs.declared.command.Extent.TheVariants as extent
 use Rattle.command_words.specs.declared.command.Page.{Page}
 use Rattle.command_words.specs.declared.command.Page.TheVariants as page
 use Rattle.command_words.specs.declared.command.Plan.{Plan}
@@ -59,11 +61,23 @@ file_names core time stoch edits report = record { core = core; time = time; sto
 abbrev pub sources_of : Values → Option FileNames
 sources_of value = then_some (value Core) (λ core. Some (file_names core (value Time) (value Stoch) (value Edits) (value Report)))
 
+abbrev pub extent_named : List ℕ → Option Extent
+extent_named word = if same_text word (codes "yes") then Some extent.Whole else None
+
+-- how large one core file may be
+abbrev pub extent_by : Option (List ℕ) → Option Extent
+extent_by None = Some extent.Core
+extent_by (Some word) = extent_named word
+
+abbrev pub extent_of : Values → Option Extent
+extent_of value = extent_by (value Whole)
+
 -- `make` is no task on files
 abbrev pub task_of : Verb → Values → Option Task
 task_of Solve value = then_some (budget_of value) (λ budget. Some (task.Solve budget))
 task_of Check value = Some task.Check
 task_of Show value = Some task.Show
+task_of Flat value = then_some (extent_of value) (λ size. Some (task.Flat size))
 task_of Make value = None
 
 -- ---- workloads
@@ -107,6 +121,7 @@ abbrev pub asked_with : Verb → Values → Option Asked
 asked_with Solve value = on_files Solve value
 asked_with Check value = on_files Check value
 asked_with Show value = on_files Show value
+asked_with Flat value = on_files Flat value
 asked_with Make value = then_some (plan_of value) (λ plan. Some (MakeThis plan))
 
 abbrev pub command_with : Verb → List Given → Option Asked

@@ -1,18 +1,18 @@
 -- The table of commands and options.
 use Rattle.std.specs.Prelude.{ℕ, List, [], ◌∷◌, Option, Some, None, codes}
 use Rattle.command_words.specs.declared.command.Verb.{Verb}
-use Rattle.command_words.specs.declared.command.Verb.TheVariants.{Solve, Check, Show, Make}
+use Rattle.command_words.specs.declared.command.Verb.TheVariants.{Solve, Check, Show, Flat, Make}
 use Rattle.command_words.specs.declared.flag.Flag.{Flag}
-use Rattle.command_words.specs.declared.flag.Flag.TheVariants.{Core, Time, Stoch, Edits, Report, Solves, Pivots, Workers}
+use Rattle.command_words.specs.declared.flag.Flag.TheVariants.{Core, Time, Stoch, Edits, Report, Whole, Solves, Pivots, Workers}
 use Rattle.command_words.specs.declared.flag.Flag.TheVariants.{Start, Stages, Branches, Size, Text}
 use Rattle.command_words.specs.declared.table.TheConstants.{MOST_WORKERS}
 use Rattle.command_words.specs.declared.table.ValueKind.{ValueKind}
-use Rattle.command_words.specs.declared.table.ValueKind.TheVariants.{File, Number, Page}
+use Rattle.command_words.specs.declared.table.ValueKind.TheVariants.{File, Number, Page, Yes}
 
 -- ---- options
 
 abbrev pub all_flags : List Flag
-all_flags = Core ∷ Time ∷ Stoch ∷ Edits ∷ Report ∷ Solves ∷ Pivots ∷ Workers ∷ Start ∷ Stages ∷ Branches ∷ Size ∷ Text ∷ []
+all_flags = Core ∷ Time ∷ Stoch ∷ Edits ∷ Report ∷ Whole ∷ Solves ∷ Pivots ∷ Workers ∷ Start ∷ Stages ∷ Branches ∷ Size ∷ Text ∷ []
 
 -- the name of an option, without its two minuses
 abbrev pub flag_text : Flag → List ℕ
@@ -21,6 +21,7 @@ flag_text Time = codes "time"
 flag_text Stoch = codes "stoch"
 flag_text Edits = codes "edits"
 flag_text Report = codes "report"
+flag_text Whole = codes "whole"
 flag_text Solves = codes "solves"
 flag_text Pivots = codes "pivots"
 flag_text Workers = codes "workers"
@@ -37,6 +38,7 @@ value_kind Time = File
 value_kind Stoch = File
 value_kind Edits = File
 value_kind Report = File
+value_kind Whole = Yes
 value_kind Solves = Number 1 1000000000
 value_kind Pivots = Number 1 1000000000
 value_kind Workers = Number 1 MOST_WORKERS
@@ -54,12 +56,13 @@ goes_with flag = None
 -- ---- commands
 
 abbrev pub all_verbs : List Verb
-all_verbs = Solve ∷ Check ∷ Show ∷ Make ∷ []
+all_verbs = Solve ∷ Check ∷ Show ∷ Flat ∷ Make ∷ []
 
 abbrev pub verb_text : Verb → List ℕ
 verb_text Solve = codes "solve"
 verb_text Check = codes "check"
 verb_text Show = codes "show"
+verb_text Flat = codes "flat"
 verb_text Make = codes "make"
 
 -- the options that a command needs
@@ -67,6 +70,7 @@ abbrev pub needed_flags : Verb → List Flag
 needed_flags Solve = Core ∷ []
 needed_flags Check = Core ∷ Report ∷ []
 needed_flags Show = Core ∷ []
+needed_flags Flat = Core ∷ []
 needed_flags Make = Start ∷ Stages ∷ Branches ∷ Size ∷ []
 
 -- those that it takes beside them
@@ -74,4 +78,5 @@ abbrev pub further_flags : Verb → List Flag
 further_flags Solve = Time ∷ Stoch ∷ Edits ∷ Solves ∷ Pivots ∷ Workers ∷ []
 further_flags Check = Time ∷ Stoch ∷ Edits ∷ []
 further_flags Show = Time ∷ Stoch ∷ Edits ∷ []
+further_flags Flat = Time ∷ Stoch ∷ Edits ∷ Whole ∷ []
 further_flags Make = Text ∷ []

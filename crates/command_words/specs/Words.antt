@@ -1,6 +1,6 @@
 -- The words of a command.
 use Rattle.std.specs.Prelude.{◌≡◌, ℕ, Bool, true, false, List, [], ◌∷◌, ◌++◌, length, Option, Some, None}
-use Rattle.std.specs.Prelude.{is_none, is_some, map, option_map}
+use Rattle.std.specs.Prelude.{is_none, is_some, map, option_map, codes}
 use Rattle.std.specs.Prelude.{if◌then◌else◌, nat_eq, leb, ltb, ◌==◌, not, ◌&&◌, ◌||◌}
 use Rattle.std.specs.Cmp.Lexicographic.{pointwise}
 use Rattle.std.specs.Coded.{Coded-set, coded_list, coded_option, coded_ℕ}
@@ -9,7 +9,7 @@ use Rattle.frac128.specs.Numbers.{is_digit, number_from}
 use Rattle.command_words.specs.declared.flag.Flag.{Flag}
 use Rattle.command_words.specs.declared.flag.Flag.TheVariants.{Solves, Pivots, Workers}
 use Rattle.command_words.specs.declared.table.ValueKind.{ValueKind}
-use Rattle.command_words.specs.declared.table.ValueKind.TheVariants.{File, Number, Page}
+use Rattle.command_words.specs.declared.table.ValueKind.TheVariants.{File, Number, Page, Yes}
 use Rattle.command_words.specs.declared.command.Verb.{Verb}
 use Rattle.command_words.specs.declared.command.Budget.{Budget}
 use Rattle.command_words.specs.Table.{all_flags, all_verbs, flag_text, value_kind, verb_text}
@@ -63,6 +63,23 @@ valued (Some flag) value = if is_value value then Some (record { flag = flag; va
 abbrev pub setting_of : List ℕ → List ℕ → Option Given
 setting_of name value = valued (flag_named name) value
 
+-- an option that stands alone says yes
+abbrev pub switch_by_kind : Flag → ValueKind → Option Given
+switch_by_kind flag File = None
+switch_by_kind flag (Number least most) = None
+switch_by_kind flag Page = None
+switch_by_kind flag Yes = Some (record { flag = flag; value = codes "yes" })
+
+abbrev pub switch_by : Flag → Option Given
+switch_by flag = switch_by_kind flag (value_kind flag)
+
+abbrev pub switch_among : Option Flag → Option Given
+switch_among None = None
+switch_among (Some flag) = switch_by flag
+
+abbrev pub switch_of : List ℕ → Option Given
+switch_of word = switch_among (flag_named word)
+
 -- options are told apart by their names
 abbrev pub same_flag : Flag → Flag → Bool
 same_flag one other = same_text (flag_text one) (flag_text other)
@@ -94,13 +111,21 @@ abbrev pub after_cut : {X : Type 0} → Option (List ℕ × List ℕ) → Option
 after_cut None other f = other
 after_cut (Some parts) other f = then_some (setting_of parts.0 parts.1) f
 
--- the options behind those that are read: `--name=value` is one word, cut at its first `=`, and `--name value` two
+-- what comes of the setting of an option that stands alone; else the other
+abbrev pub after_switch : {X : Type 0} → Option Given → Option X → (Given → Option X) → Option X
+after_switch None other f = other
+after_switch (Some s) other f = f s
+
+-- the options behind those that are read: `--name=value` is one word, cut at its first `=`, `--name` one where it stands alone, and
+-- `--name value` two
 abbrev pub settings_from : List Given → List (List ℕ) → Option (List Given)
 settings_from done [] = Some done
-settings_from done (word ∷ []) = after_cut (cut word) None (λ s. Some (done ++ s ∷ []))
+settings_from done (word ∷ []) =
+    after_cut (cut word) (after_switch (switch_of word) None (λ s. Some (done ++ s ∷ []))) (λ s. Some (done ++ s ∷ []))
 settings_from done (word ∷ next ∷ words) =
     after_cut (cut word)
-    (then_some (setting_of word next) (λ s. settings_from (done ++ s ∷ []) words))
+    (after_switch (switch_of word) (then_some (setting_of word next) (λ s. settings_from (done ++ s ∷ []) words))
+    (λ s. settings_from (done ++ s ∷ []) (next ∷ words)))
     (λ s. settings_from (done ++ s ∷ []) (next ∷ words))
 
 abbrev pub settings_of : List (List ℕ) → Option (List Given)
@@ -138,6 +163,7 @@ abbrev pub number_for : ValueKind → List ℕ → Option ℕ
 number_for File word = None
 number_for (Number least most) word = number_within word least most
 number_for Page word = None
+number_for Yes word = None
 
 -- the number of an option, or the number that stands for an absent one
 abbrev pub number_or : ℕ → Flag → Option (List ℕ) → Option ℕ

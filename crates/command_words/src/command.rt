@@ -4,7 +4,7 @@ ghost use Rattle.std.specs.Option.{option_map};
 ghost use Rattle.command_words.specs.Table.{value_kind};
 ghost use Rattle.command_words.specs.Words.{verb_among, verb_named, number_for, number_or, number_given, budget_of};
 ghost use Rattle.command_words.specs.Commands.{allows, all_allowed, are_there, is_there_if, go_together, are_options};
-ghost use Rattle.command_words.specs.Commands.{sources_of, task_of, page_named, page_of, plan_of};
+ghost use Rattle.command_words.specs.Commands.{sources_of, extent_named, extent_of, task_of, page_named, page_of, plan_of};
 ghost use Rattle.command_words.specs.Commands.{on_files, asked_with, command_with};
 ghost use Rattle.command_words.specs.Views.{asked, all_given, sources_view};
 
@@ -20,6 +20,7 @@ pub enum Verb {
     Solve,
     Check,
     Show,
+    Flat,
     Make,
 }
 
@@ -50,6 +51,15 @@ pub struct Budget {
     pub pivots_stated: bool,
 }
 
+/// How large the one core file of `flat` may be.
+#[derive(Clone, Copy, Debug, PartialEq, Eq)]
+pub enum Extent {
+    /// As large as each core file.
+    Core,
+    /// As large as a program on a tree.
+    Whole,
+}
+
 /// What is done with the program that files state.
 #[derive(Clone, Copy, Debug, PartialEq, Eq)]
 pub enum Task {
@@ -59,6 +69,8 @@ pub enum Task {
     Check,
     /// Print it.
     Show,
+    /// Print it as one core file.
+    Flat(Extent),
 }
 
 /// The texts of a workload.
@@ -200,7 +212,7 @@ fn number_for(flag: Flag, value: &str) -> Option<u64>
         ValueKind::Number(least, most) => {
             number_within(value.as_bytes(), least as u64, most as u64)
         }
-        ValueKind::File | ValueKind::Page => None,
+        ValueKind::File | ValueKind::Page | ValueKind::Yes => None,
     }
 }
 
@@ -238,6 +250,25 @@ fn budget_given<'a, V: Values<'a>>(values: &V) -> Option<Budget>
     })
 }
 
+fn extent_named(word: &str) -> Option<Extent>
+    ensures { result ≡ extent_named word.now }
+{
+    match word {
+        "yes" => Some(Extent::Whole),
+        _ => None,
+    }
+}
+
+/// How large one core file may be; none where the option has another value than `YES`.
+fn extent_given<'a, V: Values<'a>>(values: &V) -> Option<Extent>
+    ensures { result ≡ extent_of (V.values values.now) }
+{
+    match values.value(Flag::Whole) {
+        None => Some(Extent::Core),
+        Some(word) => extent_named(word),
+    }
+}
+
 /// The task of a verb; none of `make`.
 fn task_given<'a, V: Values<'a>>(verb: Verb, values: &V) -> Option<Task>
     ensures { result ≡ task_of verb (V.values values.now) }
@@ -249,6 +280,10 @@ fn task_given<'a, V: Values<'a>>(verb: Verb, values: &V) -> Option<Task>
         }
         Verb::Check => Some(Task::Check),
         Verb::Show => Some(Task::Show),
+        Verb::Flat => {
+            let extent = extent_given(values)?;
+            Some(Task::Flat(extent))
+        }
         Verb::Make => None,
     }
 }
@@ -309,7 +344,7 @@ pub(crate) fn asked_with<'a, V: Values<'a>>(verb: Verb, values: &V) -> Option<Co
     ensures { option_map asked result ≡ asked_with verb (V.values values.now) }
 {
     match verb {
-        Verb::Solve | Verb::Check | Verb::Show => on_files(verb, values),
+        Verb::Solve | Verb::Check | Verb::Show | Verb::Flat => on_files(verb, values),
         Verb::Make => {
             let plan = plan_given(values)?;
             Some(Command::Make(plan))

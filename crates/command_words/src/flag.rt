@@ -17,6 +17,8 @@ pub enum Flag {
     Edits,
     /// The name of the file of reports.
     Report,
+    /// Whether one core file may have more than other core files.
+    Whole,
     /// How many node programs are solved for a report.
     Solves,
     /// How many pivots a solve may take.

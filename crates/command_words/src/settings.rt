@@ -2,10 +2,12 @@
 ghost use Rattle.std.specs.Prelude.{◌≡◌, ◌≤◌, ℕ, List, [], ◌∷◌, ◌++◌, None, length, map, string_bytes, IfOk};
 ghost use Rattle.std.specs.Prelude.{IfSome, IfNone};
 ghost use Rattle.std.specs.Option.{option_map};
-ghost use Rattle.command_words.specs.Words.{Given, setting_of, cut, settings_from, settings_of, value_with, are_once};
+ghost use Rattle.command_words.specs.Words.{Given, setting_of, switch_by, switch_of, cut, settings_from, settings_of, value_with};
+ghost use Rattle.command_words.specs.Words.{are_once};
 ghost use Rattle.command_words.specs.Views.{given, all_given};
 
 use crate::flag::{Flag, flag_named, is_same};
+use crate::table::{ValueKind, YES};
 use crate::value::is_value;
 use std::alloc::{AllocError, Global};
 
@@ -28,6 +30,24 @@ fn setting_with<'a>(name: &str, value: &'a str) -> Option<Setting<'a>>
     }
 }
 
+/// The setting of an option that stands alone; none of one that has a value.
+fn switch_with<'a>(flag: Flag) -> Option<Setting<'a>>
+    ensures { option_map given result ≡ switch_by flag }
+{
+    match flag.row().kind {
+        ValueKind::Yes => Some(Setting { flag, value: YES }),
+        ValueKind::File | ValueKind::Number(_, _) | ValueKind::Page => None,
+    }
+}
+
+/// The option of that name, where it is one that stands alone.
+fn switch<'a>(word: &str) -> Option<Setting<'a>>
+    ensures { option_map given result ≡ switch_of word.now }
+{
+    let flag = flag_named(word)?;
+    switch_with(flag)
+}
+
 /// A word cut at its first `=`, where it has one.
 fn cut(word: &str) -> Option<(&str, &str)>
     ensures { option_map (λ parts. (parts.0.now, parts.1.now)) result ≡ cut word.now }
@@ -47,12 +67,16 @@ fn next_setting<'a>(word: &'a str, after: &'a [String]) -> Option<(Setting<'a>, 
         let setting = setting_with(name, value)?;
         return Some((setting, after));
     }
+    if let Some(alone) = switch(word) {
+        return Some((alone, after));
+    }
     let (value, behind) = after.split_first()?;
     let setting = setting_with(word, value.as_str())?;
     Some((setting, behind))
 }
 
-/// The options of the words, in their order: `--name value` or `--name=value`. None where a word is something else.
+/// The options of the words, in their order: `--name value` or `--name=value`, or `--name` alone where its value is `YES`. None where a
+/// word is something else.
 pub(crate) fn settings<'a>(
     alloc: Global,
     words: &'a [String],

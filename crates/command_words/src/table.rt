@@ -11,6 +11,9 @@ pub const MOST_WORKERS: u32 = 1;
 /// The words that an option for a text of a workload may have as its value.
 pub const PAGES: [&'static str; 3] = ["core", "time", "stoch"];
 
+/// The value of an option that stands alone.
+pub const YES: &'static str = "yes";
+
 /// What the value of an option is.
 #[derive(Clone, Copy, Debug)]
 pub enum ValueKind {
@@ -20,6 +23,8 @@ pub enum ValueKind {
     Number(u32, u32),
     /// A text of a workload, one of `PAGES`.
     Page,
+    /// `YES`, which need not be written: the option stands alone.
+    Yes,
 }
 
 impl ValueKind {
@@ -29,6 +34,7 @@ impl ValueKind {
             ValueKind::File => "FILE",
             ValueKind::Number(_, _) => "N",
             ValueKind::Page => "TEXT",
+            ValueKind::Yes => "",
         }
     }
 }
@@ -58,15 +64,16 @@ pub struct CommandRow {
 }
 
 /// All commands.
-pub const VERBS: [Verb; 4] = [Verb::Solve, Verb::Check, Verb::Show, Verb::Make];
+pub const VERBS: [Verb; 5] = [Verb::Solve, Verb::Check, Verb::Show, Verb::Flat, Verb::Make];
 
 /// All options.
-pub const FLAGS: [Flag; 13] = [
+pub const FLAGS: [Flag; 14] = [
     Flag::Core,
     Flag::Time,
     Flag::Stoch,
     Flag::Edits,
     Flag::Report,
+    Flag::Whole,
     Flag::Solves,
     Flag::Pivots,
     Flag::Workers,
@@ -119,6 +126,12 @@ impl Flag {
             },
             Flag::Edits => file("edits", "edits of the data, and where a report is wanted"),
             Flag::Report => file("report", "the reports that are tested"),
+            Flag::Whole => OptionRow {
+                name: "whole",
+                kind: ValueKind::Yes,
+                with: None,
+                help: "also beyond the limits of a core file, up to 10000000 entries",
+            },
             Flag::Solves => number(
                 "solves",
                 1,
@@ -188,6 +201,12 @@ impl Verb {
                 about: "print the tree that the files mean, after all edits",
                 needs: &[Flag::Core],
                 takes: &[Flag::Time, Flag::Stoch, Flag::Edits],
+            },
+            Verb::Flat => CommandRow {
+                name: "flat",
+                about: "print the program of all nodes as one core file, after all edits, for any solver",
+                needs: &[Flag::Core],
+                takes: &[Flag::Time, Flag::Stoch, Flag::Edits, Flag::Whole],
             },
             Verb::Make => CommandRow {
                 name: "make",

@@ -71,7 +71,10 @@ also where a column has that name",
         Cause::ScriptLimit => "that command is the 10,001st, and an edit list has at most 10,000",
         Cause::Passes(_) => passing(file),
         Cause::ReportBad => "a report has another line there, or no further report is asked for",
-        Cause::TraceBad | Cause::FlatLimit | Cause::TailName => "no command has that cause",
+        Cause::FlatLimit =>
+            "all nodes together have more than 4,000 constraints, 4,000 columns or 100,000 entries, the most of a core file that is \
+read here; with --whole, for other solvers, more than 10,000,000 entries",
+        Cause::TraceBad | Cause::TailName => "no command has that cause",
     }
 }
 
@@ -109,7 +112,8 @@ fn passing(file: FileKind) -> &'static str {
         FileKind::Edits =>
             "after that edit a probability or an end of a row doesn't fit into 128 bits",
         FileKind::Stoch => "a value, a probability or an end of a row doesn't fit into 128 bits",
-        _ => "an end of a row doesn't fit into 128 bits",
+        _ =>
+            "an end of a row doesn't fit into 128 bits; or, under flat, a cost times the probability of its node",
     }
 }
 

@@ -8,6 +8,8 @@ const TAKEN: &str = "\
 solve --core F
 solve --core=F --time T --stoch=S --edits E --solves 3 --pivots=1000000000 --workers 1
 show --edits=E --stoch S --time=T=1 --core a=b
+flat --core F --time=T --stoch S --edits E
+flat --whole --core F
 check --core F --report=R
 check --report R --edits E --stoch S --time T --core F
 make --start 0 --stages 2 --branches 2 --size 1

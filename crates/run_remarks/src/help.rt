@@ -93,6 +93,7 @@ fn put_values(text: &mut String, kind: ValueKind) -> Result<(), AllocError> {
         ValueKind::File => Ok(()),
         ValueKind::Number(least, most) => put_range(text, least, most),
         ValueKind::Page => put_pages(text),
+        ValueKind::Yes => Ok(()),
     }
 }
 

@@ -2,7 +2,7 @@
 //! lines says what is wrong with others, and how a command is called.
 use clap::builder::ValueParser;
 use clap::error::ErrorKind;
-use clap::{Arg, Command, Error, value_parser};
+use clap::{Arg, ArgAction, Command, Error, value_parser};
 use std::alloc::{AllocError, Global};
 use visible_text::push_line;
 
@@ -113,6 +113,24 @@ fn show<'a>(alloc: Global) -> Result<Command<'a>, AllocError> {
     )
 }
 
+/// The option that lifts the limits of one core file.
+fn whole<'a>(alloc: Global) -> Arg<'a> {
+    Arg::new(alloc, "whole")
+        .long("whole")
+        .action(ArgAction::SetTrue)
+        .help("beyond the limits of a core file")
+}
+
+/// Prints a program as one core file.
+fn flat<'a>(alloc: Global) -> Result<Command<'a>, AllocError> {
+    let command = on_files(
+        alloc,
+        "flat",
+        "print the program of all nodes as one core file, after all edits",
+    )?;
+    command.arg(whole(alloc))
+}
+
 /// Makes a program.
 fn make<'a>(alloc: Global) -> Result<Command<'a>, AllocError> {
     let start = number(
@@ -152,6 +170,7 @@ fn commands<'a>(alloc: Global) -> Result<Command<'a>, AllocError> {
     let program = with_command(program(alloc)?, solve(alloc))?;
     let program = with_command(program, check(alloc))?;
     let program = with_command(program, show(alloc))?;
+    let program = with_command(program, flat(alloc))?;
     with_command(program, make(alloc))
 }
 

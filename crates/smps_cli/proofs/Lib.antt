@@ -3,6 +3,7 @@ pub mod CompleteLemmas
 pub mod MeantLemmas
 pub mod GivenLemmas
 pub mod EndLemmas
+pub mod FlatLemmas
 pub mod Few
 pub mod OnTrees
 pub mod WriteLemmas

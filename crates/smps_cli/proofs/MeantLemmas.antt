@@ -1,8 +1,10 @@
 -- A run on files that mean a program, and whose shelf didn't fail, answers what it is asked for.
-use Rattle.std.proofs.Common.{◌≡◌, ◌<◌, ◌≤◌, ℕ, List, length, Option, Some, None, inl, inr, refl, sym, ap, ◌∙◌, subst, arith}
+use Rattle.std.proofs.Common.{◌≡◌, ◌<◌, ◌≤◌, ℕ, List, length, Option, Some, None, Result, Ok, Err, inl, inr, refl, sym, ap, ◌∙◌, subst, arith}
 use Rattle.smps_io.specs.Files.{Files, bytes_of}
+use Rattle.refusals.specs.declared.cause.Cause.{Cause}
 use Rattle.refusals.specs.declared.cause.Refusal.{Refusal}
 use Rattle.core_defs.specs.declared.program.Core.{Core}
+use Rattle.command_words.specs.declared.command.Extent.{Extent}
 use Rattle.command_words.specs.declared.command.Page.{Page}
 use Rattle.command_words.specs.declared.command.Plan.{Plan}
 use Rattle.command_words.specs.declared.command.Task.{Task}
@@ -13,6 +15,9 @@ use Rattle.input_files.specs.declared.kind.FileKind.{FileKind}
 use Rattle.input_files.specs.declared.kind.FileKind.TheVariants as kind
 use Rattle.input_files.specs.Fetched.{Texts, IsGiven, IsGivenIf, AreGiven, IsLong, file_limit}
 use Rattle.scen_defs.specs.Program.{Program}
+use Rattle.edit_script.specs.Allowed.{program_after}
+use Rattle.flat_write.specs.declared.fault.FlatFault.{FlatFault}
+use Rattle.flat_write.specs.declared.fault.FlatFault.TheVariants as flat
 use Rattle.program_files.specs.Meant.{MeansProgram}
 use Rattle.program_files.specs.Edited.{AreMeant, RefusesFiles}
 use Rattle.program_files.proofs.MeaningLemmas.{texts_mean_one_program}
@@ -21,10 +26,11 @@ use Rattle.run_status.specs.declared.status.Status.TheVariants.{Done, SomeOpen, 
 use Rattle.smps_cli.specs.Answers.{MayAnswer, MayAnswerFor, MayCome}
 use Rattle.smps_cli.specs.Checks.{PrintsChecks}
 use Rattle.smps_cli.specs.Ends.{MayEnd, RefusesTexts}
+use Rattle.smps_cli.specs.Flat.{FlatComes, IsFlat, MayBeFlat, RefusesFlat, flat_end, limits_of}
 use Rattle.smps_cli.specs.Makes.{PrintsSummary, MayMake, workload, texts_of}
 use Rattle.smps_cli.specs.Shown.{PrintsProgram}
 use Rattle.smps_cli.specs.Solved.{PrintsReports}
-use Rattle.smps_cli.specs.Completes.{AsksOfProgram, IsPageOrMeant, AsksForWorkload, AnswersOrWantsMemory}
+use Rattle.smps_cli.specs.Completes.{AsksOfProgram, EndsTask, IsPageOrMeant, AsksForWorkload, AnswersOrWantsMemory}
 
 -- ---- what the shelf gives
 
@@ -86,10 +92,35 @@ module _ (texts : Texts) (sound : IsUnrefused texts) where
   by_end prints WriteFault output may = absurd may
   by_end prints Memory output may = absurd may
 
-  by_task : (asked : Task) (status : Status) (output : List ℕ) → MayCome asked texts status output → AnswersOrWantsMemory status
+  -- the program has no text
+  no_text : (size : Extent) (status : Status) (output : List ℕ) (end : Result (List ℕ) FlatFault) → FlatComes end status output → EndsTask (task.Flat size) status
+  no_text size status output (Ok text) h = inl (inl h.0)
+  no_text size status output (Err flat.Limit) h = inr (inl h.0)
+  no_text size status output (Err (flat.Passed p)) h = inr (inr (p, h.0))
+  no_text size status output (Err flat.Memory) h = absurd h
+
+  by_refusal : (size : Extent) (file : FileKind) (line : ℕ) (cause : Cause) (output : List ℕ) → RefusesFlat size texts file line cause output
+      → EndsTask (task.Flat size) (Refused file line cause)
+  unfolding IsUnrefused
+  by_refusal size file line cause output (inl may) = absurd (sound file (record { line = line; cause = cause }) may.known may.refused)
+  by_refusal size file line cause output (inr is) =
+      no_text size (Refused file line cause) output (flat_end (limits_of size) (program_after is.program is.items)) is.comes
+
+  by_flat : (size : Extent) (status : Status) (output : List ℕ) → MayBeFlat size texts status output → EndsTask (task.Flat size) status
+  by_flat size Done output may = inl (inl refl)
+  by_flat size SomeOpen output may = inl (inr (inl refl))
+  by_flat size Words output may = absurd may
+  by_flat size (Refused file line cause) output may = by_refusal size file line cause output may
+  by_flat size (TooLong file) output may = absurd may
+  by_flat size (ReadFault file) output may = absurd may
+  by_flat size WriteFault output may = absurd may
+  by_flat size Memory output may = absurd may
+
+  by_task : (asked : Task) (status : Status) (output : List ℕ) → MayCome asked texts status output → EndsTask asked status
   by_task (task.Solve budget) status output may = by_end (PrintsReports budget texts) status output may
   by_task task.Check status output may = by_end (PrintsChecks texts) status output may
   by_task task.Show status output may = by_end (PrintsProgram texts) status output may
+  by_task (task.Flat size) status output may = by_flat size status output may
 
 meant_unrefused : (texts : Texts) → AreMeant texts → IsUnrefused texts
 unfolding IsUnrefused
@@ -97,14 +128,14 @@ meant_unrefused texts meant = texts_mean_one_program.none_refused texts meant
 
 module _ (content : Option Files) (words : List (List ℕ)) (asks : AsksOfProgram content words) where
   by_command : (status : Status) (output : List ℕ) → ((file : FileKind) → status ≡ ReadFault file → ⊥)
-      → MayAnswerFor (Some (OnFiles asks.names asks.task)) (Some asks.files) status output → AnswersOrWantsMemory status
-  by_command status output given (inl fault) = absurd (given fault.0 fault.2)
+      → MayAnswerFor (Some (OnFiles asks.names asks.task)) (Some asks.files) status output → EndsTask asks.task status
+  by_command status output given (inl failed) = absurd (given failed.0 failed.2)
   by_command status output given (inr (inl long)) = absurd (not_long asks.files asks.names asks.texts asks.given long.0 long.1)
   by_command status output given (inr (inr came)) =
       let same : asks.texts ≡ came.0 = texts_are asks.files asks.names asks.texts came.0 asks.given came.1 in
       by_task came.0 (subst IsUnrefused same (meant_unrefused asks.texts asks.meant)) asks.task status output came.2
 
-  pub comes_to_an_answer : (status : Status) (output : List ℕ) → ((file : FileKind) → status ≡ ReadFault file → ⊥) → MayAnswer content words status output → AnswersOrWantsMemory status
+  pub comes_to_an_answer : (status : Status) (output : List ℕ) → ((file : FileKind) → status ≡ ReadFault file → ⊥) → MayAnswer content words status output → EndsTask asks.task status
   comes_to_an_answer status output given may =
       by_command status output given
       (subst (λ (told : Option Files). MayAnswerFor (Some (OnFiles asks.names asks.task)) told status output) asks.told

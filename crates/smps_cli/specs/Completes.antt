@@ -2,13 +2,13 @@
 use Rattle.std.specs.Prelude.{◌≡◌, ◌≤◌, ◌⊎◌, ⊤, ℕ, List, length, Option, Some, None}
 use Rattle.smps_words.specs.Line.{reading_of}
 use Rattle.smps_io.specs.Files.{Files, bytes_of}
-use Rattle.refusals.specs.declared.cause.Cause.TheVariants.{Passes}
+use Rattle.refusals.specs.declared.cause.Cause.TheVariants.{FlatLimit, Passes}
 use Rattle.core_defs.specs.Fault.{IsCoreFile}
 use Rattle.command_words.specs.declared.command.Budget.{Budget}
 use Rattle.command_words.specs.declared.command.Page.{Page}
 use Rattle.command_words.specs.declared.command.Plan.{Plan}
 use Rattle.command_words.specs.declared.command.Task.{Task}
-use Rattle.command_words.specs.declared.command.Task.TheVariants.{Solve}
+use Rattle.command_words.specs.declared.command.Task.TheVariants.{Solve, Check, Show, Flat}
 use Rattle.command_words.specs.Commands.{FileNames, command_of}
 use Rattle.command_words.specs.Commands.Asked.{OnFiles, MakeThis}
 use Rattle.input_files.specs.Fetched.{Texts, AreGiven, file_limit}
@@ -72,3 +72,11 @@ pub record AsksForWorkload (words : List (List ℕ)) : Type 0 where
 -- the command ended with its whole output, or memory was wanting
 abbrev pub AnswersOrWantsMemory : Status → Type 0
 AnswersOrWantsMemory status = (status ≡ Done) ⊎ (status ≡ SomeOpen) ⊎ (status ≡ Memory)
+
+-- So does each task; but `flat` refuses the core file where the program of all nodes exceeds a limit of core files, or an operation passes.
+abbrev pub EndsTask : Task → Status → Type 0
+EndsTask (Solve budget) status = AnswersOrWantsMemory status
+EndsTask Check status = AnswersOrWantsMemory status
+EndsTask Show status = AnswersOrWantsMemory status
+EndsTask (Flat extent) status =
+    AnswersOrWantsMemory status ⊎ (status ≡ Refused Core 0 FlatLimit) ⊎ ((p : Operation) × (status ≡ Refused Core 0 (Passes p)))

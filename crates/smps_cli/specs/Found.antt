@@ -5,7 +5,7 @@ use Rattle.scen_defs.specs.Program.{content}
 use Rattle.report_text.specs.Shown.{program_text}
 use Rattle.script_checks.specs.Checked.{line_of}
 use Rattle.smps_cli.specs.declared.found.Found.{Found}
-use Rattle.smps_cli.specs.declared.found.Found.TheVariants.{Reports, Checks, Shown, Summary, Page, Nothing}
+use Rattle.smps_cli.specs.declared.found.Found.TheVariants.{Reports, Checks, Shown, Flat, Summary, Page, Nothing}
 use Rattle.smps_cli.specs.Solved.{told_text}
 use Rattle.smps_cli.specs.Makes.{summary_text}
 
@@ -14,6 +14,7 @@ abbrev pub found_text : Found → List ℕ
 found_text (Reports tolds) = flat_map told_text tolds.items
 found_text (Checks c) = flat_map line_of c.checks.items
 found_text (Shown program) = program_text (content program)
+found_text (Flat text) = text.items
 found_text (Summary s) = summary_text s.plan s.program s.report
 found_text (Page text) = text.items
 found_text (Nothing line) = line.items

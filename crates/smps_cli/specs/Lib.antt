@@ -4,6 +4,7 @@ pub mod Inputs
 pub mod Solved
 pub mod Checks
 pub mod Shown
+pub mod Flat
 pub mod Makes
 pub mod Found
 pub mod Answers

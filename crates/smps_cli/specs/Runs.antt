@@ -8,7 +8,7 @@ use Rattle.input_files.specs.declared.kind.FileKind.{FileKind}
 use Rattle.run_status.specs.declared.status.Status.{Status}
 use Rattle.run_status.specs.declared.status.Status.TheVariants.{Words, ReadFault, WriteFault}
 use Rattle.smps_cli.specs.Answers.{Answers}
-use Rattle.smps_cli.specs.Completes.{AsksForReport, EndsOrWantsMemory, AsksOfProgram, AsksForWorkload, AnswersOrWantsMemory}
+use Rattle.smps_cli.specs.Completes.{AsksForReport, EndsOrWantsMemory, AsksOfProgram, EndsTask, AsksForWorkload, AnswersOrWantsMemory}
 use Rattle.smps_cli.specs.Sources.{HasFetched, LastSaysLong, fetch_order}
 
 -- the fetches of a shelf, its faults, and what it gave last
@@ -45,8 +45,8 @@ pub record IsRun (call : List (List ℕ)) (content : Option Files) (shelf shelf_
   -- where neither failed, what can be answered is, unless memory is wanting
   pub completes : AsksForReport content call → (Rose shelf.faults shelf_after.faults → ⊥) → (Rose sink.faults sink_after.faults → ⊥)
       → EndsOrWantsMemory status
-  pub ends : AsksOfProgram content call → (Rose shelf.faults shelf_after.faults → ⊥) → (Rose sink.faults sink_after.faults → ⊥)
-      → AnswersOrWantsMemory status
+  pub ends : (asks : AsksOfProgram content call) → (Rose shelf.faults shelf_after.faults → ⊥) → (Rose sink.faults sink_after.faults → ⊥)
+      → EndsTask asks.task status
   pub makes : AsksForWorkload call → (Rose sink.faults sink_after.faults → ⊥) → AnswersOrWantsMemory status
   -- what was answered and written
   pub answers : Answers content call sink.written sink_after.written sink.taken sink_after.taken status

@@ -17,6 +17,7 @@ ghost use Rattle.run_status.specs.Lines.{line_with, status_line};
 
 use crate::check::checked;
 use crate::fetched::{Fetched, FileNames};
+use crate::flat::flattened;
 use crate::found::Found;
 use crate::make::made;
 use crate::show::shown;
@@ -80,6 +81,7 @@ fn come(alloc: Global, task: Task, texts: &Texts) -> Result<Answer, Memory>
         Task::Solve(budget) => solved(alloc, texts, budget),
         Task::Check => checked(alloc, texts),
         Task::Show => shown(alloc, texts),
+        Task::Flat(extent) => flattened(alloc, texts, extent),
     }
 }
 

@@ -13,6 +13,8 @@ pub enum Found {
     Checks(Checks),
     /// `show`: the program.
     Shown(Program),
+    /// `flat`: the program as one core file.
+    Flat(Vec<u8>),
     /// `make`: a workload and its report.
     Summary(Summary),
     /// `make`: the text of a workload that is asked for.

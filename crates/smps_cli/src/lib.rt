@@ -4,6 +4,7 @@
 mod answer;
 mod check;
 mod fetched;
+mod flat;
 mod found;
 mod input;
 mod make;

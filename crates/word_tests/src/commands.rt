@@ -1,5 +1,5 @@
 //! Lists of words, and what they ask for. The table is a text, since each member of an array is a step of the proof.
-use command_words::{Budget, Command, Page, PlainWords, Plan, Sources, Task};
+use command_words::{Budget, Command, Extent, Page, PlainWords, Plan, Sources, Task};
 use std::alloc::{AllocError, Global};
 use std::process::Abort;
 use std::test::Fail;
@@ -54,6 +54,24 @@ show --edits=E --core F --time T --stoch S|show F T S E -
 solve --core F --edits E --edits E|
 solve --core F --report R|
 show --core F --report R|
+flat --edits=E --core F --time T --stoch S|flat F T S E -
+flat --core F|flat F - - - -
+flat --core F --whole|flat F - - - - whole
+flat --whole --core F|flat F - - - - whole
+flat --time T --whole --core=F --edits E|flat F T - E - whole
+flat --whole=yes --core F|flat F - - - - whole
+flat --whole yes --core F|
+flat --whole=no --core F|
+flat --whole= --core F|
+flat --whole --whole --core F|
+flat --core --whole|
+flat --core F --wholes|
+solve --core F --whole|
+show --whole --core F|
+flat --time T|
+flat --core F --report R|
+flat --core F --solves 3|
+flat --core F --stoch S|
 check --core F --report R|check F - - - R
 check --report=R --edits=E --stoch=S --time=T --core=F|check F T S E R
 check --core F|
@@ -100,6 +118,8 @@ fn told_on_files(alloc: Global, sources: Sources<'_>, task: Task) -> Result<Stri
         Task::Solve(budget) => told_budget(alloc, files.as_str(), budget),
         Task::Check => format!(in alloc; "check {files}"),
         Task::Show => format!(in alloc; "show {files}"),
+        Task::Flat(Extent::Core) => format!(in alloc; "flat {files}"),
+        Task::Flat(Extent::Whole) => format!(in alloc; "flat {files} whole"),
     }
 }
 
