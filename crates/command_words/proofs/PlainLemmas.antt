@@ -7,7 +7,7 @@ use Rattle.std.proofs.lemmas.List.{take_at, drop_at, length_push}
 use Rattle.std.proofs.lemmas.Slice.Eq.{bytes_eq-Decides}
 use Rattle.clap.proofs.WalkLemmas.{both}
 use Rattle.command_words.specs.declared.flag.Flag.{Flag}
-use Rattle.command_words.specs.declared.flag.Flag.TheVariants.{Core, Time, Stoch, Edits, Report, Whole, Solves, Pivots, Workers}
+use Rattle.command_words.specs.declared.flag.Flag.TheVariants.{Core, Time, Stoch, Edits, Report, Whole, Number, Form, Solves, Pivots, Workers}
 use Rattle.command_words.specs.declared.flag.Flag.TheVariants.{Start, Stages, Branches, Size, Text}
 use Rattle.command_words.specs.declared.command.Verb.{Verb}
 use Rattle.command_words.specs.Table.{flag_text}
@@ -28,6 +28,8 @@ named Stoch = refl
 named Edits = refl
 named Report = refl
 named Whole = refl
+named Number = refl
+named Form = refl
 named Solves = refl
 named Pivots = refl
 named Workers = refl
@@ -44,6 +46,8 @@ lacks_equals Stoch = refl
 lacks_equals Edits = refl
 lacks_equals Report = refl
 lacks_equals Whole = refl
+lacks_equals Number = refl
+lacks_equals Form = refl
 lacks_equals Solves = refl
 lacks_equals Pivots = refl
 lacks_equals Workers = refl
@@ -119,6 +123,7 @@ switch_kind_has : (flag : Flag) (kind : ValueKind) (g : Given) → switch_by_kin
 switch_kind_has flag kind.File g e = cc
 switch_kind_has flag (kind.Number least most) g e = cc
 switch_kind_has flag kind.Page g e = cc
+switch_kind_has flag kind.Form g e = cc
 switch_kind_has flag kind.Yes g e = let same : made flag (codes "yes") ≡ g = cc in ap (λ (x : Given). is_value x.value) (sym same)
 
 switch_has : (flag : Option Flag) (g : Given) → switch_among flag ≡ Some g → is_value g.value ≡ true

@@ -14,11 +14,11 @@ use Rattle.clap.specs.Takes.{built_takes, default_passes, is_given, is_valid, le
 use Rattle.clap.proofs.TakesLemmas.{leaf_takes}
 use Rattle.clap.proofs.WalkLemmas.{both, first_value-rows}
 use Rattle.command_words.specs.declared.flag.Flag.{Flag}
-use Rattle.command_words.specs.declared.flag.Flag.TheVariants.{Core, Time, Stoch, Edits, Report, Whole, Solves, Pivots, Workers}
+use Rattle.command_words.specs.declared.flag.Flag.TheVariants.{Core, Time, Stoch, Edits, Report, Whole, Number, Form, Solves, Pivots, Workers}
 use Rattle.command_words.specs.declared.flag.Flag.TheVariants.{Start, Stages, Branches, Size, Text}
 use Rattle.command_words.specs.declared.command.Command.{Command}
 use Rattle.command_words.specs.declared.command.Verb.{Verb}
-use Rattle.command_words.specs.declared.command.Verb.TheVariants.{Solve, Check, Show, Flat, Make}
+use Rattle.command_words.specs.declared.command.Verb.TheVariants.{Solve, Check, Table, Show, Flat, Make}
 use Rattle.command_words.specs.Table.{all_flags, flag_text}
 use Rattle.command_words.specs.Words.{Given, are_once, plain_word, same_flag, settings_of, value_with}
 use Rattle.command_words.specs.Commands.{all_allowed, allows, are_options, asked_with, command_by, command_with}
@@ -49,6 +49,7 @@ reader_is_simple : (verb : Verb) → is_simple (reader_of verb) ≡ true
 unfolding with_options
 reader_is_simple Solve = refl
 reader_is_simple Check = refl
+reader_is_simple Table = refl
 reader_is_simple Show = refl
 reader_is_simple Flat = refl
 reader_is_simple Make = refl
@@ -58,6 +59,7 @@ reader_takes : (verb : Verb) (words : List (List ℕ))
 unfolding with_options
 reader_takes Solve words = refl
 reader_takes Check words = refl
+reader_takes Table words = refl
 reader_takes Show words = refl
 reader_takes Flat words = refl
 reader_takes Make words = refl
@@ -66,6 +68,7 @@ reader_matches : (verb : Verb) (words : List (List ℕ)) → matches_of (reader_
 unfolding with_options
 reader_matches Solve words = refl
 reader_matches Check words = refl
+reader_matches Table words = refl
 reader_matches Show words = refl
 reader_matches Flat words = refl
 reader_matches Make words = refl
@@ -77,6 +80,8 @@ same_refl Stoch = refl
 same_refl Edits = refl
 same_refl Report = refl
 same_refl Whole = refl
+same_refl Number = refl
+same_refl Form = refl
 same_refl Solves = refl
 same_refl Pivots = refl
 same_refl Workers = refl
@@ -93,6 +98,8 @@ is_there Stoch = refl
 is_there Edits = refl
 is_there Report = refl
 is_there Whole = refl
+is_there Number = refl
+is_there Form = refl
 is_there Solves = refl
 is_there Pivots = refl
 is_there Workers = refl
@@ -134,6 +141,8 @@ plain_is_long Stoch value = refl
 plain_is_long Edits value = refl
 plain_is_long Report value = refl
 plain_is_long Whole value = refl
+plain_is_long Number value = refl
+plain_is_long Form value = refl
 plain_is_long Solves value = refl
 plain_is_long Pivots value = refl
 plain_is_long Workers value = refl
@@ -150,6 +159,8 @@ plain_is_no_end Stoch value = refl
 plain_is_no_end Edits value = refl
 plain_is_no_end Report value = refl
 plain_is_no_end Whole value = refl
+plain_is_no_end Number value = refl
+plain_is_no_end Form value = refl
 plain_is_no_end Solves value = refl
 plain_is_no_end Pivots value = refl
 plain_is_no_end Workers value = refl

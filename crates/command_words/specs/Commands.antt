@@ -1,19 +1,23 @@
 -- The command that words are.
 use Rattle.std.specs.Prelude.{ℕ, Bool, true, List, [], ◌∷◌, Option, Some, None, is_some, if◌then◌else◌, ◌&&◌, ◌||◌, codes}
 use Rattle.command_words.specs.declared.flag.Flag.{Flag}
-use Rattle.command_words.specs.declared.flag.Flag.TheVariants.{Core, Time, Stoch, Edits, Report, Whole, Start, Stages, Branches, Size, Text}
+use Rattle.command_words.specs.declared.flag.Flag.TheVariants.{Core, Time, Stoch, Edits, Report, Whole, Number, Form}
+use Rattle.command_words.specs.declared.flag.Flag.TheVariants.{Start, Stages, Branches, Size, Text}
 use Rattle.command_words.specs.declared.command.Verb.{Verb}
-use Rattle.command_words.specs.declared.command.Verb.TheVariants.{Solve, Check, Show, Flat, Make}
+use Rattle.command_words.specs.declared.command.Verb.TheVariants.{Solve, Check, Table, Show, Flat, Make}
 use Rattle.command_words.specs.declared.command.Task.{Task}
 use Rattle.command_words.specs.declared.command.Task.TheVariants as task
+use Rattle.command_words.specs.declared.command.Sheet.{Sheet}
+use Rattle.command_words.specs.declared.command.SheetForm.{SheetForm}
+use Rattle.command_words.specs.declared.command.SheetForm.TheVariants as form
 use Rattle.command_words.specs.declared.command.Extent.{Extent}
 use Rattle.command_words.specs.declared.command.Extent.TheVariants as extent
 use Rattle.command_words.specs.declared.command.Page.{Page}
 use Rattle.command_words.specs.declared.command.Page.TheVariants as page
 use Rattle.command_words.specs.declared.command.Plan.{Plan}
-use Rattle.command_words.specs.Table.{further_flags, goes_with, needed_flags}
+use Rattle.command_words.specs.Table.{further_flags, goes_with, needed_flags, value_kind}
 use Rattle.command_words.specs.Words.{Given, Values, same_text, then_some, settings_of, value_with, are_once}
-use Rattle.command_words.specs.Words.{has_flag, verb_named, number_given, budget_of}
+use Rattle.command_words.specs.Words.{has_flag, verb_named, number_for, number_given, budget_of}
 
 -- ---- which options there are
 
@@ -61,6 +65,32 @@ file_names core time stoch edits report = record { core = core; time = time; sto
 abbrev pub sources_of : Values → Option FileNames
 sources_of value = then_some (value Core) (λ core. Some (file_names core (value Time) (value Stoch) (value Edits) (value Report)))
 
+abbrev pub form_named : List ℕ → Option SheetForm
+form_named word =
+    if same_text word (codes "text") then Some form.Text
+    else (if same_text word (codes "csv") then Some form.Csv
+    else (if same_text word (codes "json") then Some form.Json
+    else (if same_text word (codes "html") then Some form.Html else None)))
+
+-- the form of a report; text where the words don't say which
+abbrev pub form_by : Option (List ℕ) → Option SheetForm
+form_by None = Some form.Text
+form_by (Some word) = form_named word
+
+abbrev pub form_of : Values → Option SheetForm
+form_of value = form_by (value Form)
+
+-- the number of a report, where the words have one
+abbrev pub report_number_by : Option (List ℕ) → Option (Option ℕ)
+report_number_by None = Some None
+report_number_by (Some word) = then_some (number_for (value_kind Number) word) (λ number. Some (Some number))
+
+abbrev pub report_number_of : Values → Option (Option ℕ)
+report_number_of value = report_number_by (value Number)
+
+abbrev pub sheet_of : Values → Option Sheet
+sheet_of value = then_some (report_number_of value) (λ n. then_some (form_of value) (λ shape. Some (record { number = n; form = shape })))
+
 abbrev pub extent_named : List ℕ → Option Extent
 extent_named word = if same_text word (codes "yes") then Some extent.Whole else None
 
@@ -76,6 +106,7 @@ extent_of value = extent_by (value Whole)
 abbrev pub task_of : Verb → Values → Option Task
 task_of Solve value = then_some (budget_of value) (λ budget. Some (task.Solve budget))
 task_of Check value = Some task.Check
+task_of Table value = then_some (sheet_of value) (λ sheet. Some (task.Table sheet))
 task_of Show value = Some task.Show
 task_of Flat value = then_some (extent_of value) (λ size. Some (task.Flat size))
 task_of Make value = None
@@ -120,6 +151,7 @@ on_files verb value = then_some (sources_of value) (λ names. then_some (task_of
 abbrev pub asked_with : Verb → Values → Option Asked
 asked_with Solve value = on_files Solve value
 asked_with Check value = on_files Check value
+asked_with Table value = on_files Table value
 asked_with Show value = on_files Show value
 asked_with Flat value = on_files Flat value
 asked_with Make value = then_some (plan_of value) (λ plan. Some (MakeThis plan))

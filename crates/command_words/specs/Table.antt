@@ -1,18 +1,21 @@
 -- The table of commands and options.
 use Rattle.std.specs.Prelude.{ℕ, List, [], ◌∷◌, Option, Some, None, codes}
 use Rattle.command_words.specs.declared.command.Verb.{Verb}
-use Rattle.command_words.specs.declared.command.Verb.TheVariants.{Solve, Check, Show, Flat, Make}
+use Rattle.command_words.specs.declared.command.Verb.TheVariants.{Solve, Check, Table, Show, Flat, Make}
 use Rattle.command_words.specs.declared.flag.Flag.{Flag}
-use Rattle.command_words.specs.declared.flag.Flag.TheVariants.{Core, Time, Stoch, Edits, Report, Whole, Solves, Pivots, Workers}
+use Rattle.command_words.specs.declared.flag.Flag.TheVariants.{Core, Time, Stoch, Edits, Report, Whole, Number, Form}
+use Rattle.command_words.specs.declared.flag.Flag.TheVariants.{Solves, Pivots, Workers}
 use Rattle.command_words.specs.declared.flag.Flag.TheVariants.{Start, Stages, Branches, Size, Text}
 use Rattle.command_words.specs.declared.table.TheConstants.{MOST_WORKERS}
 use Rattle.command_words.specs.declared.table.ValueKind.{ValueKind}
-use Rattle.command_words.specs.declared.table.ValueKind.TheVariants.{File, Number, Page, Yes}
+use Rattle.command_words.specs.declared.table.ValueKind.TheVariants as kind
 
 -- ---- options
 
 abbrev pub all_flags : List Flag
-all_flags = Core ∷ Time ∷ Stoch ∷ Edits ∷ Report ∷ Whole ∷ Solves ∷ Pivots ∷ Workers ∷ Start ∷ Stages ∷ Branches ∷ Size ∷ Text ∷ []
+all_flags =
+    Core ∷ Time ∷ Stoch ∷ Edits ∷ Report ∷ Whole ∷ Number ∷ Form ∷ Solves ∷ Pivots ∷ Workers
+    ∷ Start ∷ Stages ∷ Branches ∷ Size ∷ Text ∷ []
 
 -- the name of an option, without its two minuses
 abbrev pub flag_text : Flag → List ℕ
@@ -22,6 +25,8 @@ flag_text Stoch = codes "stoch"
 flag_text Edits = codes "edits"
 flag_text Report = codes "report"
 flag_text Whole = codes "whole"
+flag_text Number = codes "number"
+flag_text Form = codes "form"
 flag_text Solves = codes "solves"
 flag_text Pivots = codes "pivots"
 flag_text Workers = codes "workers"
@@ -33,20 +38,22 @@ flag_text Text = codes "text"
 
 -- what its value is: of numbers also the range
 abbrev pub value_kind : Flag → ValueKind
-value_kind Core = File
-value_kind Time = File
-value_kind Stoch = File
-value_kind Edits = File
-value_kind Report = File
-value_kind Whole = Yes
-value_kind Solves = Number 1 1000000000
-value_kind Pivots = Number 1 1000000000
-value_kind Workers = Number 1 MOST_WORKERS
-value_kind Start = Number 0 65536
-value_kind Stages = Number 2 6
-value_kind Branches = Number 2 4
-value_kind Size = Number 1 20
-value_kind Text = Page
+value_kind Core = kind.File
+value_kind Time = kind.File
+value_kind Stoch = kind.File
+value_kind Edits = kind.File
+value_kind Report = kind.File
+value_kind Whole = kind.Yes
+value_kind Number = kind.Number 1 10001
+value_kind Form = kind.Form
+value_kind Solves = kind.Number 1 1000000000
+value_kind Pivots = kind.Number 1 1000000000
+value_kind Workers = kind.Number 1 MOST_WORKERS
+value_kind Start = kind.Number 0 65536
+value_kind Stages = kind.Number 2 6
+value_kind Branches = kind.Number 2 4
+value_kind Size = kind.Number 1 20
+value_kind Text = kind.Page
 
 -- the option without which it isn't taken
 abbrev pub goes_with : Flag → Option Flag
@@ -56,11 +63,12 @@ goes_with flag = None
 -- ---- commands
 
 abbrev pub all_verbs : List Verb
-all_verbs = Solve ∷ Check ∷ Show ∷ Flat ∷ Make ∷ []
+all_verbs = Solve ∷ Check ∷ Table ∷ Show ∷ Flat ∷ Make ∷ []
 
 abbrev pub verb_text : Verb → List ℕ
 verb_text Solve = codes "solve"
 verb_text Check = codes "check"
+verb_text Table = codes "table"
 verb_text Show = codes "show"
 verb_text Flat = codes "flat"
 verb_text Make = codes "make"
@@ -69,6 +77,7 @@ verb_text Make = codes "make"
 abbrev pub needed_flags : Verb → List Flag
 needed_flags Solve = Core ∷ []
 needed_flags Check = Core ∷ Report ∷ []
+needed_flags Table = Core ∷ Report ∷ []
 needed_flags Show = Core ∷ []
 needed_flags Flat = Core ∷ []
 needed_flags Make = Start ∷ Stages ∷ Branches ∷ Size ∷ []
@@ -77,6 +86,7 @@ needed_flags Make = Start ∷ Stages ∷ Branches ∷ Size ∷ []
 abbrev pub further_flags : Verb → List Flag
 further_flags Solve = Time ∷ Stoch ∷ Edits ∷ Solves ∷ Pivots ∷ Workers ∷ []
 further_flags Check = Time ∷ Stoch ∷ Edits ∷ []
+further_flags Table = Time ∷ Stoch ∷ Edits ∷ Number ∷ Form ∷ []
 further_flags Show = Time ∷ Stoch ∷ Edits ∷ []
 further_flags Flat = Time ∷ Stoch ∷ Edits ∷ Whole ∷ []
 further_flags Make = Text ∷ []

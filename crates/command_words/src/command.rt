@@ -5,6 +5,7 @@ ghost use Rattle.command_words.specs.Table.{value_kind};
 ghost use Rattle.command_words.specs.Words.{verb_among, verb_named, number_for, number_or, number_given, budget_of};
 ghost use Rattle.command_words.specs.Commands.{allows, all_allowed, are_there, is_there_if, go_together, are_options};
 ghost use Rattle.command_words.specs.Commands.{sources_of, extent_named, extent_of, task_of, page_named, page_of, plan_of};
+ghost use Rattle.command_words.specs.Commands.{form_named, form_of, report_number_of, sheet_of};
 ghost use Rattle.command_words.specs.Commands.{on_files, asked_with, command_with};
 ghost use Rattle.command_words.specs.Views.{asked, all_given, sources_view};
 
@@ -19,6 +20,7 @@ use crate::values::Values;
 pub enum Verb {
     Solve,
     Check,
+    Table,
     Show,
     Flat,
     Make,
@@ -34,7 +36,7 @@ pub struct Sources<'a> {
     pub stoch: Option<&'a str>,
     /// Without one nothing is edited.
     pub edits: Option<&'a str>,
-    /// The reports that `check` checks; no other command takes one.
+    /// The reports that `check` and `table` take; no other command takes one.
     pub report: Option<&'a str>,
 }
 
@@ -49,6 +51,27 @@ pub struct Budget {
     pub pivots: u64,
     /// Whether the words state how many.
     pub pivots_stated: bool,
+}
+
+/// The forms of a report for planners.
+#[derive(Clone, Copy, Debug, PartialEq, Eq)]
+pub enum SheetForm {
+    /// Lines for a terminal.
+    Text,
+    /// Comma-separated values.
+    Csv,
+    /// One JSON object.
+    Json,
+    /// A page for a browser.
+    Html,
+}
+
+/// Which report of a file is shown, and in which form.
+#[derive(Clone, Copy, Debug, PartialEq, Eq)]
+pub struct Sheet {
+    /// Counted from 1; without one it is the last.
+    pub number: Option<u32>,
+    pub form: SheetForm,
 }
 
 /// How large the one core file of `flat` may be.
@@ -67,6 +90,8 @@ pub enum Task {
     Solve(Budget),
     /// Check reports, and print what that comes to.
     Check,
+    /// Check a report, and print it for planners.
+    Table(Sheet),
     /// Print it.
     Show,
     /// Print it as one core file.
@@ -212,7 +237,7 @@ fn number_for(flag: Flag, value: &str) -> Option<u64>
         ValueKind::Number(least, most) => {
             number_within(value.as_bytes(), least as u64, most as u64)
         }
-        ValueKind::File | ValueKind::Page | ValueKind::Yes => None,
+        ValueKind::File | ValueKind::Page | ValueKind::Form | ValueKind::Yes => None,
     }
 }
 
@@ -250,6 +275,51 @@ fn budget_given<'a, V: Values<'a>>(values: &V) -> Option<Budget>
     })
 }
 
+/// The form of that name.
+fn form_named(word: &str) -> Option<SheetForm>
+    ensures { result ≡ form_named word.now }
+{
+    match word {
+        "text" => Some(SheetForm::Text),
+        "csv" => Some(SheetForm::Csv),
+        "json" => Some(SheetForm::Json),
+        "html" => Some(SheetForm::Html),
+        _ => None,
+    }
+}
+
+/// The form that is asked for; none where the word is no form's.
+fn form_given<'a, V: Values<'a>>(values: &V) -> Option<SheetForm>
+    ensures { result ≡ form_of (V.values values.now) }
+{
+    match values.value(Flag::Form) {
+        None => Some(SheetForm::Text),
+        Some(word) => form_named(word),
+    }
+}
+
+/// The number of the report that is asked for, if one is; none where the word is no such number.
+fn report_number<'a, V: Values<'a>>(values: &V) -> Option<Option<u32>>
+    ensures { result ≡ report_number_of (V.values values.now) }
+{
+    match values.value(Flag::Number) {
+        None => Some(None),
+        Some(word) => {
+            let number = number_for(Flag::Number, word)?;
+            Some(Some(number as u32))
+        }
+    }
+}
+
+/// Which report is shown, and how.
+fn sheet_given<'a, V: Values<'a>>(values: &V) -> Option<Sheet>
+    ensures { result ≡ sheet_of (V.values values.now) }
+{
+    let number = report_number(values)?;
+    let form = form_given(values)?;
+    Some(Sheet { number, form })
+}
+
 fn extent_named(word: &str) -> Option<Extent>
     ensures { result ≡ extent_named word.now }
 {
@@ -279,6 +349,10 @@ fn task_given<'a, V: Values<'a>>(verb: Verb, values: &V) -> Option<Task>
             Some(Task::Solve(budget))
         }
         Verb::Check => Some(Task::Check),
+        Verb::Table => {
+            let sheet = sheet_given(values)?;
+            Some(Task::Table(sheet))
+        }
         Verb::Show => Some(Task::Show),
         Verb::Flat => {
             let extent = extent_given(values)?;
@@ -344,7 +418,9 @@ pub(crate) fn asked_with<'a, V: Values<'a>>(verb: Verb, values: &V) -> Option<Co
     ensures { option_map asked result ≡ asked_with verb (V.values values.now) }
 {
     match verb {
-        Verb::Solve | Verb::Check | Verb::Show | Verb::Flat => on_files(verb, values),
+        Verb::Solve | Verb::Check | Verb::Table | Verb::Show | Verb::Flat => {
+            on_files(verb, values)
+        }
         Verb::Make => {
             let plan = plan_given(values)?;
             Some(Command::Make(plan))

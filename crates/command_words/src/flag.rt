@@ -19,6 +19,10 @@ pub enum Flag {
     Report,
     /// Whether one core file may have more than other core files.
     Whole,
+    /// Which report of a file is shown.
+    Number,
+    /// The form in which it is shown.
+    Form,
     /// How many node programs are solved for a report.
     Solves,
     /// How many pivots a solve may take.

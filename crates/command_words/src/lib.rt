@@ -11,8 +11,8 @@ mod table;
 mod value;
 mod values;
 
-pub use command::{Budget, Command, Extent, Page, Plan, Sources, Task, Verb};
+pub use command::{Budget, Command, Extent, Page, Plan, Sheet, SheetForm, Sources, Task, Verb};
 pub use flag::Flag;
 pub use plain::PlainWords;
 pub use settings::Setting;
-pub use table::{CommandRow, FLAGS, MOST_WORKERS, OptionRow, PAGES, VERBS, ValueKind, YES};
+pub use table::{CommandRow, FLAGS, FORMS, MOST_WORKERS, OptionRow, PAGES, VERBS, ValueKind, YES};

@@ -11,6 +11,9 @@ pub const MOST_WORKERS: u32 = 1;
 /// The words that an option for a text of a workload may have as its value.
 pub const PAGES: [&'static str; 3] = ["core", "time", "stoch"];
 
+/// The words that an option for the form of a report may have as its value.
+pub const FORMS: [&'static str; 4] = ["text", "csv", "json", "html"];
+
 /// The value of an option that stands alone.
 pub const YES: &'static str = "yes";
 
@@ -23,6 +26,8 @@ pub enum ValueKind {
     Number(u32, u32),
     /// A text of a workload, one of `PAGES`.
     Page,
+    /// A form of a report, one of `FORMS`.
+    Form,
     /// `YES`, which need not be written: the option stands alone.
     Yes,
 }
@@ -34,6 +39,7 @@ impl ValueKind {
             ValueKind::File => "FILE",
             ValueKind::Number(_, _) => "N",
             ValueKind::Page => "TEXT",
+            ValueKind::Form => "FORM",
             ValueKind::Yes => "",
         }
     }
@@ -64,16 +70,25 @@ pub struct CommandRow {
 }
 
 /// All commands.
-pub const VERBS: [Verb; 5] = [Verb::Solve, Verb::Check, Verb::Show, Verb::Flat, Verb::Make];
+pub const VERBS: [Verb; 6] = [
+    Verb::Solve,
+    Verb::Check,
+    Verb::Table,
+    Verb::Show,
+    Verb::Flat,
+    Verb::Make,
+];
 
 /// All options.
-pub const FLAGS: [Flag; 14] = [
+pub const FLAGS: [Flag; 16] = [
     Flag::Core,
     Flag::Time,
     Flag::Stoch,
     Flag::Edits,
     Flag::Report,
     Flag::Whole,
+    Flag::Number,
+    Flag::Form,
     Flag::Solves,
     Flag::Pivots,
     Flag::Workers,
@@ -131,6 +146,18 @@ impl Flag {
                 kind: ValueKind::Yes,
                 with: None,
                 help: "also beyond the limits of a core file, up to 10000000 entries",
+            },
+            Flag::Number => number(
+                "number",
+                1,
+                10_001,
+                "which report of the file; without one the last",
+            ),
+            Flag::Form => OptionRow {
+                name: "form",
+                kind: ValueKind::Form,
+                with: None,
+                help: "what is printed; else text",
             },
             Flag::Solves => number(
                 "solves",
@@ -195,6 +222,18 @@ impl Verb {
                 about: "test the reports of a file, whoever made them, and print for each whether it holds",
                 needs: &[Flag::Core, Flag::Report],
                 takes: &[Flag::Time, Flag::Stoch, Flag::Edits],
+            },
+            Verb::Table => CommandRow {
+                name: "table",
+                about: "test a report of a file, and print it as a table, with names, probabilities and costs",
+                needs: &[Flag::Core, Flag::Report],
+                takes: &[
+                    Flag::Time,
+                    Flag::Stoch,
+                    Flag::Edits,
+                    Flag::Number,
+                    Flag::Form,
+                ],
             },
             Verb::Show => CommandRow {
                 name: "show",

@@ -12,6 +12,11 @@ flat --core F --time=T --stoch S --edits E
 flat --whole --core F
 check --core F --report=R
 check --report R --edits E --stoch S --time T --core F
+table --core F --report=R
+table --report R --edits E --stoch S --time T --core=F --number 1 --form text
+table --report R --core F --number=10001 --form=csv
+table --report R --core F --form json
+table --report R --core F --form=html
 make --start 0 --stages 2 --branches 2 --size 1
 make --size=20 --branches=4 --stages=6 --start=65536 --text=core
 make --start 1 --stages 3 --branches 3 --size 2 --text time

@@ -1,7 +1,7 @@
 //! Cells of tables.
 use crate::escape::{put, put_name};
 use frac128::{Frac, Memory};
-use report_forms::{decimal_text, exact_text, put_count};
+use report_table::{decimal_text, exact_text, put_count};
 use report_values::Amount;
 use std::alloc::Global;
 

@@ -4,7 +4,7 @@ use crate::escape::put;
 use crate::scale::{between, parts};
 use crate::tree::open_drawing;
 use frac128::{Frac, Memory};
-use report_forms::{Table, put_count};
+use report_table::{Table, put_count};
 use report_values::Amount;
 use std::alloc::Global;
 

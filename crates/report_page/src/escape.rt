@@ -1,6 +1,6 @@
 //! Texts inside HTML.
 use frac128::Memory;
-use report_forms::shown_name;
+use report_table::{short_name, shown_name};
 use std::alloc::Global;
 
 /// Appends a text that is HTML already.
@@ -35,5 +35,16 @@ pub(crate) fn put_escaped(out: &mut Vec<u8>, text: &[u8]) -> Result<(), Memory> 
 /// Appends a name as itself.
 pub(crate) fn put_name(alloc: Global, out: &mut Vec<u8>, name: &[u8]) -> Result<(), Memory> {
     let shown = shown_name(alloc, name)?;
+    put_escaped(out, shown.as_bytes())
+}
+
+/// Appends a name as itself, cut where it takes more than so many columns of a terminal.
+pub(crate) fn put_short_name(
+    alloc: Global,
+    out: &mut Vec<u8>,
+    name: &[u8],
+    most: usize,
+) -> Result<(), Memory> {
+    let shown = short_name(alloc, name, most)?;
     put_escaped(out, shown.as_bytes())
 }

@@ -36,6 +36,7 @@ svg path.axis{stroke:var(--faint);stroke-width:1}
 svg circle{fill:var(--paper);stroke:var(--ink);stroke-width:2}
 svg rect{fill:var(--shade);stroke:var(--ink)}
 svg text{fill:var(--ink);font-size:12px}
+svg text.end{text-anchor:end}
 @media print{:root{--ink:#000;--paper:#fff;--faint:#000;--rule:#888;--shade:#fff}body{padding:0}.wide{overflow:visible}th{position:static}}
 </style>
 <title>Report ";

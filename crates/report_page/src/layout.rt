@@ -1,6 +1,6 @@
 //! Where nodes stand in the drawing of a tree.
 use frac128::Memory;
-use report_forms::Table;
+use report_table::Table;
 use std::alloc::Global;
 
 /// The height that a node has in the drawing: its first line, and how many it has. A line stands for a scenario.
@@ -27,7 +27,7 @@ fn set(numbers: &mut [u64], place: usize, number: u64) {
     }
 }
 
-/// Places the nodes of a stage behind one another, each within the band of its parent.
+/// Places the nodes of a stage one after the other, each within the band of its parent.
 fn place_stage(table: &Table<'_>, stage: u32, free: &mut [u64], bands: &mut [Band]) {
     let mut number: u32 = 0;
     for (place, slot) in table.program.nodes.iter().enumerate() {

@@ -5,7 +5,7 @@ use crate::frame::{BODY, HEAD, TAIL};
 use crate::tables::{put_columns, put_ends, put_first, put_first_period, put_rows, put_scenarios};
 use crate::tree::put_tree;
 use frac128::Memory;
-use report_forms::{Table, finding_word, print_finding, put_count};
+use report_table::{Table, finding_word, print_finding, put_count};
 use std::alloc::Global;
 
 /// Appends the number of the report, and its finding.

@@ -2,19 +2,45 @@
 use crate::cells::{put_amount, put_cell, put_count_cell, put_name_cell};
 use crate::escape::{put, put_name};
 use frac128::Memory;
-use report_forms::{Table, put_count};
+use report_table::{Table, put_count};
 use report_values::{Amount, ColumnCells, RowCells, are_of_ray, gap};
 use scen_defs::{Node, Scenario};
 use std::alloc::Global;
 
-/// Appends the head of a table, whose cells sort it.
+/// What tells a node in a table.
+const SPOT: [&'static str; 4] = ["node", "period", "scenarios", "probability"];
+
+/// Appends the beginning of a table.
+fn open_heads(out: &mut Vec<u8>) -> Result<(), Memory> {
+    put(out, "<div class=wide><table><thead><tr>")
+}
+
+/// Appends what is called so in the head of a table: its cells sort the table.
+fn put_head(out: &mut Vec<u8>, head: &str) -> Result<(), Memory> {
+    put(out, "<th scope=col><button type=button>")?;
+    put(out, head)?;
+    put(out, "</button>")
+}
+
+/// Appends several of these.
 fn put_heads(out: &mut Vec<u8>, heads: &[&str]) -> Result<(), Memory> {
-    put(out, "<div class=wide><table><thead><tr>")?;
     for head in heads {
-        put(out, "<th scope=col><button type=button>")?;
-        put(out, head)?;
-        put(out, "</button>")?;
+        put_head(out, head)?;
     }
+    Ok(())
+}
+
+/// Appends those of columns; that of their direction only where the report has one.
+fn put_column_heads(out: &mut Vec<u8>, table: &Table<'_>) -> Result<(), Memory> {
+    put_heads(out, &["column", "value"])?;
+    if table.report.direction.is_some() {
+        put_head(out, "direction")?;
+    }
+    put_heads(out, &["lower", "upper", "reduced cost"])
+}
+
+/// Appends the end of the head of a table.
+fn close_heads(out: &mut Vec<u8>) -> Result<(), Memory> {
     put(out, "</tr></thead><tbody>\n")
 }
 
@@ -61,7 +87,7 @@ pub(crate) fn put_ends(alloc: Global, out: &mut Vec<u8>, table: &Table<'_>) -> R
     put(out, "</dl>\n")
 }
 
-/// Appends the line of a column, behind what tells the node.
+/// Appends the line of a column, after what tells the node.
 fn put_column(
     alloc: Global,
     out: &mut Vec<u8>,
@@ -70,7 +96,9 @@ fn put_column(
 ) -> Result<(), Memory> {
     put_name_cell(alloc, out, table.column_name(cells.column))?;
     put_cell(alloc, out, cells.value, "-")?;
-    put_cell(alloc, out, cells.direction, "-")?;
+    if table.report.direction.is_some() {
+        put_cell(alloc, out, cells.direction, "-")?;
+    }
     put_cell(alloc, out, cells.lower, "none")?;
     put_cell(alloc, out, cells.upper, "none")?;
     put_cell(alloc, out, cells.reduced, "-")?;
@@ -79,15 +107,9 @@ fn put_column(
 
 /// Appends the first decisions.
 pub(crate) fn put_first(alloc: Global, out: &mut Vec<u8>, table: &Table<'_>) -> Result<(), Memory> {
-    let heads = [
-        "column",
-        "value",
-        "direction",
-        "lower",
-        "upper",
-        "reduced cost",
-    ];
-    put_heads(out, &heads)?;
+    open_heads(out)?;
+    put_column_heads(out, table)?;
+    close_heads(out)?;
     let columns = table.columns(alloc, 0)?;
     for cells in &columns {
         put(out, "<tr>")?;
@@ -121,8 +143,9 @@ pub(crate) fn put_scenarios(
     out: &mut Vec<u8>,
     table: &Table<'_>,
 ) -> Result<(), Memory> {
-    let heads = ["scenario", "probability", "cost", "nodes"];
-    put_heads(out, &heads)?;
+    open_heads(out)?;
+    put_heads(out, &["scenario", "probability", "cost", "nodes"])?;
+    close_heads(out)?;
     for (place, scenario) in table.program.scenarios.iter().enumerate() {
         put_scenario(alloc, out, scenario, table.values.cost(place))?;
     }
@@ -150,19 +173,10 @@ pub(crate) fn put_columns(
     out: &mut Vec<u8>,
     table: &Table<'_>,
 ) -> Result<(), Memory> {
-    let heads = [
-        "node",
-        "period",
-        "scenarios",
-        "probability",
-        "column",
-        "value",
-        "direction",
-        "lower",
-        "upper",
-        "reduced cost",
-    ];
-    put_heads(out, &heads)?;
+    open_heads(out)?;
+    put_heads(out, &SPOT)?;
+    put_column_heads(out, table)?;
+    close_heads(out)?;
     let mut number: u32 = 0;
     for slot in &table.program.nodes {
         if let Some(node) = slot {
@@ -189,7 +203,7 @@ fn put_columns_at(
     Ok(())
 }
 
-/// Appends the line of a row, behind what tells the node.
+/// Appends the line of a row, after what tells the node.
 fn put_row(
     alloc: Global,
     out: &mut Vec<u8>,
@@ -232,19 +246,11 @@ fn multiplier_head(table: &Table<'_>) -> &'static str {
 
 /// Appends the rows of all nodes.
 pub(crate) fn put_rows(alloc: Global, out: &mut Vec<u8>, table: &Table<'_>) -> Result<(), Memory> {
-    let heads = [
-        "node",
-        "period",
-        "scenarios",
-        "probability",
-        "row",
-        "activity",
-        "low",
-        "high",
-        "slack",
-        multiplier_head(table),
-    ];
-    put_heads(out, &heads)?;
+    open_heads(out)?;
+    put_heads(out, &SPOT)?;
+    put_heads(out, &["row", "activity", "low", "high", "slack"])?;
+    put_head(out, multiplier_head(table))?;
+    close_heads(out)?;
     let mut number: u32 = 0;
     for slot in &table.program.nodes {
         if let Some(node) = slot {

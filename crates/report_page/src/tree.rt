@@ -1,9 +1,9 @@
 //! The tree, drawn.
 use crate::cells::put_decimal;
-use crate::escape::{put, put_name};
+use crate::escape::{put, put_short_name};
 use crate::layout::{Band, bands};
 use frac128::Memory;
-use report_forms::{Table, put_count};
+use report_table::{Table, put_count};
 use report_values::Amount;
 use scen_defs::{Node, Scenario};
 use std::alloc::Global;
@@ -14,14 +14,19 @@ const MOST: usize = 200;
 /// So many first decisions are named in the drawing.
 const MOST_NAMED: usize = 8;
 
-/// The distance of two periods, of two scenarios, and the space on both sides.
+/// A name in the drawing takes at most so many columns of a terminal.
+const MOST_OF_NAME: usize = 18;
+
+/// The distance of two periods, of two scenarios, and the space on the sides and above.
 const ACROSS: u64 = 170;
 
-const DOWN: u64 = 26;
+const DOWN: u64 = 32;
 
-const LEFT: u64 = 190;
+const LEFT: u64 = 260;
 
-const RIGHT: u64 = 300;
+const RIGHT: u64 = 320;
+
+const TOP: u64 = 40;
 
 /// Where a node of a stage stands from the left.
 fn across(stage: u32) -> u64 {
@@ -31,7 +36,7 @@ fn across(stage: u32) -> u64 {
 /// Where a band has its middle, from above.
 fn middle(band: Band) -> u64 {
     let twice = band.first.saturating_mul(2).saturating_add(band.lines);
-    (twice.saturating_mul(DOWN) / 2).saturating_add(20)
+    (twice.saturating_mul(DOWN) / 2).saturating_add(TOP)
 }
 
 /// Appends an attribute that is a whole number.
@@ -128,17 +133,25 @@ fn put_points(
     Ok(())
 }
 
+/// Appends the beginning of a text that ends at a place.
+fn open_ending_text(alloc: Global, out: &mut Vec<u8>, x: u64, y: u64) -> Result<(), Memory> {
+    put(out, "<text class=end")?;
+    put_at(alloc, out, "x", x)?;
+    put_at(alloc, out, "y", y)?;
+    put(out, ">")
+}
+
 /// Appends the first decisions beside the root.
 fn put_first(alloc: Global, out: &mut Vec<u8>, table: &Table<'_>, y: u64) -> Result<(), Memory> {
     let columns = table.columns(alloc, 0)?;
-    let mut line = y.saturating_add(24);
+    let end = LEFT.saturating_sub(14);
+    let mut line = y.saturating_add(4);
     for (place, cells) in columns.iter().enumerate() {
+        open_ending_text(alloc, out, end, line)?;
         if place >= MOST_NAMED {
-            open_text(alloc, out, 8, line)?;
-            return put(out, "..</text>\n");
+            return put(out, "and more</text>\n");
         }
-        open_text(alloc, out, 8, line)?;
-        put_name(alloc, out, table.column_name(cells.column))?;
+        put_short_name(alloc, out, table.column_name(cells.column), MOST_OF_NAME)?;
         put(out, " = ")?;
         put_decimal(alloc, out, cells.value)?;
         put(out, "</text>\n")?;
@@ -157,7 +170,7 @@ fn put_leaf(
     y: u64,
 ) -> Result<(), Memory> {
     open_text(alloc, out, x.saturating_add(12), y.saturating_add(4))?;
-    put_name(alloc, out, scenario.name.as_bytes())?;
+    put_short_name(alloc, out, scenario.name.as_bytes(), MOST_OF_NAME)?;
     put(out, ": cost ")?;
     put_decimal(alloc, out, cost)?;
     put(out, "</text>\n")
@@ -188,6 +201,18 @@ fn put_leaves(
     Ok(())
 }
 
+/// Appends the names of the periods above their nodes.
+fn put_periods(alloc: Global, out: &mut Vec<u8>, table: &Table<'_>) -> Result<(), Memory> {
+    let mut stage: u32 = 0;
+    for name in &table.program.periods {
+        open_text(alloc, out, across(stage).saturating_sub(6), 14)?;
+        put_short_name(alloc, out, name.as_bytes(), MOST_OF_NAME)?;
+        put(out, "</text>\n")?;
+        stage = stage.saturating_add(1);
+    }
+    Ok(())
+}
+
 /// Appends the beginning of a drawing.
 pub(crate) fn open_drawing(
     alloc: Global,
@@ -208,10 +233,14 @@ pub(crate) fn open_drawing(
     put(out, "\">\n")
 }
 
-/// How high a drawing of so many scenarios is, with room for the first decisions.
+/// How high a drawing of so many scenarios is, with room for the first decisions beside and below the root, which stands half way.
 fn tree_height(scenarios: u64, named: u64) -> u64 {
-    let lines = scenarios.saturating_mul(DOWN).saturating_add(40);
-    lines.max(named.saturating_mul(32).saturating_add(70))
+    let lines = scenarios.saturating_mul(DOWN);
+    let sides = lines / 2;
+    let below = sides.max(named.saturating_mul(16).saturating_add(10));
+    TOP.saturating_add(sides)
+        .saturating_add(below)
+        .saturating_add(20)
 }
 
 /// Appends the drawing of a tree that isn't large: nodes with their probabilities, the first decisions, and the scenarios with their costs.
@@ -224,6 +253,7 @@ fn put_small(alloc: Global, out: &mut Vec<u8>, table: &Table<'_>) -> Result<(), 
     let named = table.columns(alloc, 0)?.len().min(MOST_NAMED) as u64;
     let height = tree_height(table.program.scenarios.len() as u64, named);
     open_drawing(alloc, out, "the tree", width, height)?;
+    put_periods(alloc, out, table)?;
     put_points(alloc, out, table, &bands)?;
     let root = match bands.get(0) {
         Some(band) => middle(*band),
@@ -257,7 +287,7 @@ fn put_box(alloc: Global, out: &mut Vec<u8>, table: &Table<'_>, stage: u32) -> R
     put_at(alloc, out, "height", 56)?;
     put(out, "/>")?;
     open_text(alloc, out, x.saturating_add(10), 32)?;
-    put_name(alloc, out, table.period_name(stage))?;
+    put_short_name(alloc, out, table.period_name(stage), MOST_OF_NAME)?;
     put(out, "</text>")?;
     open_text(alloc, out, x.saturating_add(10), 54)?;
     put_count(alloc, out, nodes_at(table, stage))?;

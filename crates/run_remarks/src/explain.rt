@@ -3,6 +3,7 @@ use crate::checked::put_checked;
 use crate::help::{ask_help, put_help};
 use crate::refusal::{file_start, put_refusal, put_too_long, put_unread};
 use crate::reported::{put_made, put_reported};
+use crate::sheets::{put_lack, put_unproved};
 use crate::whole::{put_only_whole, put_whole};
 use crate::words::put_word_fault;
 use input_files::FileKind;
@@ -72,7 +73,10 @@ fn put_on_files<R: Files>(
     fetched: &Fetched,
 ) -> Result<(), AllocError> {
     match status {
-        Status::Refused(file, line, cause) => put_refusal(alloc, text, fetched, file, line, cause),
+        Status::Refused(file, line, cause) => match found {
+            Found::Lacking(lack) => put_lack(text, fetched, line, lack),
+            _ => put_refusal(alloc, text, fetched, file, line, cause),
+        },
         Status::TooLong(file) => put_too_long(text, fetched, file),
         Status::ReadFault(file) => put_unread(rt, text, fetched, file),
         _ => put_found(alloc, text, found, fetched),
@@ -98,6 +102,7 @@ fn put_found(
             put_checked(text, fetched, checks)?;
             put_skipped(alloc, text, fetched)
         }
+        Found::Unproved(check) => put_unproved(alloc, text, fetched, check),
         _ => put_skipped(alloc, text, fetched),
     }
 }

@@ -1,5 +1,5 @@
 //! Help: the commands with their options, as the table has them.
-use command_words::{CommandRow, Flag, PAGES, VERBS, ValueKind, Verb};
+use command_words::{CommandRow, FORMS, Flag, PAGES, VERBS, ValueKind, Verb};
 use std::alloc::AllocError;
 use std::fmt::Write;
 
@@ -92,15 +92,16 @@ fn put_values(text: &mut String, kind: ValueKind) -> Result<(), AllocError> {
     match kind {
         ValueKind::File => Ok(()),
         ValueKind::Number(least, most) => put_range(text, least, most),
-        ValueKind::Page => put_pages(text),
+        ValueKind::Page => put_names(text, PAGES.as_slice()),
+        ValueKind::Form => put_names(text, FORMS.as_slice()),
         ValueKind::Yes => Ok(()),
     }
 }
 
-/// Appends the texts of a workload.
-fn put_pages(text: &mut String) -> Result<(), AllocError> {
-    for page in PAGES.as_slice() {
-        write!(text, "{page}, ")?;
+/// Appends the words that a value may be.
+fn put_names(text: &mut String, names: &[&'static str]) -> Result<(), AllocError> {
+    for name in names {
+        write!(text, "{name}, ")?;
     }
     Ok(())
 }

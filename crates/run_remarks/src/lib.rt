@@ -6,6 +6,7 @@ mod explain;
 mod help;
 mod refusal;
 mod reported;
+mod sheets;
 mod unread;
 mod whole;
 mod words;

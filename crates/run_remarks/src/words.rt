@@ -104,6 +104,34 @@ fn check<'a>(alloc: Global) -> Result<Command<'a>, AllocError> {
     command.arg(file(alloc, "report", "the reports").required(true))
 }
 
+/// The option for the form of a report.
+fn form<'a>(alloc: Global) -> Arg<'a> {
+    Arg::new(alloc, "form")
+        .long("form")
+        .value_name("FORM")
+        .value_parser(ValueParser::Names(["text", "csv", "json", "html"].as_slice()))
+        .help("what is printed; none: text")
+}
+
+/// Shows a report for planners.
+fn table<'a>(alloc: Global) -> Result<Command<'a>, AllocError> {
+    let command = on_files(
+        alloc,
+        "table",
+        "test a report of a file, and print it as a table",
+    )?;
+    let command = command.arg(file(alloc, "report", "the reports").required(true))?;
+    let number = number(
+        alloc,
+        "number",
+        1,
+        10_001,
+        "which report of the file; none: the last",
+    );
+    let command = command.arg(number)?;
+    command.arg(form(alloc))
+}
+
 /// Shows a tree.
 fn show<'a>(alloc: Global) -> Result<Command<'a>, AllocError> {
     on_files(
@@ -169,6 +197,7 @@ fn program<'a>(alloc: Global) -> Result<Command<'a>, AllocError> {
 fn commands<'a>(alloc: Global) -> Result<Command<'a>, AllocError> {
     let program = with_command(program(alloc)?, solve(alloc))?;
     let program = with_command(program, check(alloc))?;
+    let program = with_command(program, table(alloc))?;
     let program = with_command(program, show(alloc))?;
     let program = with_command(program, flat(alloc))?;
     with_command(program, make(alloc))

@@ -6,5 +6,5 @@ mod single;
 mod text;
 
 pub use checks::check_script;
-pub use single::Checked;
+pub use single::{Checked, check_single};
 pub use text::{all_hold, print_checks};

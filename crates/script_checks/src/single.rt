@@ -53,3 +53,14 @@ pub(crate) fn outcome_of(
         Err(halt) => Ok(Err(operation(halt)?)),
     }
 }
+
+/// The check of a report against a program.
+pub fn check_single(alloc: Global, program: &Program, report: &Report) -> Result<Checked, Memory>
+    ensures { IfOk result (IsCheck (content program.now) report.now) }
+{
+    let outcome = outcome_of(alloc, program, report)?;
+    Ok(Checked {
+        number: report.number,
+        outcome,
+    })
+}

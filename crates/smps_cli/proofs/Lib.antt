@@ -4,6 +4,7 @@ pub mod MeantLemmas
 pub mod GivenLemmas
 pub mod EndLemmas
 pub mod FlatLemmas
+pub mod TableLemmas
 pub mod Few
 pub mod OnTrees
 pub mod WriteLemmas

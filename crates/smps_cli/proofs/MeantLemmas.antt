@@ -7,6 +7,7 @@ use Rattle.core_defs.specs.declared.program.Core.{Core}
 use Rattle.command_words.specs.declared.command.Extent.{Extent}
 use Rattle.command_words.specs.declared.command.Page.{Page}
 use Rattle.command_words.specs.declared.command.Plan.{Plan}
+use Rattle.command_words.specs.declared.command.Sheet.{Sheet}
 use Rattle.command_words.specs.declared.command.Task.{Task}
 use Rattle.command_words.specs.declared.command.Task.TheVariants as task
 use Rattle.command_words.specs.Commands.{FileNames, Asked}
@@ -18,8 +19,10 @@ use Rattle.scen_defs.specs.Program.{Program}
 use Rattle.edit_script.specs.Allowed.{program_after}
 use Rattle.flat_write.specs.declared.fault.FlatFault.{FlatFault}
 use Rattle.flat_write.specs.declared.fault.FlatFault.TheVariants as flat
+use Rattle.report_sheets.specs.declared.sheet.NoSheet.{NoSheet}
+use Rattle.report_sheets.specs.declared.sheet.NoSheet.TheVariants as no_sheet
 use Rattle.program_files.specs.Meant.{MeansProgram}
-use Rattle.program_files.specs.Edited.{AreMeant, RefusesFiles}
+use Rattle.program_files.specs.Edited.{AreMeant, RefusesFiles, or_empty}
 use Rattle.program_files.proofs.MeaningLemmas.{texts_mean_one_program}
 use Rattle.run_status.specs.declared.status.Status.{Status}
 use Rattle.run_status.specs.declared.status.Status.TheVariants.{Done, SomeOpen, Words, Refused, TooLong, ReadFault, WriteFault, Memory}
@@ -27,6 +30,7 @@ use Rattle.smps_cli.specs.Answers.{MayAnswer, MayAnswerFor, MayCome}
 use Rattle.smps_cli.specs.Checks.{PrintsChecks}
 use Rattle.smps_cli.specs.Ends.{MayEnd, RefusesTexts}
 use Rattle.smps_cli.specs.Flat.{FlatComes, IsFlat, MayBeFlat, RefusesFlat, flat_end, limits_of}
+use Rattle.smps_cli.specs.Tables.{IsTable, MayBeTable, RefusesTable, TableComes, line_after}
 use Rattle.smps_cli.specs.Makes.{PrintsSummary, MayMake, workload, texts_of}
 use Rattle.smps_cli.specs.Shown.{PrintsProgram}
 use Rattle.smps_cli.specs.Solved.{PrintsReports}
@@ -116,9 +120,35 @@ module _ (texts : Texts) (sound : IsUnrefused texts) where
   by_flat size WriteFault output may = absurd may
   by_flat size Memory output may = absurd may
 
+  -- there is a page, or the report isn't shown to hold, or it isn't there
+  by_sheet : (sheet : Sheet) (status : Status) (output : List ℕ) (line : ℕ) (end : Result (List ℕ) NoSheet) → TableComes line end status output
+      → EndsTask (task.Table sheet) status
+  by_sheet sheet status output line (Ok page) h = inl (inl h.0)
+  by_sheet sheet status output line (Err (no_sheet.Missing count)) h = inr (line, h.0)
+  by_sheet sheet status output line (Err (no_sheet.Unproved check)) h = inl (inr (inl h.0))
+  by_sheet sheet status output line (Err no_sheet.Memory) h = absurd h
+
+  by_lack : (sheet : Sheet) (file : FileKind) (line : ℕ) (cause : Cause) (output : List ℕ) → RefusesTable sheet.number texts file line cause output
+      → EndsTask (task.Table sheet) (Refused file line cause)
+  unfolding IsUnrefused
+  by_lack sheet file line cause output (inl may) = absurd (sound file (record { line = line; cause = cause }) may.known may.refused)
+  by_lack sheet file line cause output (inr is) =
+      by_sheet sheet (Refused file line cause) output (line_after (or_empty texts.report)) is.end is.comes
+
+  by_table : (sheet : Sheet) (status : Status) (output : List ℕ) → MayBeTable sheet.number texts status output → EndsTask (task.Table sheet) status
+  by_table sheet Done output may = inl (inl refl)
+  by_table sheet SomeOpen output may = inl (inr (inl refl))
+  by_table sheet Words output may = absurd may
+  by_table sheet (Refused file line cause) output may = by_lack sheet file line cause output may
+  by_table sheet (TooLong file) output may = absurd may
+  by_table sheet (ReadFault file) output may = absurd may
+  by_table sheet WriteFault output may = absurd may
+  by_table sheet Memory output may = absurd may
+
   by_task : (asked : Task) (status : Status) (output : List ℕ) → MayCome asked texts status output → EndsTask asked status
   by_task (task.Solve budget) status output may = by_end (PrintsReports budget texts) status output may
   by_task task.Check status output may = by_end (PrintsChecks texts) status output may
+  by_task (task.Table sheet) status output may = by_table sheet status output may
   by_task task.Show status output may = by_end (PrintsProgram texts) status output may
   by_task (task.Flat size) status output may = by_flat size status output may
 

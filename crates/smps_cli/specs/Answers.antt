@@ -4,7 +4,7 @@ use Rattle.smps_io.specs.Faults.{RoseBy}
 use Rattle.smps_io.specs.Files.{Files}
 use Rattle.smps_io.specs.Puts.{Appends, AppendsPrefix}
 use Rattle.command_words.specs.declared.command.Task.{Task}
-use Rattle.command_words.specs.declared.command.Task.TheVariants.{Solve, Check, Show, Flat}
+use Rattle.command_words.specs.declared.command.Task.TheVariants.{Solve, Check, Table, Show, Flat}
 use Rattle.command_words.specs.Commands.{FileNames, Asked, command_of}
 use Rattle.command_words.specs.Commands.Asked.{OnFiles, MakeThis}
 use Rattle.input_files.specs.declared.kind.FileKind.{FileKind}
@@ -16,12 +16,14 @@ use Rattle.smps_cli.specs.Shown.{MayBeShown}
 use Rattle.smps_cli.specs.Flat.{MayBeFlat}
 use Rattle.smps_cli.specs.Solved.{MayBeSolved}
 use Rattle.smps_cli.specs.Checks.{MayBeChecked}
+use Rattle.smps_cli.specs.Tables.{MayBeTable}
 use Rattle.smps_cli.specs.Makes.{MakesPlan}
 
 -- What a task may come to on the texts of its files.
 abbrev pub MayCome : Task → Texts → Status → List ℕ → Type 0
 MayCome (Solve budget) texts status output = MayBeSolved budget texts status output
 MayCome Check texts status output = MayBeChecked texts status output
+MayCome (Table sheet) texts status output = MayBeTable sheet.number texts status output
 MayCome Show texts status output = MayBeShown texts status output
 MayCome (Flat extent) texts status output = MayBeFlat extent texts status output
 

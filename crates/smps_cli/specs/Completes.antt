@@ -2,18 +2,18 @@
 use Rattle.std.specs.Prelude.{◌≡◌, ◌≤◌, ◌⊎◌, ⊤, ℕ, List, length, Option, Some, None}
 use Rattle.smps_words.specs.Line.{reading_of}
 use Rattle.smps_io.specs.Files.{Files, bytes_of}
-use Rattle.refusals.specs.declared.cause.Cause.TheVariants.{FlatLimit, Passes}
+use Rattle.refusals.specs.declared.cause.Cause.TheVariants.{FlatLimit, Passes, ReportBad}
 use Rattle.core_defs.specs.Fault.{IsCoreFile}
 use Rattle.command_words.specs.declared.command.Budget.{Budget}
 use Rattle.command_words.specs.declared.command.Page.{Page}
 use Rattle.command_words.specs.declared.command.Plan.{Plan}
 use Rattle.command_words.specs.declared.command.Task.{Task}
-use Rattle.command_words.specs.declared.command.Task.TheVariants.{Solve, Check, Show, Flat}
+use Rattle.command_words.specs.declared.command.Task.TheVariants.{Solve, Check, Table, Show, Flat}
 use Rattle.command_words.specs.Commands.{FileNames, command_of}
 use Rattle.command_words.specs.Commands.Asked.{OnFiles, MakeThis}
 use Rattle.input_files.specs.Fetched.{Texts, AreGiven, file_limit}
 use Rattle.rationals.specs.Passes.{Operation}
-use Rattle.input_files.specs.declared.kind.FileKind.TheVariants.{Core}
+use Rattle.input_files.specs.declared.kind.FileKind.TheVariants.{Core, Report}
 use Rattle.scen_defs.specs.Program.{Program}
 use Rattle.program_files.specs.Meant.{MeansProgram}
 use Rattle.program_files.specs.Edited.{AreMeant}
@@ -73,10 +73,12 @@ pub record AsksForWorkload (words : List (List ℕ)) : Type 0 where
 abbrev pub AnswersOrWantsMemory : Status → Type 0
 AnswersOrWantsMemory status = (status ≡ Done) ⊎ (status ≡ SomeOpen) ⊎ (status ≡ Memory)
 
--- So does each task; but `flat` refuses the core file where the program of all nodes exceeds a limit of core files, or an operation passes.
+-- So does each task; but `table` refuses a report file that has no report of the number that is asked for, and `flat` the core file where
+-- the program of all nodes exceeds a limit of core files, or an operation passes.
 abbrev pub EndsTask : Task → Status → Type 0
 EndsTask (Solve budget) status = AnswersOrWantsMemory status
 EndsTask Check status = AnswersOrWantsMemory status
+EndsTask (Table sheet) status = AnswersOrWantsMemory status ⊎ ((line : ℕ) × (status ≡ Refused Report line ReportBad))
 EndsTask Show status = AnswersOrWantsMemory status
 EndsTask (Flat extent) status =
     AnswersOrWantsMemory status ⊎ (status ≡ Refused Core 0 FlatLimit) ⊎ ((p : Operation) × (status ≡ Refused Core 0 (Passes p)))

@@ -22,6 +22,7 @@ use crate::found::Found;
 use crate::make::made;
 use crate::show::shown;
 use crate::solve::solved;
+use crate::table::tabled;
 use command_words::{Command, PlainWords, Plan, Sources, Task};
 use core_defs::Core;
 use frac128::Memory;
@@ -80,6 +81,7 @@ fn come(alloc: Global, task: Task, texts: &Texts) -> Result<Answer, Memory>
     match task {
         Task::Solve(budget) => solved(alloc, texts, budget),
         Task::Check => checked(alloc, texts),
+        Task::Table(sheet) => tabled(alloc, texts, sheet),
         Task::Show => shown(alloc, texts),
         Task::Flat(extent) => flattened(alloc, texts, extent),
     }

@@ -11,6 +11,12 @@ pub enum Found {
     Reports(Vec<Told>),
     /// `check`: what the checks of reports came to.
     Checks(Checks),
+    /// `table`: a report in the form that is asked for.
+    Table(Vec<u8>),
+    /// `table`: the test of the report, which doesn't come to that it holds. Nothing is printed of it.
+    Unproved(Checked),
+    /// `table`: there is no report of that number.
+    Lacking(Lack),
     /// `show`: the program.
     Shown(Program),
     /// `flat`: the program as one core file.
@@ -30,6 +36,15 @@ pub struct Checks {
     pub checks: Vec<Checked>,
     /// How many reports the edit list asks for.
     pub asked: u32,
+}
+
+/// A file that lacks the report that is asked for.
+#[derive(Drop)]
+pub struct Lack {
+    /// The line that refuses the file.
+    pub line: Vec<u8>,
+    /// How many reports it has.
+    pub count: usize,
 }
 
 /// A workload, its program and the report of that.

@@ -11,12 +11,13 @@ mod make;
 mod refuse;
 mod show;
 mod solve;
+mod table;
 mod top_call;
 mod write;
 
 pub use answer::Ran;
 pub use fetched::Fetched;
-pub use found::{Checks, Found, Summary};
+pub use found::{Checks, Found, Lack, Summary};
 pub use run_status::{FileKind, Status};
 pub use script_checks::Checked;
 pub use smps_session::Told;

@@ -87,6 +87,9 @@ pub(crate) fn write_found<R: Print, K: Sink>(
         Found::Checks(checks) => write_made(rt, sink, lines(alloc, &checks.checks)),
         Found::Shown(program) => write_made(rt, sink, shown_text(alloc, program)),
         Found::Summary(summary) => write_made(rt, sink, summary_text(alloc, summary)),
-        Found::Flat(text) | Found::Page(text) | Found::Nothing(text) => write_all(rt, sink, text),
+        Found::Unproved(_) => write_all(rt, sink, &[]),
+        Found::Lacking(lack) => write_all(rt, sink, &lack.line),
+        Found::Table(text) | Found::Flat(text) | Found::Page(text) | Found::Nothing(text) =>
+            write_all(rt, sink, text),
     }
 }

@@ -6,10 +6,13 @@ use Rattle.std.specs.declared.io.Error.{Error}
 use Rattle.std.specs.declared.vec.IntoIter.{IntoIter}
 use Rattle.std.specs.Vec.Iter.{into_iter_items}
 use Rattle.smps_io.specs.Files.{Files}
+use Rattle.command_words.specs.declared.command.Task.{Task}
+use Rattle.command_words.specs.declared.command.Task.TheVariants.{Solve, Check, Table, Show, Flat}
 use Rattle.command_words.specs.Commands.{Asked, command_of}
 use Rattle.command_words.specs.Commands.Asked.{OnFiles, MakeThis}
 use Rattle.run_status.specs.declared.status.Status.TheVariants.{Memory}
 use Rattle.run_status.specs.Lines.{status_number}
+use Rattle.smps_cli.specs.Completes.{EndsTask}
 use Rattle.smps_cli.specs.Runs.{IsRun, ShelfState, SinkState}
 use Rattle.smps_cli.specs.Sources.{LastSaysLong}
 use Rattle.tidzgheba.specs.Ending.{EndsOn}
@@ -18,6 +21,14 @@ says_nothing : (asked : Option Asked) (given : ℕ) → LastSaysLong asked Memor
 says_nothing None given = tt
 says_nothing (Some (OnFiles names task)) given = tt
 says_nothing (Some (MakeThis plan)) given = tt
+
+-- each task may want memory
+ends_so : (task : Task) → EndsTask task Memory
+ends_so (Solve budget) = inr (inr refl)
+ends_so Check = inr (inr refl)
+ends_so (Table sheet) = inl (inr (inr refl))
+ends_so Show = inr (inr refl)
+ends_so (Flat extent) = inl (inr (inr refl))
 
 module _ (content : Option Files) (shelf : ShelfState) (sink : SinkState) where
   nothing_ran : (words : List (List ℕ)) → IsRun words content shelf shelf sink sink Memory
@@ -30,7 +41,7 @@ module _ (content : Option Files) (shelf : ShelfState) (sink : SinkState) where
     read = λ kind e. absurd (cc);
     write = λ e. absurd (cc);
     completes = λ asks gives takes. inr (inr (inl refl));
-    ends = λ asks gives takes. inr (inr refl);
+    ends = λ asks gives takes. ends_so asks.task;
     makes = λ asks takes. inr (inr refl);
     answers = inr (refl, refl);
   }

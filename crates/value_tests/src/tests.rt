@@ -1,7 +1,7 @@
 // The least costs of programs of scenarios, of means, and with a fixed first period.
 use frac128::{Form, Frac, Memory, parse};
 use sample_programs::{COVER, Source, read_source};
-use scen_defs::{Finding, Program};
+use scen_defs::{Finding, Program, Report};
 use scen_tree::Tree;
 use smps_session::{StatedLimits, session};
 use std::alloc::Global;
@@ -103,6 +103,14 @@ const FARMER_WANTED: Wanted = Wanted {
     fixed: "-107240",
 };
 
+/// The lower end of a report that is OPTIMAL.
+fn optimum(report: &Report) -> Option<Frac> {
+    match report.finding {
+        Finding::Optimal => report.lower,
+        _ => None,
+    }
+}
+
 /// The least cost of a program.
 fn least_cost(alloc: Global, program: &Program) -> Result<Frac, Fail> {
     let stated = StatedLimits {
@@ -110,10 +118,7 @@ fn least_cost(alloc: Global, program: &Program) -> Result<Frac, Fail> {
         pivots: false,
     };
     let answered = session(alloc, program, 100_000, 100_000, stated)?;
-    match answered.report.finding {
-        Finding::Optimal => Ok(answered.report.lower.ok_or("no end")?),
-        _ => Err(Fail::from("no optimum")),
-    }
+    Ok(optimum(&answered.report).ok_or("no optimum")?)
 }
 
 fn expect_cost(alloc: Global, program: &Program, wanted: &str) -> Result<(), Fail> {
@@ -142,6 +147,9 @@ fn expect(rt: &impl Abort, alloc: Global, wanted: &Wanted) -> Result<(), Fail> {
         }
         let only = scenario_program(alloc, &program, place)?;
         expect_cost(alloc, &only, cost)?;
+    }
+    if program.nodes.len() > 1_000 {
+        return Err(Fail::from("too many nodes"));
     }
     let tree = Tree::of(alloc, &program)?;
     let means = mean_program(alloc, &program, &tree)?;

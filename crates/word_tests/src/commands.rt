@@ -1,5 +1,7 @@
 //! Lists of words, and what they ask for. The table is a text, since each member of an array is a step of the proof.
-use command_words::{Budget, Command, Extent, Page, PlainWords, Plan, Sources, Task};
+use command_words::{
+    Budget, Command, Extent, Page, PlainWords, Plan, Sheet, SheetForm, Sources, Task,
+};
 use std::alloc::{AllocError, Global};
 use std::process::Abort;
 use std::test::Fail;
@@ -78,6 +80,22 @@ check --core F|
 check --report R|
 check --core F --report R --solves 3|
 check --core F --report R --stoch S|
+table --core F --report R|table F - - - R - text
+table --form=csv --report=R --edits=E --stoch=S --time=T --core=F --number 1|table F T S E R 1 csv
+table --core F --report R --number 10001 --form json|table F - - - R 10001 json
+table --core F --report R --number 0000000007 --form html|table F - - - R 7 html
+table --core F --report R --form text|table F - - - R - text
+table --core F|
+table --report R|
+table --core F --report R --number 0|
+table --core F --report R --number 10002|
+table --core F --report R --number last|
+table --core F --report R --form Text|
+table --core F --report R --form page|
+table --core F --report R --text core|
+table --core F --report R --solves 3|
+check --core F --report R --number 1|
+solve --core F --form csv|
 make --start 1 --stages 2 --branches 2 --size 1|make 1 2 2 1 -
 make --size=20 --branches=4 --stages=6 --start=65536 --text=stoch|make 65536 6 4 20 stoch
 make --start 0 --stages 3 --branches 3 --size 2 --text core|make 0 3 3 2 core
@@ -117,9 +135,27 @@ fn told_on_files(alloc: Global, sources: Sources<'_>, task: Task) -> Result<Stri
     match task {
         Task::Solve(budget) => told_budget(alloc, files.as_str(), budget),
         Task::Check => format!(in alloc; "check {files}"),
+        Task::Table(sheet) => told_sheet(alloc, files.as_str(), sheet),
         Task::Show => format!(in alloc; "show {files}"),
         Task::Flat(Extent::Core) => format!(in alloc; "flat {files}"),
         Task::Flat(Extent::Whole) => format!(in alloc; "flat {files} whole"),
+    }
+}
+
+fn told_sheet(alloc: Global, files: &str, sheet: Sheet) -> Result<String, AllocError> {
+    let form = form_word(sheet.form);
+    match sheet.number {
+        Some(number) => format!(in alloc; "table {files} {number} {form}"),
+        None => format!(in alloc; "table {files} - {form}"),
+    }
+}
+
+fn form_word(form: SheetForm) -> &'static str {
+    match form {
+        SheetForm::Text => "text",
+        SheetForm::Csv => "csv",
+        SheetForm::Json => "json",
+        SheetForm::Html => "html",
     }
 }
 

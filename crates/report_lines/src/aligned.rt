@@ -1,9 +1,7 @@
 //! Lines of cells under one another.
 use frac128::Memory;
 use std::alloc::Global;
-
-/// A longer cell is cut.
-const MOST: usize = 60;
+use unicode_width::UnicodeWidthStr;
 
 /// Lines of cells.
 #[derive(Drop)]
@@ -11,40 +9,12 @@ pub(crate) struct Lines {
     lines: Vec<Vec<Vec<u8>>>,
 }
 
-/// How many characters a text has.
-fn character_count(text: &[u8]) -> usize {
-    let mut count: usize = 0;
-    for byte in text {
-        if *byte < 0x80 || *byte >= 0xC0 {
-            count = count.saturating_add(1);
-        }
+/// How many columns of a terminal a text takes.
+fn width(text: &[u8]) -> usize {
+    match std::str::from_utf8(text) {
+        Ok(text) => text.width(),
+        Err(_) => text.len(),
     }
-    count
-}
-
-/// How many bytes the first characters of a text have.
-fn front_length(text: &[u8], characters: usize) -> usize {
-    let mut count: usize = 0;
-    for (place, byte) in text.iter().enumerate() {
-        if *byte < 0x80 || *byte >= 0xC0 {
-            if count == characters {
-                return place;
-            }
-            count = count.saturating_add(1);
-        }
-    }
-    text.len()
-}
-
-/// A cell, which is cut where it is long.
-fn short(alloc: Global, text: &[u8]) -> Result<Vec<u8>, Memory> {
-    if character_count(text) <= MOST {
-        return Ok(Vec::from_slice(alloc, text)?);
-    }
-    let end = front_length(text, MOST - 3).min(text.len());
-    let mut cell = Vec::from_slice(alloc, &text[..end])?;
-    cell.extend_from_slice(b"...")?;
-    Ok(cell)
 }
 
 /// Appends so many spaces.
@@ -58,7 +28,7 @@ fn put_spaces(out: &mut Vec<u8>, count: usize) -> Result<(), Memory> {
 /// Makes the widths at least those of the cells of a line.
 fn widen(widths: &mut Vec<usize>, line: &[Vec<u8>]) -> Result<(), Memory> {
     for (place, cell) in line.iter().enumerate() {
-        let width = character_count(cell);
+        let width = width(cell);
         if place < widths.len() {
             widths[place] = widths[place].max(width);
         } else {
@@ -74,7 +44,7 @@ fn put_line(out: &mut Vec<u8>, line: &[Vec<u8>], widths: &[usize]) -> Result<(),
         out.extend_from_slice(b"  ")?;
         out.extend_from_slice(cell)?;
         if place.saturating_add(1) < line.len() && place < widths.len() {
-            put_spaces(out, widths[place].saturating_sub(character_count(cell)))?;
+            put_spaces(out, widths[place].saturating_sub(width(cell)))?;
         }
     }
     out.push(b'\n')?;
@@ -90,12 +60,8 @@ impl Lines {
     }
 
     /// Adds a line of cells.
-    pub(crate) fn push(&mut self, alloc: Global, cells: &[Vec<u8>]) -> Result<(), Memory> {
-        let mut line = Vec::with_capacity(alloc, cells.len())?;
-        for cell in cells {
-            line.push(short(alloc, cell)?)?;
-        }
-        self.lines.push(line)?;
+    pub(crate) fn push(&mut self, cells: Vec<Vec<u8>>) -> Result<(), Memory> {
+        self.lines.push(cells)?;
         Ok(())
     }
 

@@ -1,10 +1,9 @@
 //! The table as comma-separated values: a record for the report, for each column and row of each node, and for each scenario.
-use crate::names::shown_name;
-use crate::numbers::{decimal_text, exact_text, put_count};
-use crate::table::Table;
-use crate::words::{finding_word, print_finding};
 use csv::{Terminator, Writer, WriterBuilder};
 use frac128::Memory;
+use report_table::{
+    Table, decimal_text, exact_text, finding_word, print_finding, put_count, shown_name,
+};
 use report_values::{Amount, ColumnCells, RowCells, gap};
 use scen_defs::Scenario;
 use std::alloc::Global;

@@ -1,11 +1,10 @@
 //! The table as one JSON object, written piece by piece, so that no tree of it is kept.
-use crate::names::shown_name;
-use crate::numbers::{decimal_text, exact_text, put_count};
-use crate::table::Table;
-use crate::words::{finding_word, print_finding};
 use frac128::Memory;
+use report_table::{
+    Table, decimal_text, exact_text, finding_word, print_finding, put_count, shown_name,
+};
 use report_values::{Amount, ColumnCells, RowCells, are_of_ray, gap};
-use scen_defs::{Node, Scenario};
+use scen_defs::{Node, Report, Scenario};
 use serde_json::Value;
 use std::alloc::Global;
 
@@ -283,6 +282,18 @@ fn multiplier_word(table: &Table<'_>) -> &'static str {
     }
 }
 
+/// Appends what the ray is worth and what the direction costs, of which a report has one at most.
+fn put_extra(alloc: Global, out: &mut Vec<u8>, report: &Report) -> Result<(), Memory> {
+    let extra = Amount::of_end(report.extra);
+    if report.ray.is_some() {
+        put_keyed(alloc, out, "value", extra)?;
+        put_keyed(alloc, out, "slope", Amount::Absent)
+    } else {
+        put_keyed(alloc, out, "value", Amount::Absent)?;
+        put_keyed(alloc, out, "slope", extra)
+    }
+}
+
 /// Appends what stands on top: the finding and the ends.
 fn put_outcome(alloc: Global, out: &mut Vec<u8>, table: &Table<'_>) -> Result<(), Memory> {
     let report = table.report;
@@ -301,12 +312,12 @@ fn put_outcome(alloc: Global, out: &mut Vec<u8>, table: &Table<'_>) -> Result<()
     put_keyed(alloc, out, "lower", Amount::of_end(report.lower))?;
     put_keyed(alloc, out, "upper", Amount::of_end(report.upper))?;
     put_keyed(alloc, out, "gap", gap(report))?;
-    put_keyed(alloc, out, "extra", Amount::of_end(report.extra))?;
+    put_extra(alloc, out, report)?;
     put_key(out, "multipliers")?;
     put(out, multiplier_word(table))
 }
 
-/// The table as one JSON object, with a line feed behind it.
+/// The table as one JSON object, with a line feed after it.
 pub fn print_json(alloc: Global, table: &Table<'_>) -> Result<Vec<u8>, Memory> {
     let names = quoted_names(alloc, table)?;
     let mut out = Vec::new(alloc);

@@ -33,7 +33,7 @@ fn put_place(alloc: Global, out: &mut Vec<u8>, place: Place) -> Result<(), Memor
             put_count(alloc, out, solve)
         }
         Place::Cost(solve) => {
-            put(out, "the cost behind solve ")?;
+            put(out, "the cost after solve ")?;
             put_count(alloc, out, solve)
         }
         Place::Ground => put(out, "the cuts of a new run"),

@@ -1,0 +1,25 @@
+//! The forms of a table.
+use command_words::SheetForm;
+use frac128::Memory;
+use report_lines::print_text;
+use report_page::print_page;
+use report_records::{print_csv, print_json};
+use report_table::Table;
+use scen_defs::{Program, Report};
+use std::alloc::Global;
+
+/// A report, and what follows of it for its program, in a form.
+pub(crate) fn formed(
+    alloc: Global,
+    program: &Program,
+    report: &Report,
+    form: SheetForm,
+) -> Result<Vec<u8>, Memory> {
+    let table = Table::of(alloc, program, report)?;
+    match form {
+        SheetForm::Text => print_text(alloc, &table),
+        SheetForm::Csv => print_csv(alloc, &table),
+        SheetForm::Json => print_json(alloc, &table),
+        SheetForm::Html => print_page(alloc, &table),
+    }
+}

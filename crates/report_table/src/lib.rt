@@ -1,0 +1,13 @@
+//! What the forms of a report for planners have in common: a report with the program that it is of, and names, findings and numbers in
+//! words.
+#![tactic(auto)]
+
+mod names;
+mod numbers;
+mod table;
+mod words;
+
+pub use names::{short_name, shown_name};
+pub use numbers::{decimal_text, exact_text, put_count};
+pub use table::Table;
+pub use words::{finding_word, print_finding};
