@@ -20,7 +20,7 @@ use Rattle.scen_defs.proofs.Valid.{each-place}
 use Rattle.scen_tree.specs.Trees.{Tree, tree_walk}
 use Rattle.edit_defs.specs.Shifts.{no_row}
 use Rattle.value_programs.specs.Line.{in_line, stage_before}
-use Rattle.value_programs.specs.Mean.{end_of, form_of, is_of_stage, mean_end, mean_form, mean_name, mean_node, mean_nodes, mean_number, mean_row, mean_rows, nodes_of_stage}
+use Rattle.value_programs.specs.Mean.{row_end, node_form, is_of_stage, mean_end, mean_form, mean_name, mean_node, mean_nodes, mean_number, mean_row, mean_rows, nodes_of_stage}
 use Rattle.value_programs.specs.declared.parts.NodeForm.TheVariants.{Cost, Entries}
 use Rattle.value_programs.specs.declared.parts.RowEnd.TheVariants.{Low, High}
 use Rattle.value_programs.proofs.LineKeeps.{IsOfStage, line_keeps}
@@ -83,12 +83,12 @@ module _ (p : Program) (i : IsProgram p) (w : ℕ → ℚ) (nonneg : (n : ℕ) �
   abbrev IsEarlier : ℕ → Type 0
   IsEarlier j = passes_at (λ (c : Column). leb c.stage s) j p.columns ≡ true
 
-  costs_fit : (cost : List Entry) → mean_form w (λ n. form_of Cost (node n)) over ≡ Ok cost → Each (λ (e : Entry). passes_at (λ (c : Column). eqb c.stage s) e.column p.columns ≡ true) cost
-  costs_fit cost e = mean_within IsCost w (λ n. form_of Cost (node n)) over cost
+  costs_fit : (cost : List Entry) → mean_form w (λ n. node_form Cost (node n)) over ≡ Ok cost → Each (λ (e : Entry). passes_at (λ (c : Column). eqb c.stage s) e.column p.columns ≡ true) cost
+  costs_fit cost e = mean_within IsCost w (λ n. node_form Cost (node n)) over cost
       (each-map (λ n (h : Stands n). subst (λ m. Each (λ (e : Entry). passes_at (λ (c : Column). eqb c.stage m) e.column p.columns ≡ true) (node n).cost) h.stage h.fits.cost) over all_stand) e
 
-  entries_fit : (k : ℕ) (entries : List Entry) → mean_form w (λ n. form_of (Entries k) (node n)) over ≡ Ok entries → Each (λ (e : Entry). passes_at (λ (c : Column). leb c.stage s) e.column p.columns ≡ true) entries
-  entries_fit k entries e = mean_within IsEarlier w (λ n. form_of (Entries k) (node n)) over entries
+  entries_fit : (k : ℕ) (entries : List Entry) → mean_form w (λ n. node_form (Entries k) (node n)) over ≡ Ok entries → Each (λ (e : Entry). passes_at (λ (c : Column). leb c.stage s) e.column p.columns ≡ true) entries
+  entries_fit k entries e = mean_within IsEarlier w (λ n. node_form (Entries k) (node n)) over entries
       (each-map (λ n (h : Stands n). subst (λ m. Each (λ (e : Entry). passes_at (λ (c : Column). leb c.stage m) e.column p.columns ≡ true) (get_or (node n).rows k no_row).entries) h.stage
       (each_get (λ (r : NodeRow). Each (λ (e : Entry). passes_at (λ (c : Column). leb c.stage (node n).stage) e.column p.columns ≡ true) r.entries) (node n).rows k no_row
       (each-map (λ (r : NodeRow) (f : FitsRow p (node n).stage r). f.entries) (node n).rows h.fits.rows) tt)) over all_stand) e
@@ -118,8 +118,8 @@ module _ (p : Program) (i : IsProgram p) (w : ℕ → ℚ) (nonneg : (n : ℕ) �
         ∙ ap (λ (l : List ℕ). get_or l k 0) (h.fits.numbers ∙ ap (λ m. places (λ (r : Row). eqb r.stage m) 0 p.rows) h.stage) ∙ is
 
     ends_ordered : (l h : ℚ) → has_low (row_at p.rows j).kind (row_at p.rows j).range ≡ true → has_high (row_at p.rows j).kind (row_at p.rows j).range ≡ true
-        → mean_number w (λ n. number (end_of Low k (node n))) over ≡ Ok l → mean_number w (λ n. number (end_of High k (node n))) over ≡ Ok h → l ≤ℚ h
-    ends_ordered l h a b e f = means_ordered w (λ n. number (end_of Low k (node n))) (λ n. number (end_of High k (node n))) over l h
+        → mean_number w (λ n. number (row_end Low k (node n))) over ≡ Ok l → mean_number w (λ n. number (row_end High k (node n))) over ≡ Ok h → l ≤ℚ h
+    ends_ordered l h a b e f = means_ordered w (λ n. number (row_end Low k (node n))) (λ n. number (row_end High k (node n))) over l h
         (each-map (λ n (x : Stands n). let r = fitting n x in (
           nonneg n,
           both_ordered (get_or (node n).rows k no_row).low (get_or (node n).rows k no_row).high r.in_order
@@ -128,27 +128,27 @@ module _ (p : Program) (i : IsProgram p) (w : ℕ → ℚ) (nonneg : (n : ℕ) �
         )) over all_stand) e f
 
     in_order : (a b : Bool) (low high : Option ℚ) → has_low (row_at p.rows j).kind (row_at p.rows j).range ≡ a → has_high (row_at p.rows j).kind (row_at p.rows j).range ≡ b
-        → mean_end a (mean_number w (λ n. number (end_of Low k (node n))) over) ≡ Ok low → mean_end b (mean_number w (λ n. number (end_of High k (node n))) over) ≡ Ok high
+        → mean_end a (mean_number w (λ n. number (row_end Low k (node n))) over) ≡ Ok low → mean_end b (mean_number w (λ n. number (row_end High k (node n))) over) ≡ Ok high
         → InOrder low high × ((is_some low ≡ a) × (is_some high ≡ b))
     in_order false false low high x y e f = let l : None ≡ low = cc in let h : None ≡ high = cc in
         subst (λ o. InOrder o high × ((is_some o ≡ false) × (is_some high ≡ false))) l (tt, (refl, ap is_some (sym h)))
-    in_order false true low high x y e f = let l : None ≡ low = cc in let h = has (mean_number w (λ n. number (end_of High k (node n))) over) Some high f in
+    in_order false true low high x y e f = let l : None ≡ low = cc in let h = has (mean_number w (λ n. number (row_end High k (node n))) over) Some high f in
         subst (λ o. InOrder o high × ((is_some o ≡ false) × (is_some high ≡ true))) l (tt, (refl, ap is_some (sym h.is)))
-    in_order true false low high x y e f = let h : None ≡ high = cc in let l = has (mean_number w (λ n. number (end_of Low k (node n))) over) Some low e in
+    in_order true false low high x y e f = let h : None ≡ high = cc in let l = has (mean_number w (λ n. number (row_end Low k (node n))) over) Some low e in
         subst (λ o. InOrder low o × ((is_some low ≡ true) × (is_some o ≡ false))) h
         (subst (λ o. InOrder o None × ((is_some o ≡ true) × (false ≡ false))) l.is (tt, (refl, refl)))
     in_order true true low high x y e f =
-        let l = has (mean_number w (λ n. number (end_of Low k (node n))) over) Some low e in
-        let h = has (mean_number w (λ n. number (end_of High k (node n))) over) Some high f in
+        let l = has (mean_number w (λ n. number (row_end Low k (node n))) over) Some low e in
+        let h = has (mean_number w (λ n. number (row_end High k (node n))) over) Some high f in
         subst (λ o. InOrder o high × ((is_some o ≡ true) × (is_some high ≡ true))) l.is
         (subst (λ o. InOrder (Some l.x) o × ((true ≡ true) × (is_some o ≡ true))) h.is (ends_ordered l.x h.x x y l.walk h.walk, (refl, refl)))
 
     row_fits : (r : NodeRow) → mean_row p.nodes w over j k (row_at p.rows j) ≡ Ok r → FitsRow p s r × (r.row ≡ j)
     row_fits r e =
         let row : Row = row_at p.rows j in
-        let a = ended (mean_end (has_low row.kind row.range) (mean_number w (λ n. number (end_of Low k (node n))) over)) _ r e in
-        let b = ended (mean_end (has_high row.kind row.range) (mean_number w (λ n. number (end_of High k (node n))) over)) _ r a.next_is in
-        let c = has (mean_form w (λ n. form_of (Entries k) (node n)) over) (λ entries. let x : NodeRow = record { row = j; entries = entries; low = a.result; high = b.result } in x) r b.next_is in
+        let a = ended (mean_end (has_low row.kind row.range) (mean_number w (λ n. number (row_end Low k (node n))) over)) _ r e in
+        let b = ended (mean_end (has_high row.kind row.range) (mean_number w (λ n. number (row_end High k (node n))) over)) _ r a.next_is in
+        let c = has (mean_form w (λ n. node_form (Entries k) (node n)) over) (λ entries. let x : NodeRow = record { row = j; entries = entries; low = a.result; high = b.result } in x) r b.next_is in
         let o = in_order (has_low row.kind row.range) (has_high row.kind row.range) a.result b.result refl refl a.first_is b.first_is in
         subst (λ (x : NodeRow). FitsRow p s x × (x.row ≡ j)) c.is
         (record { entries = entries_fit k c.x c.walk; in_order = o.0; ends = record { low = o.1.0; high = o.1.1 } }, refl)
@@ -199,7 +199,7 @@ module _ (p : Program) (i : IsProgram p) (w : ℕ → ℚ) (nonneg : (n : ℕ) �
 
   node_fits : (x : Node) → mean_node p w s ≡ Ok x → IsOfStage p s x
   node_fits x e =
-      let a = ended (mean_form w (λ n. form_of Cost (node n)) over) _ x e in
+      let a = ended (mean_form w (λ n. node_form Cost (node n)) over) _ x e in
       let b = ended (mean_rows p.nodes w over s 0 0 p.rows) _ x a.next_is in
       let is : (let y : Node = record { stage = s; parent = stage_before s; cost = a.result; rows = b.result } in y) ≡ x = cc in
       let rows = rows_fit 0 0 p.rows b.result refl refl b.first_is in

@@ -14,7 +14,7 @@ use Rattle.scen_defs.specs.Program.{Node, Program, node_at}
 use Rattle.scen_defs.proofs.NodeReads.{drop_read}
 use Rattle.value_programs.specs.Line.{stage_before}
 use Rattle.value_programs.specs.declared.parts.NodeForm.TheVariants.{Cost}
-use Rattle.value_programs.specs.Mean.{form_of, mean_form, mean_node, mean_nodes, mean_row, mean_rows, node_by_node, nodes_of_stage}
+use Rattle.value_programs.specs.Mean.{node_form, mean_form, mean_node, mean_nodes, mean_row, mean_rows, node_by_node, nodes_of_stage}
 
 -- what an error says of the first part of a walk it says of the walk
 pub fault_then : {X Y : Type 0} (first : Result X Operation) (next : X → Result Y Operation) (fault : ArithmeticFault) → FaultOf first fault → FaultOf (then_walk first next) fault
@@ -128,23 +128,23 @@ module _ (p : Program) (w : ℕ → ℚ) (count : ℕ) (whole : Result (List (Op
 
 -- ---- the node of a stage
 module _ (p : Program) (w : ℕ → ℚ) (s : ℕ) (nodes : List (Option Node)) (rows : List Row) (over : List ℕ) (same : nodes ≡ p.nodes) (kept : rows ≡ p.rows) (all : over ≡ nodes_of_stage p.nodes s) where
-  pub cost_fails : (fault : ArithmeticFault) → FaultOf (mean_form w (λ n. form_of Cost (node_at nodes n)) over) fault → FaultOf (mean_node p w s) fault
-  cost_fails fault h = fault_then (mean_form w (λ n. form_of Cost (node_at p.nodes n)) (nodes_of_stage p.nodes s)) _ fault
-      (subst (λ q. FaultOf q fault) (ap (λ l. mean_form w (λ n. form_of Cost (node_at l n)) over) same ∙ ap (mean_form w (λ n. form_of Cost (node_at p.nodes n))) all) h)
+  pub cost_fails : (fault : ArithmeticFault) → FaultOf (mean_form w (λ n. node_form Cost (node_at nodes n)) over) fault → FaultOf (mean_node p w s) fault
+  cost_fails fault h = fault_then (mean_form w (λ n. node_form Cost (node_at p.nodes n)) (nodes_of_stage p.nodes s)) _ fault
+      (subst (λ q. FaultOf q fault) (ap (λ l. mean_form w (λ n. node_form Cost (node_at l n)) over) same ∙ ap (mean_form w (λ n. node_form Cost (node_at p.nodes n))) all) h)
 
-  costs : (cost : List Entry) → mean_form w (λ n. form_of Cost (node_at nodes n)) over ≡ Ok cost
+  costs : (cost : List Entry) → mean_form w (λ n. node_form Cost (node_at nodes n)) over ≡ Ok cost
       → mean_node p w s ≡ then_walk (mean_rows p.nodes w (nodes_of_stage p.nodes s) s 0 0 p.rows) (λ rows. Ok (record { stage = s; parent = stage_before s; cost = cost; rows = rows }))
   costs cost h = ap (λ q. then_walk q (λ c. then_walk (mean_rows p.nodes w (nodes_of_stage p.nodes s) s 0 0 p.rows) (λ rows. let n : Node = record { stage = s; parent = stage_before s; cost = c; rows = rows } in Ok n)))
-      (sym (ap (λ l. mean_form w (λ n. form_of Cost (node_at l n)) over) same ∙ ap (mean_form w (λ n. form_of Cost (node_at p.nodes n))) all) ∙ h)
+      (sym (ap (λ l. mean_form w (λ n. node_form Cost (node_at l n)) over) same ∙ ap (mean_form w (λ n. node_form Cost (node_at p.nodes n))) all) ∙ h)
 
   same_rows : mean_rows nodes w over s 0 0 rows ≡ mean_rows p.nodes w (nodes_of_stage p.nodes s) s 0 0 p.rows
   same_rows = ap (λ l. mean_rows l w over s 0 0 rows) same ∙ ap (λ l. mean_rows p.nodes w l s 0 0 rows) all ∙ ap (mean_rows p.nodes w (nodes_of_stage p.nodes s) s 0 0) kept
 
-  pub rows_fails : (cost : List Entry) (fault : ArithmeticFault) → mean_form w (λ n. form_of Cost (node_at nodes n)) over ≡ Ok cost → FaultOf (mean_rows nodes w over s 0 0 rows) fault → FaultOf (mean_node p w s) fault
+  pub rows_fails : (cost : List Entry) (fault : ArithmeticFault) → mean_form w (λ n. node_form Cost (node_at nodes n)) over ≡ Ok cost → FaultOf (mean_rows nodes w over s 0 0 rows) fault → FaultOf (mean_node p w s) fault
   rows_fails cost fault h f = subst (λ q. FaultOf q fault) (sym (costs cost h))
       (fault_then (mean_rows p.nodes w (nodes_of_stage p.nodes s) s 0 0 p.rows) _ fault (subst (λ q. FaultOf q fault) same_rows f))
 
-  pub node_made : (cost : List Entry) (made : List NodeRow) (above : Option ℕ) → mean_form w (λ n. form_of Cost (node_at nodes n)) over ≡ Ok cost → mean_rows nodes w over s 0 0 rows ≡ Ok made → above ≡ stage_before s
+  pub node_made : (cost : List Entry) (made : List NodeRow) (above : Option ℕ) → mean_form w (λ n. node_form Cost (node_at nodes n)) over ≡ Ok cost → mean_rows nodes w over s 0 0 rows ≡ Ok made → above ≡ stage_before s
       → mean_node p w s ≡ Ok (record { stage = s; parent = above; cost = cost; rows = made })
   node_made cost made above h r a = costs cost h
       ∙ ap (λ q. then_walk q (λ rows. let n : Node = record { stage = s; parent = stage_before s; cost = cost; rows = rows } in Ok n)) (sym same_rows ∙ r)

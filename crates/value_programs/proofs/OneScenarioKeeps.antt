@@ -9,31 +9,31 @@ use Rattle.scen_defs.specs.Valid.{IsProgram, Lives, Follows, FitsNode, FitsScena
 use Rattle.edit_defs.specs.After.{no_scenario}
 use Rattle.edit_defs.proofs.Lists.{each-unmapped}
 use Rattle.value_programs.specs.Line.{stage_before}
-use Rattle.value_programs.specs.OneScenario.{scenario_program, along}
+use Rattle.value_programs.specs.OneScenario.{scenario_program, path_nodes}
 use Rattle.value_programs.proofs.LineKeeps.{IsLine, IsOfStage, line_keeps}
 
 -- the node of a path at a stage
 abbrev on_path : List ℕ → ℕ → ℕ
 on_path path k = get_or path k 0
 
-along_live : (nodes : List (Option Node)) (s : ℕ) (path : List ℕ) (k : ℕ) → k < length path → passes_at is_live k (along nodes s path) ≡ true
+along_live : (nodes : List (Option Node)) (s : ℕ) (path : List ℕ) (k : ℕ) → k < length path → passes_at is_live k (path_nodes nodes s path) ≡ true
 along_live nodes s [] k h = absurd (omega (arith, h))
 along_live nodes s (n ∷ path) zero h = refl
 along_live nodes s (n ∷ path) (suc k) h = along_live nodes (suc s) path k (omega (arith, h))
 
-along_within : (nodes : List (Option Node)) (s : ℕ) (path : List ℕ) (k : ℕ) → passes_at is_live k (along nodes s path) ≡ true → k < length path
+along_within : (nodes : List (Option Node)) (s : ℕ) (path : List ℕ) (k : ℕ) → passes_at is_live k (path_nodes nodes s path) ≡ true → k < length path
 along_within nodes s [] k h = absurd (cc)
 along_within nodes s (n ∷ path) zero h = omega arith
 along_within nodes s (n ∷ path) (suc k) h = let l : k < length path = along_within nodes (suc s) path k h in omega (arith, l)
 
 along_node : (nodes : List (Option Node)) (s : ℕ) (path : List ℕ) (k : ℕ) → k < length path
-    → node_at (along nodes s path) k ≡ record (node_at nodes (on_path path k)) { parent = stage_before (s + k) }
+    → node_at (path_nodes nodes s path) k ≡ record (node_at nodes (on_path path k)) { parent = stage_before (s + k) }
 along_node nodes s [] k h = absurd (omega (arith, h))
 along_node nodes s (n ∷ path) zero h = ap (λ m. let w : Node = record (node_at nodes n) { parent = stage_before m } in w) (omega arith)
 along_node nodes s (n ∷ path) (suc k) h =
     along_node nodes (suc s) path k (omega (arith, h)) ∙ ap (λ m. let w : Node = record (node_at nodes (on_path path k)) { parent = stage_before m } in w) (omega arith)
 
-along_length : (nodes : List (Option Node)) (s : ℕ) (path : List ℕ) → length (along nodes s path) ≡ length path
+along_length : (nodes : List (Option Node)) (s : ℕ) (path : List ℕ) → length (path_nodes nodes s path) ≡ length path
 along_length nodes s [] = refl
 along_length nodes s (n ∷ path) = ap suc (along_length nodes (suc s) path)
 
@@ -54,7 +54,7 @@ follows_length p s above (n ∷ path) f = let e : suc s + length path ≡ length
 
 module _ (p : Program) (c : Scenario) (i : IsProgram p) (f : FitsScenario p c) (named : IsField c.name) where
   abbrev nodes : List (Option Node)
-  nodes = along p.nodes 0 c.path
+  nodes = path_nodes p.nodes 0 c.path
 
   within : (k : ℕ) → k < length nodes → k < length c.path
   within k h = let same = along_length p.nodes 0 c.path in omega (arith, h, same)

@@ -30,13 +30,13 @@ abbrev pub nodes_of_stage : List (Option Node) → ℕ → List ℕ
 nodes_of_stage nodes s = places (is_of_stage s) 0 nodes
 
 -- ---- what the nodes of a stage have: the costs, the entries of the k-th row, and its ends
-abbrev pub form_of : NodeForm → Node → List Entry
-form_of Cost n = n.cost
-form_of (Entries k) n = (get_or n.rows k no_row).entries
+abbrev pub node_form : NodeForm → Node → List Entry
+node_form Cost n = n.cost
+node_form (Entries k) n = (get_or n.rows k no_row).entries
 
-abbrev pub end_of : RowEnd → ℕ → Node → Option ℚ
-end_of Low k n = (get_or n.rows k no_row).low
-end_of High k n = (get_or n.rows k no_row).high
+abbrev pub row_end : RowEnd → ℕ → Node → Option ℚ
+row_end Low k n = (get_or n.rows k no_row).low
+row_end High k n = (get_or n.rows k no_row).high
 
 -- ---- sums over nodes, each weighted by its total
 -- the total of each node
@@ -65,10 +65,10 @@ mean_end true sum = then_value Some sum
 -- row i, which is the k-th of each node in ns: its low end, its high end and its entries
 abbrev pub mean_row : List (Option Node) → (ℕ → ℚ) → List ℕ → ℕ → ℕ → Row → Result NodeRow Operation
 mean_row nodes w ns i k row =
-    then_walk (mean_end (has_low row.kind row.range) (mean_number w (λ n. number (end_of Low k (node_at nodes n))) ns)) (λ low.
-    then_walk (mean_end (has_high row.kind row.range) (mean_number w (λ n. number (end_of High k (node_at nodes n))) ns)) (λ high.
+    then_walk (mean_end (has_low row.kind row.range) (mean_number w (λ n. number (row_end Low k (node_at nodes n))) ns)) (λ low.
+    then_walk (mean_end (has_high row.kind row.range) (mean_number w (λ n. number (row_end High k (node_at nodes n))) ns)) (λ high.
     then_value (λ entries. record { row = i; entries = entries; low = low; high = high })
-    (mean_form w (λ n. form_of (Entries k) (node_at nodes n)) ns)))
+    (mean_form w (λ n. node_form (Entries k) (node_at nodes n)) ns)))
 
 -- the rows of stage s among these, the first of which is row i, and the k-th of its stage if it is of it
 abbrev pub mean_rows : List (Option Node) → (ℕ → ℚ) → List ℕ → ℕ → ℕ → ℕ → List Row → Result (List NodeRow) Operation
@@ -80,7 +80,7 @@ mean_rows nodes w ns s i k (row ∷ rows) = pick (eqb row.stage s)
 -- the node of stage s: its costs, then its rows
 abbrev pub mean_node : Program → (ℕ → ℚ) → ℕ → Result Node Operation
 mean_node p w s =
-    then_walk (mean_form w (λ n. form_of Cost (node_at p.nodes n)) (nodes_of_stage p.nodes s)) (λ cost.
+    then_walk (mean_form w (λ n. node_form Cost (node_at p.nodes n)) (nodes_of_stage p.nodes s)) (λ cost.
     then_walk (mean_rows p.nodes w (nodes_of_stage p.nodes s) s 0 0 p.rows) (λ rows.
     Ok (record { stage = s; parent = stage_before s; cost = cost; rows = rows })))
 

@@ -4,10 +4,10 @@ use Rattle.scen_defs.specs.Program.{Node, Scenario, Program, node_at}
 use Rattle.value_programs.specs.Line.{in_line, stage_before}
 
 -- the nodes of a path, numbered by stage from s on
-abbrev pub along : List (Option Node) → ℕ → List ℕ → List (Option Node)
-along nodes s [] = []
-along nodes s (n ∷ path) = Some (record (node_at nodes n) { parent = stage_before s }) ∷ along nodes (suc s) path
+abbrev pub path_nodes : List (Option Node) → ℕ → List ℕ → List (Option Node)
+path_nodes nodes s [] = []
+path_nodes nodes s (n ∷ path) = Some (record (node_at nodes n) { parent = stage_before s }) ∷ path_nodes nodes (suc s) path
 
 -- the program in which this scenario is the only one
 abbrev pub scenario_program : Program → Scenario → Program
-scenario_program p c = in_line p c.name (along p.nodes 0 c.path)
+scenario_program p c = in_line p c.name (path_nodes p.nodes 0 c.path)

@@ -2,7 +2,7 @@
 ghost use Rattle.std.specs.Prelude.{◌≡◌, ◌<◌, ◌^◌, IfOk, length, get_or};
 ghost use Rattle.scen_defs.specs.Program.{content, node_at, node_content, nodes_content, scenarios_content};
 ghost use Rattle.edit_defs.specs.After.{no_scenario};
-ghost use Rattle.value_programs.specs.OneScenario.{scenario_program, along};
+ghost use Rattle.value_programs.specs.OneScenario.{scenario_program, path_nodes};
 
 use crate::line::{in_line, stage_before};
 use frac128::{Form, Memory};
@@ -45,7 +45,7 @@ fn nodes_along(
     path: &[u32],
 ) -> Result<Vec<Option<Node>>, Memory>
     requires { length path.now < 2 ^ 32 }
-    ensures { IfOk result (λ all. nodes_content all.items ≡ along (nodes_content nodes.now) 0 path.now) }
+    ensures { IfOk result (λ all. nodes_content all.items ≡ path_nodes (nodes_content nodes.now) 0 path.now) }
 {
     let mut all = Vec::new(alloc);
     let mut stage: u32 = 0;

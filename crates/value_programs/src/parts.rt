@@ -3,7 +3,7 @@ ghost use Rattle.std.specs.Prelude.{◌≡◌, [], MatchOption, get_or};
 ghost use Rattle.scen_defs.specs.Ends.{number};
 ghost use Rattle.scen_defs.specs.Program.{node_at, nodes_content};
 ghost use Rattle.edit_defs.specs.Shifts.{no_row};
-ghost use Rattle.value_programs.specs.Mean.{end_of, form_of};
+ghost use Rattle.value_programs.specs.Mean.{row_end, node_form};
 
 use frac128::{Form, Frac};
 use scen_defs::{Node, NodeRow};
@@ -38,9 +38,9 @@ fn row_at(nodes: &[Option<Node>], node: u32, place: usize) -> Option<&NodeRow>
 }
 
 /// A form of a node, where it isn't 0 for want of a node or a row.
-pub(crate) fn form_of(nodes: &[Option<Node>], node: u32, form: NodeForm) -> Option<&Form>
-    ensures { MatchOption result (form_of form (node_at (nodes_content nodes.now) node) ≡ [])
-        (λ found. form_of form (node_at (nodes_content nodes.now) node) ≡ found.now) }
+pub(crate) fn node_form(nodes: &[Option<Node>], node: u32, form: NodeForm) -> Option<&Form>
+    ensures { MatchOption result (node_form form (node_at (nodes_content nodes.now) node) ≡ [])
+        (λ found. node_form form (node_at (nodes_content nodes.now) node) ≡ found.now) }
 {
     match form {
         NodeForm::Cost => match find(nodes, node as u64) {
@@ -55,8 +55,8 @@ pub(crate) fn form_of(nodes: &[Option<Node>], node: u32, form: NodeForm) -> Opti
 }
 
 /// An end of the row at a place among those of a node; 0 where it has none.
-pub(crate) fn end_of(nodes: &[Option<Node>], node: u32, end: RowEnd, place: usize) -> Frac
-    ensures { result ≡ number (end_of end place (node_at (nodes_content nodes.now) node)) }
+pub(crate) fn row_end(nodes: &[Option<Node>], node: u32, end: RowEnd, place: usize) -> Frac
+    ensures { result ≡ number (row_end end place (node_at (nodes_content nodes.now) node)) }
 {
     let found = match row_at(nodes, node, place) {
         None => None,

@@ -4,9 +4,9 @@ ghost use Rattle.rationals.specs.Forms.{add_scaled_walk};
 ghost use Rattle.frac128.specs.Faults.{IfNotMemory};
 ghost use Rattle.scen_defs.specs.Ends.{number};
 ghost use Rattle.scen_defs.specs.Program.{node_at, nodes_content};
-ghost use Rattle.value_programs.specs.Mean.{end_of, form_of, mean_end, mean_form, mean_number, weight_in};
+ghost use Rattle.value_programs.specs.Mean.{row_end, node_form, mean_end, mean_form, mean_number, weight_in};
 
-use crate::parts::{NodeForm, RowEnd, end_of, form_of};
+use crate::parts::{NodeForm, RowEnd, node_form, row_end};
 use frac128::{ArithmeticFault, Form, Frac, Passed};
 use scen_defs::Node;
 use scen_tree::Tree;
@@ -21,9 +21,9 @@ fn with_node(
     form: NodeForm,
     node: u32,
 ) -> Result<Form, ArithmeticFault>
-    ensures { IfNotMemory result (add_scaled_walk sum.now weight (form_of form (node_at (nodes_content nodes.now) node))) }
+    ensures { IfNotMemory result (add_scaled_walk sum.now weight (node_form form (node_at (nodes_content nodes.now) node))) }
 {
-    match form_of(nodes, node, form) {
+    match node_form(nodes, node, form) {
         Some(found) => sum.add_scaled(weight, found),
         None => {
             let none = Form::empty(alloc);
@@ -41,7 +41,7 @@ pub(crate) fn mean_form(
     over: &[u32],
 ) -> Result<Form, ArithmeticFault>
     ensures { IfNotMemory result (mean_form (weight_in tree.now)
-        (λ n. form_of form (node_at (nodes_content nodes.now) n)) over.now) }
+        (λ n. node_form form (node_at (nodes_content nodes.now) n)) over.now) }
 {
     let mut sum = Form::empty(alloc);
     for node in over {
@@ -59,11 +59,11 @@ fn mean_number(
     over: &[u32],
 ) -> Result<Frac, Passed>
     ensures { result ≡ mean_number (weight_in tree.now)
-        (λ n. number (end_of end place (node_at (nodes_content nodes.now) n))) over.now }
+        (λ n. number (row_end end place (node_at (nodes_content nodes.now) n))) over.now }
 {
     let mut sum = Frac::zero();
     for node in over {
-        sum = sum.add_product(tree.total(*node), end_of(nodes, *node, end, place))?;
+        sum = sum.add_product(tree.total(*node), row_end(nodes, *node, end, place))?;
     }
     Ok(sum)
 }
@@ -78,7 +78,7 @@ pub(crate) fn mean_end(
     over: &[u32],
 ) -> Result<Option<Frac>, Passed>
     ensures { result ≡ mean_end is_there (mean_number (weight_in tree.now)
-        (λ n. number (end_of end place (node_at (nodes_content nodes.now) n))) over.now) }
+        (λ n. number (row_end end place (node_at (nodes_content nodes.now) n))) over.now) }
 {
     if !is_there {
         return Ok(None);

@@ -3,7 +3,7 @@ use Rattle.rationals.specs.Rational.{ℚ, zero_ℚ}
 use Rattle.scen_defs.specs.declared.program.Node.{Node as NodeOf}
 use Rattle.scen_defs.specs.Program.{Program, content, node_at, nodes_content}
 use Rattle.scen_defs.proofs.Contents.{nodes_length}
-use Rattle.value_programs.specs.Mean.{form_of, mean_form, mean_rows, nodes_of_stage}
+use Rattle.value_programs.specs.Mean.{node_form, mean_form, mean_rows, nodes_of_stage}
 use Rattle.value_programs.specs.declared.parts.NodeForm.TheVariants.{Cost}
 use Rattle.frac128.specs.Faults.{FaultOf}
 use Rattle.value_programs.proofs.MeanSteps.{handed, node_made, rows_fails}
@@ -22,9 +22,9 @@ returns-in_err-rows c =
     let s : ℕ = c.args.stage in
     let over : List ℕ = c.in_ok-over.over.items in
     let all : over ≡ nodes_of_stage p.nodes s = c.in_ok-over.ensures ∙ ap (λ l. nodes_of_stage (nodes_content l) s) c.deref.ensures.value in
-    let cost : mean_form w (λ n. form_of Cost (node_at p.nodes n)) over ≡ Ok c.in_ok-cost.cost =
-    sym (ap (λ l. mean_form w (λ n. form_of Cost (node_at (nodes_content l) n)) c.deref-3.result.now) c.deref-2.ensures.value
-    ∙ ap (mean_form w (λ n. form_of Cost (node_at p.nodes n))) c.deref-3.ensures.value) ∙ c.in_ok-cost.ensures in
+    let cost : mean_form w (λ n. node_form Cost (node_at p.nodes n)) over ≡ Ok c.in_ok-cost.cost =
+    sym (ap (λ l. mean_form w (λ n. node_form Cost (node_at (nodes_content l) n)) c.deref-3.result.now) c.deref-2.ensures.value
+    ∙ ap (mean_form w (λ n. node_form Cost (node_at p.nodes n))) c.deref-3.ensures.value) ∙ c.in_ok-cost.ensures in
     let here : mean_rows (nodes_content c.deref-4.result.now) w c.deref-5.result.now s 0 0 c.deref-6.result.now ≡ mean_rows p.nodes w over s 0 0 p.rows =
     ap (λ l. mean_rows (nodes_content l) w c.deref-5.result.now s 0 0 c.deref-6.result.now) c.deref-4.ensures.value
     ∙ ap (λ l. mean_rows p.nodes w l s 0 0 c.deref-6.result.now) c.deref-5.ensures.value
@@ -39,9 +39,9 @@ returns c =
     let s : ℕ = c.args.stage in
     let over : List ℕ = c.in_ok-over.over.items in
     let all : over ≡ nodes_of_stage p.nodes s = c.in_ok-over.ensures ∙ ap (λ l. nodes_of_stage (nodes_content l) s) c.deref.ensures.value in
-    let cost : mean_form w (λ n. form_of Cost (node_at p.nodes n)) over ≡ Ok c.in_ok-cost.cost =
-    sym (ap (λ l. mean_form w (λ n. form_of Cost (node_at (nodes_content l) n)) c.deref-3.result.now) c.deref-2.ensures.value
-    ∙ ap (mean_form w (λ n. form_of Cost (node_at p.nodes n))) c.deref-3.ensures.value) ∙ c.in_ok-cost.ensures in
+    let cost : mean_form w (λ n. node_form Cost (node_at p.nodes n)) over ≡ Ok c.in_ok-cost.cost =
+    sym (ap (λ l. mean_form w (λ n. node_form Cost (node_at (nodes_content l) n)) c.deref-3.result.now) c.deref-2.ensures.value
+    ∙ ap (mean_form w (λ n. node_form Cost (node_at p.nodes n))) c.deref-3.ensures.value) ∙ c.in_ok-cost.ensures in
     let here : mean_rows (nodes_content c.deref-4.result.now) w c.deref-5.result.now s 0 0 c.deref-6.result.now ≡ mean_rows p.nodes w over s 0 0 p.rows =
     ap (λ l. mean_rows (nodes_content l) w c.deref-5.result.now s 0 0 c.deref-6.result.now) c.deref-4.ensures.value
     ∙ ap (λ l. mean_rows p.nodes w l s 0 0 c.deref-6.result.now) c.deref-5.ensures.value
