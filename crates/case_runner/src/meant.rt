@@ -8,7 +8,7 @@ use frac128::Memory;
 use input_files::{Texts, Unfetched, fetched_texts};
 use program_files::{Unread, read_edits, read_program};
 use scen_defs::Program;
-use script_steps::apply_all;
+use edit_script::apply_all;
 use smps_io::Shelf;
 use std::alloc::Global;
 use std::fs::Files;

@@ -2,8 +2,8 @@
 use crate::meant::program_of;
 use case_texts::{Case, Part};
 use frac128::Memory;
-use program_notes::{nodes_text, stated_text};
-use run_remarks::explanation;
+use test_programs::{nodes_text, stated_text};
+use run_notes::explanation;
 use scen_defs::Program;
 use smps_cli::{Ran, run};
 use smps_io::{MemoryShelf, MemorySink, NeverFails, Shelf};

@@ -4,3 +4,4 @@ pub mod TableLemmas
 pub mod Fields
 pub mod Counts
 pub mod Copies
+pub mod StepLemmas

@@ -5,3 +5,4 @@ pub mod Tables
 pub mod Script
 pub mod Allowed
 pub mod Drafts
+pub mod Solves

@@ -1,7 +1,7 @@
 //! Two rows, A and B at most 4, A and three times B at most 6, at costs -3 and -2: each point and each
 //! dual of a grid, beside plain sums of whole numbers.
 use frac128::Frac;
-use sample_programs::{Source, read_source};
+use test_programs::{Source, read_source};
 use scen_model::{Halt, Program, Values, cost, dual_value, feasible, is_direction, zero_value};
 use std::alloc::Global;
 use std::process::Abort;

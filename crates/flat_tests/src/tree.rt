@@ -2,7 +2,7 @@
 //! 1/2, and Y, which costs 3/2, is decided. X and Y together are at least the demand.
 use crate::rows::expect_row;
 use frac128::{Frac, Memory, parse};
-use sample_programs::{COVER, read_source};
+use test_programs::{COVER, read_source};
 use scen_model::{
     Halt, Kind, Program, Values, cost, derive, dual_value, feasible, fits, is_direction, zero_value,
 };

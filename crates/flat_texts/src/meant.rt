@@ -7,9 +7,9 @@ ghost use Rattle.scen_defs.specs.Program.{content};
 use frac128::Memory;
 use input_files::Texts;
 use program_files::{Unread, read_edits, read_program};
-use sample_programs::Source;
+use test_programs::Source;
 use scen_defs::Program;
-use script_steps::apply_all;
+use edit_script::apply_all;
 use std::alloc::Global;
 
 /// The bytes of a text that is there.

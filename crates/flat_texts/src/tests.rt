@@ -1,7 +1,7 @@
 //! Texts, limits and operations that pass, by hand.
 use crate::meant::meant;
 use flat_write::{FlatFault, FlatLimits, write_flat};
-use sample_programs::{COVER, Source};
+use test_programs::{COVER, Source};
 use scen_defs::Program;
 use std::alloc::Global;
 use std::process::Abort;

@@ -31,7 +31,7 @@ use Rattle.dual_assemble.specs.Laws.{flat_of}
 use Rattle.dual_assemble.specs.Walks.{add_at, flat_from, flats_from}
 use Rattle.dual_assemble.proofs.FlatEnds.{assembly_is_good}
 use Rattle.pass_core.proofs.Parentage.{root_lives}
-use Rattle.run_ends.specs.declared.ends.Bounded.{Bounded}
+use Rattle.found_ends.specs.declared.ends.Bounded.{Bounded}
 use Rattle.pass_core.specs.Made.{run_book, script_books, IsMadeAbout}
 use Rattle.pass_core.specs.Assembled.{AssemblesWell, RootsAssembleWell, made_form, MadeEndsAssembleWell}
 

@@ -3,7 +3,7 @@ use Rattle.std.proofs.Common.{◌≡◌, ℕ, ◌-◌, ◌^◌, min, Bool, true,
 use Rattle.std.proofs.lemmas.List.{length-map}
 use Rattle.scen_defs.specs.Program.{Program}
 use Rattle.scen_defs.specs.Valid.{IsSmall, IsProgram}
-use Rattle.run_data.specs.Frames.{Frame, parent_of, frame_of}
+use Rattle.node_data.specs.Frames.{Frame, parent_of, frame_of}
 use Rattle.pass_table.specs.Machine.{Machine, IsAbove, IsClosed, MayBegin}
 use Rattle.pass_table.specs.Machine.IsAbove.{next, further}
 use Rattle.pass_core.specs.declared.state.State.{State}

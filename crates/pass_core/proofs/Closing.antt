@@ -6,11 +6,11 @@ use Rattle.scen_tree.specs.Trees.{Tree}
 use Rattle.cut_defs.specs.Stored.{Stored}
 use Rattle.proved_report.specs.declared.open.Open.{Open}
 use Rattle.proved_report.specs.declared.open.Open.TheVariants.{Solves}
-use Rattle.run_data.specs.Frames.{Frame}
-use Rattle.run_ends.specs.declared.ends.Bounded.{Bounded}
-use Rattle.run_ends.specs.declared.ends.Ends.{Ends}
-use Rattle.run_ends.specs.Settled.{why_open}
-use Rattle.run_ends.specs.Claims.{IsReason, EndsAssembly, cut_of}
+use Rattle.node_data.specs.Frames.{Frame}
+use Rattle.found_ends.specs.declared.ends.Bounded.{Bounded}
+use Rattle.found_ends.specs.declared.ends.Ends.{Ends}
+use Rattle.found_ends.specs.Settled.{why_open}
+use Rattle.found_ends.specs.Claims.{IsReason, EndsAssembly, cut_of}
 use Rattle.pass_core.specs.declared.state.State.{State}
 use Rattle.pass_core.specs.Explained.{IsCutOfSolve, AreOfSolves, PassesInAssembly, IsExplained, AreExplained}
 

@@ -28,17 +28,17 @@ use Rattle.node_lp.specs.declared.solved.Solved.TheVariants as solved
 use Rattle.node_lp.specs.Tested.{IsToldOf}
 use Rattle.proved_report.specs.declared.open.Open.{Open}
 use Rattle.proved_report.specs.declared.open.Open.TheVariants as reason
-use Rattle.run_data.specs.Frames.{Frame}
+use Rattle.node_data.specs.Frames.{Frame}
 use Rattle.pass_core.specs.declared.budget.Budget.{Budget}
-use Rattle.run_ends.specs.declared.ends.Priced.{Priced}
-use Rattle.run_ends.specs.declared.ends.Bounded.{Bounded}
-use Rattle.run_ends.specs.declared.ends.Ends.{Ends}
-use Rattle.run_ends.specs.declared.last.Last.{Last}
-use Rattle.run_ends.specs.declared.last.Lasts.{Lasts}
+use Rattle.found_ends.specs.declared.ends.Priced.{Priced}
+use Rattle.found_ends.specs.declared.ends.Bounded.{Bounded}
+use Rattle.found_ends.specs.declared.ends.Ends.{Ends}
+use Rattle.found_ends.specs.declared.last.Last.{Last}
+use Rattle.found_ends.specs.declared.last.Lasts.{Lasts}
 use Rattle.pass_core.specs.declared.state.State.{State}
 use Rattle.pass_core.specs.Counting.{first_stop, first_or, after_answer}
-use Rattle.run_ends.specs.Ends.{raises, greater_end, after_root, after_policy}
-use Rattle.run_ends.specs.Lasts.{with_last, kept}
+use Rattle.found_ends.specs.Ends.{raises, greater_end, after_root, after_policy}
+use Rattle.found_ends.specs.Lasts.{with_last, kept}
 use Rattle.pass_core.specs.Explained.{IsTask, ComesOfSolve, GivesCut, FindsPoint, PointsAreFound, IsCutOfSolve, AreOfSolves}
 use Rattle.pass_core.specs.Explained.{PassesInOffer, FailsToOpen, PassesInRun}
 use Rattle.pass_core.specs.Explained.{IsExplained, AreExplained, IsUnstopped, KeepsExplained}

@@ -31,9 +31,9 @@ use Rattle.cut_banks.specs.Pools.{may_put, with_pool}
 use Rattle.dual_assemble.specs.Ground.{ground_walk}
 use Rattle.dual_assemble.specs.Values.{assembled}
 use Rattle.pass_table.proofs.Opens.{at_replicate}
-use Rattle.run_data.specs.Frames.{children_in, frame_of}
-use Rattle.run_data.specs.declared.versions.Version.{Version}
-use Rattle.run_data.specs.Counts.{version_of}
+use Rattle.node_data.specs.Frames.{children_in, frame_of}
+use Rattle.node_data.specs.declared.versions.Version.{Version}
+use Rattle.node_data.specs.Counts.{version_of}
 use Rattle.pass_core.specs.declared.state.State.{State}
 use Rattle.pass_core.specs.Made.{cuts_there}
 use Rattle.pass_core.specs.Grounds.{OpeningDual, FaultsDual, put_in_pool, put_cut, put_cuts, CanPutInPool, CanPutCuts}

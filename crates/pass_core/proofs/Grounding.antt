@@ -3,7 +3,7 @@ use Rattle.std.proofs.Common.{◌≡◌, Bool, Ok, sym, subst, ◌∙◌}
 use Rattle.rationals.specs.Passes.{Operation}
 use Rattle.scen_defs.specs.Program.{Program}
 use Rattle.scen_tree.specs.Trees.{Tree, tree_walk}
-use Rattle.run_ends.specs.declared.last.Lasts.{Lasts}
+use Rattle.found_ends.specs.declared.last.Lasts.{Lasts}
 use Rattle.proved_report.specs.declared.open.Open.{Open}
 use Rattle.pass_core.specs.declared.state.State.{State}
 use Rattle.pass_core.specs.Reasons.{IsOfOpening, GainsReasons}

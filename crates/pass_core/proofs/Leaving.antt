@@ -23,11 +23,11 @@ use Rattle.pass_table.specs.Machine.{Machine, IsComplete}
 use Rattle.pass_table.specs.Fits.{Fits}
 use Rattle.proved_report.specs.declared.open.Open.{Open}
 use Rattle.proved_report.specs.declared.open.Open.TheVariants as reason
-use Rattle.run_ends.specs.declared.ends.Ends.{Ends}
-use Rattle.run_ends.specs.declared.last.Last.{Last}
-use Rattle.run_ends.specs.declared.last.Lasts.{Lasts}
-use Rattle.run_ends.specs.Ends.{after_root}
-use Rattle.run_ends.specs.Lasts.{kept}
+use Rattle.found_ends.specs.declared.ends.Ends.{Ends}
+use Rattle.found_ends.specs.declared.last.Last.{Last}
+use Rattle.found_ends.specs.declared.last.Lasts.{Lasts}
+use Rattle.found_ends.specs.Ends.{after_root}
+use Rattle.found_ends.specs.Lasts.{kept}
 use Rattle.pass_core.specs.declared.budget.Budget.{Budget}
 use Rattle.pass_core.specs.declared.state.Counts.{Counts}
 use Rattle.pass_core.specs.declared.state.State.{State}

@@ -17,9 +17,9 @@ use Rattle.cut_pool.proofs.Fresh.{pools_keep_what_is_made}
 use Rattle.cut_banks.specs.declared.banks.Banks.{Banks}
 use Rattle.cut_banks.specs.Banks.{empty_banks, edited_banks}
 use Rattle.cut_banks.specs.Pools.{no_cuts, all_empty, fit_pools, may_change, fitting, swept_for, same_bank, is_due, pool_after, pools_after}
-use Rattle.run_data.specs.Counts.{untouched, version_of}
-use Rattle.run_ends.specs.declared.ends.Ends.{Ends}
-use Rattle.run_ends.specs.Ends.{no_ends}
+use Rattle.node_data.specs.Counts.{untouched, version_of}
+use Rattle.found_ends.specs.declared.ends.Ends.{Ends}
+use Rattle.found_ends.specs.Ends.{no_ends}
 use Rattle.pass_core.specs.declared.state.State.{State}
 use Rattle.pass_core.specs.Explained.{IsUnstopped}
 use Rattle.pass_core.specs.Made.{BankBooks, bank_book, PoolsAreMade, EndsAreMade, CutsAreMade, HasShiftOf}

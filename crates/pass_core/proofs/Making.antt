@@ -61,15 +61,15 @@ use Rattle.node_lp.specs.declared.found.Found.TheVariants as found
 use Rattle.node_lp.specs.Answers.{IsCutOf, IsAnswer}
 use Rattle.node_lp.specs.Weighed.{Weighed}
 use Rattle.scen_tree.specs.Trees.{Tree, position_of, is_below, children_of}
-use Rattle.run_data.specs.Frames.{Frame, parent_of, frame_of, children_in}
-use Rattle.run_data.specs.NodeData.{share_in}
-use Rattle.run_data.proofs.TreeReads.{children_at}
-use Rattle.run_ends.specs.declared.ends.Priced.{Priced}
-use Rattle.run_ends.specs.declared.ends.Bounded.{Bounded}
-use Rattle.run_ends.specs.declared.ends.Ends.{Ends}
-use Rattle.run_ends.specs.Ends.{raises, greater_end, after_root, after_policy}
-use Rattle.run_data.specs.declared.versions.Version.{Version}
-use Rattle.run_data.specs.Counts.{version_of}
+use Rattle.node_data.specs.Frames.{Frame, parent_of, frame_of, children_in}
+use Rattle.node_data.specs.NodeData.{share_in}
+use Rattle.node_data.proofs.TreeReads.{children_at}
+use Rattle.found_ends.specs.declared.ends.Priced.{Priced}
+use Rattle.found_ends.specs.declared.ends.Bounded.{Bounded}
+use Rattle.found_ends.specs.declared.ends.Ends.{Ends}
+use Rattle.found_ends.specs.Ends.{raises, greater_end, after_root, after_policy}
+use Rattle.node_data.specs.declared.versions.Version.{Version}
+use Rattle.node_data.specs.Counts.{version_of}
 use Rattle.pass_core.specs.declared.state.State.{State}
 use Rattle.pass_core.specs.Counting.{after_answer}
 use Rattle.pass_core.specs.Explained.{cut_given}

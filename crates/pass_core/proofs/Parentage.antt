@@ -10,8 +10,8 @@ use Rattle.scen_defs.specs.Lists.{Each, places, passes_at}
 use Rattle.scen_defs.specs.Program.{Node, Scenario, Program, is_live, node_at, or_root}
 use Rattle.scen_defs.specs.Valid.{Lives, HasParent, Follows, FitsScenario, IsProgram}
 use Rattle.scen_tree.specs.Trees.{position_by, position_of, is_below, children_of}
-use Rattle.run_data.specs.Frames.{Frame, parent_of, frame_of, children_in}
-use Rattle.run_data.proofs.TreeReads.{children_at}
+use Rattle.node_data.specs.Frames.{Frame, parent_of, frame_of, children_in}
+use Rattle.node_data.proofs.TreeReads.{children_at}
 use Rattle.edit_defs.proofs.Lists.{passes-within}
 use Rattle.cut_defs.specs.declared.versions.Due.{Due}
 use Rattle.cut_banks.specs.declared.banks.Banks.{Banks}

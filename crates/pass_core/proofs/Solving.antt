@@ -9,7 +9,7 @@ use Rattle.node_lp.specs.declared.solved.Solved.{Solved}
 use Rattle.node_lp.specs.Problem.{IsProblem, problem_of}
 use Rattle.node_lp.specs.Tested.{IsToldOf}
 use Rattle.node_lp.specs.Answers.{IsAnswer}
-use Rattle.run_data.specs.Frames.{frame_of}
+use Rattle.node_data.specs.Frames.{frame_of}
 use Rattle.pass_table.specs.declared.table.Table.{Table}
 use Rattle.pass_table.specs.Machine.{Machine, IsNext}
 use Rattle.pass_core.specs.declared.state.Counts.{Counts}

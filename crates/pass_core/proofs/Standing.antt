@@ -23,11 +23,11 @@ use Rattle.node_lp.specs.declared.task.Task.{Task}
 use Rattle.node_lp.specs.declared.solved.Solved.{Solved}
 use Rattle.node_lp.specs.declared.solved.Solved.TheVariants as solved
 use Rattle.node_lp.specs.Answers.{IsAnswer}
-use Rattle.run_data.specs.declared.versions.Version.{Version}
-use Rattle.run_data.specs.Frames.{frame_of, parent_of, parent_in}
-use Rattle.run_ends.specs.declared.last.Lasts.{Lasts}
-use Rattle.run_ends.specs.declared.last.Last.{Last}
-use Rattle.run_ends.specs.Lasts.{last_at, along_of, trial_of, with_last, kept}
+use Rattle.node_data.specs.declared.versions.Version.{Version}
+use Rattle.node_data.specs.Frames.{frame_of, parent_of, parent_in}
+use Rattle.found_ends.specs.declared.last.Lasts.{Lasts}
+use Rattle.found_ends.specs.declared.last.Last.{Last}
+use Rattle.found_ends.specs.Lasts.{last_at, along_of, trial_of, with_last, kept}
 use Rattle.pass_core.specs.declared.state.State.{State}
 use Rattle.pass_core.specs.Counting.{after_answer}
 use Rattle.pass_core.specs.Explained.{point_found}

@@ -20,7 +20,7 @@ use Rattle.cut_banks.specs.Banks.{pools_of, with_pools}
 use Rattle.cut_banks.specs.Pools.{numbers_of, numbers_read, may_take, may_put, pool_if, with_pool}
 use Rattle.cut_banks.proofs.Places.{change_length}
 use Rattle.edit_defs.proofs.Lists.{passes-within}
-use Rattle.run_data.specs.Frames.{Frame, parent_of, frame_of, children_in}
+use Rattle.node_data.specs.Frames.{Frame, parent_of, frame_of, children_in}
 use Rattle.node_lp.specs.declared.solved.Solved.{Solved}
 use Rattle.node_lp.specs.declared.solved.Solved.TheVariants as solved
 use Rattle.pass_table.specs.declared.table.Reading.{Reading}
@@ -33,8 +33,8 @@ use Rattle.pass_table.proofs.Valid.{valid_committed, valid_opened}
 use Rattle.crew_turns.specs.Turn.{AreChildren, first_flight, read_by_each, read_each, EndsTurn, drops, commits, adds, TakesTurn}
 use Rattle.crew_turns.proofs.Turning.{AreReads, node_read, readings_of, has_read, turn_reads, turn_flown, turn_keeps}
 use Rattle.proved_report.specs.declared.open.Open.{Open}
-use Rattle.run_ends.specs.declared.ends.Ends.{Ends}
-use Rattle.run_ends.specs.declared.last.Lasts.{Lasts}
+use Rattle.found_ends.specs.declared.ends.Ends.{Ends}
+use Rattle.found_ends.specs.declared.last.Lasts.{Lasts}
 use Rattle.pass_core.specs.declared.state.Counts.{Counts}
 use Rattle.pass_core.specs.declared.state.State.{State}
 use Rattle.pass_core.specs.Counting.{is_added, after_answer, after_report}

@@ -27,12 +27,12 @@ use Rattle.node_lp.specs.declared.task.Task.{Task}
 use Rattle.node_lp.specs.Problem.{IsProblem, is_priced, is_taken, child_at, problem_of}
 use Rattle.node_lp.specs.Fits.{HasForms, are_others, is_child_here, cut_fits, cuts_fit, children_fit}
 use Rattle.node_lp.proofs.FitLemmas.{problem_is, others_by}
-use Rattle.run_data.specs.Frames.{Frame, frame_of, parent_in, children_in}
-use Rattle.run_data.specs.Laws.{IsIn}
-use Rattle.run_data.specs.NodeData.{share_in}
-use Rattle.run_data.specs.declared.versions.Version.{Version}
-use Rattle.run_data.specs.Counts.{version_of}
-use Rattle.run_ends.specs.Lasts.{trial_of}
+use Rattle.node_data.specs.Frames.{Frame, frame_of, parent_in, children_in}
+use Rattle.node_data.specs.Laws.{IsIn}
+use Rattle.node_data.specs.NodeData.{share_in}
+use Rattle.node_data.specs.declared.versions.Version.{Version}
+use Rattle.node_data.specs.Counts.{version_of}
+use Rattle.found_ends.specs.Lasts.{trial_of}
 use Rattle.pass_core.specs.declared.state.State.{State}
 use Rattle.pass_core.specs.Explained.{IsDatumOf}
 use Rattle.pass_core.specs.Turns.{AreUpTo, PointsStand, datum_in, IsTaskOf}

@@ -3,9 +3,9 @@ use Rattle.std.specs.Prelude.{◌≡◌, false, length, [], None, replicate}
 use Rattle.scen_defs.specs.Program.{Program}
 use Rattle.scen_defs.specs.declared.report.Kind.TheVariants.{Feasible}
 use Rattle.cut_banks.specs.Banks.{empty_banks}
-use Rattle.run_data.specs.Counts.{untouched}
-use Rattle.run_data.specs.Frames.{frame_of}
-use Rattle.run_ends.specs.Ends.{no_ends}
+use Rattle.node_data.specs.Counts.{untouched}
+use Rattle.node_data.specs.Frames.{frame_of}
+use Rattle.found_ends.specs.Ends.{no_ends}
 use Rattle.pass_core.specs.declared.budget.Budget.{Budget}
 use Rattle.pass_core.specs.declared.state.State.{State}
 

@@ -27,14 +27,14 @@ use Rattle.node_lp.specs.Problem.{IsProblem, problem_of}
 use Rattle.node_lp.specs.Tested.{IsToldOf}
 use Rattle.proved_report.specs.declared.open.Open.{Open}
 use Rattle.proved_report.specs.declared.open.Open.TheVariants as reason
-use Rattle.run_data.specs.Frames.{Frame}
-use Rattle.run_data.specs.NodeData.{node_datum}
+use Rattle.node_data.specs.Frames.{Frame}
+use Rattle.node_data.specs.NodeData.{node_datum}
 use Rattle.pass_core.specs.declared.budget.Budget.{Budget}
-use Rattle.run_ends.specs.declared.ends.Ends.{Ends}
-use Rattle.run_ends.specs.declared.last.Last.{Last}
+use Rattle.found_ends.specs.declared.ends.Ends.{Ends}
+use Rattle.found_ends.specs.declared.last.Last.{Last}
 use Rattle.pass_core.specs.declared.state.State.{State}
-use Rattle.run_ends.specs.Costs.{joined_cost}
-use Rattle.run_ends.specs.Ends.{no_ends}
+use Rattle.found_ends.specs.Costs.{joined_cost}
+use Rattle.found_ends.specs.Ends.{no_ends}
 
 -- ---- the program of a node
 

@@ -18,12 +18,12 @@ use Rattle.cut_banks.specs.Banks.{pools_of, with_pools}
 use Rattle.cut_banks.specs.Pools.{may_take, pool_if, with_pool}
 use Rattle.node_lp.specs.declared.solved.Solved.{Solved}
 use Rattle.node_lp.specs.declared.solved.Solved.TheVariants as solved
-use Rattle.run_data.specs.Frames.{Frame}
-use Rattle.run_ends.specs.declared.last.Last.{Last}
-use Rattle.run_ends.specs.declared.ends.Ends.{Ends}
-use Rattle.run_ends.specs.Lasts.{with_last, kept, joined_points}
-use Rattle.run_ends.specs.Costs.{joined_cost}
-use Rattle.run_ends.specs.Ends.{after_root, after_policy}
+use Rattle.node_data.specs.Frames.{Frame}
+use Rattle.found_ends.specs.declared.last.Last.{Last}
+use Rattle.found_ends.specs.declared.ends.Ends.{Ends}
+use Rattle.found_ends.specs.Lasts.{with_last, kept, joined_points}
+use Rattle.found_ends.specs.Costs.{joined_cost}
+use Rattle.found_ends.specs.Ends.{after_root, after_policy}
 use Rattle.proved_report.specs.declared.open.Open.{Open}
 use Rattle.proved_report.specs.declared.open.Open.TheVariants.{Solves}
 use Rattle.pass_core.specs.Counting.{first_stop}

@@ -17,9 +17,9 @@ use Rattle.edit_defs.specs.Data.{view_in, book}
 use Rattle.cut_pool.specs.Laws.{AllMadeFor}
 use Rattle.cut_pool.specs.Pool.{IsShiftOf}
 use Rattle.cut_banks.specs.declared.banks.Banks.{Banks}
-use Rattle.run_data.specs.declared.versions.Version.{Version}
-use Rattle.run_data.specs.Counts.{version_of}
-use Rattle.run_ends.specs.declared.ends.Ends.{Ends}
+use Rattle.node_data.specs.declared.versions.Version.{Version}
+use Rattle.node_data.specs.Counts.{version_of}
+use Rattle.found_ends.specs.declared.ends.Ends.{Ends}
 use Rattle.pass_core.specs.declared.state.State.{State}
 
 -- ---- the books

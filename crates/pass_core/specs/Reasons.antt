@@ -19,9 +19,9 @@ use Rattle.cut_banks.specs.Banks.{pools_of}
 use Rattle.cut_banks.specs.Pools.{may_take, pool_if}
 use Rattle.node_lp.specs.declared.solved.Solved.{Solved}
 use Rattle.node_lp.specs.declared.solved.Solved.TheVariants as solved
-use Rattle.run_ends.specs.declared.last.Last.{Last}
-use Rattle.run_ends.specs.Lasts.{kept}
-use Rattle.run_ends.specs.Costs.{joined_cost}
+use Rattle.found_ends.specs.declared.last.Last.{Last}
+use Rattle.found_ends.specs.Lasts.{kept}
+use Rattle.found_ends.specs.Costs.{joined_cost}
 use Rattle.proved_report.specs.declared.open.Open.{Open}
 use Rattle.proved_report.specs.declared.open.Open.TheVariants as reason
 use Rattle.pass_core.specs.Explained.{cut_given}

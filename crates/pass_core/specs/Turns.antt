@@ -29,12 +29,12 @@ use Rattle.node_lp.specs.Tested.{IsToldOf}
 use Rattle.node_lp.specs.Answers.{IsAnswer}
 use Rattle.pass_table.specs.Machine.{Flight, Machine, IsClosed, MayBegin, IsNext, dropped}
 use Rattle.proved_report.specs.declared.open.Open.{Open}
-use Rattle.run_data.specs.declared.versions.Version.{Version}
-use Rattle.run_data.specs.Counts.{version_of}
-use Rattle.run_data.specs.Frames.{parent_in, children_in, frame_of}
-use Rattle.run_ends.specs.declared.last.Last.{Last}
-use Rattle.run_ends.specs.declared.last.Lasts.{Lasts}
-use Rattle.run_ends.specs.Lasts.{last_at, trial_of}
+use Rattle.node_data.specs.declared.versions.Version.{Version}
+use Rattle.node_data.specs.Counts.{version_of}
+use Rattle.node_data.specs.Frames.{parent_in, children_in, frame_of}
+use Rattle.found_ends.specs.declared.last.Last.{Last}
+use Rattle.found_ends.specs.declared.last.Lasts.{Lasts}
+use Rattle.found_ends.specs.Lasts.{last_at, trial_of}
 use Rattle.pass_core.specs.declared.state.Begun.{Begun}
 use Rattle.pass_core.specs.declared.state.Counts.{Counts}
 use Rattle.pass_core.specs.declared.state.State.{State}

@@ -4,8 +4,8 @@ use Rattle.cut_defs.specs.declared.kinds.Part.{Part}
 use Rattle.cut_defs.specs.declared.kinds.Part.TheVariants.{Rows, Costs, Gone}
 use Rattle.cut_defs.specs.declared.versions.Touch.{Touch}
 use Rattle.edit_defs.specs.declared.edit.Touched.{Touched}
-use Rattle.run_data.specs.declared.versions.Version.{Version}
-use Rattle.run_data.specs.Counts.{raised, version_of, with_rows, with_costs}
+use Rattle.node_data.specs.declared.versions.Version.{Version}
+use Rattle.node_data.specs.Counts.{raised, version_of, with_rows, with_costs}
 
 -- the next version of a part of node n; what is gone has version 1
 abbrev pub next_version : Part → ℕ → List Version → ℕ

@@ -5,8 +5,8 @@ ghost use Rattle.scen_tree.specs.Trees.{Tree};
 ghost use Rattle.proved_report.specs.declared.open.Open.{Open as OpenOf};
 ghost use Rattle.pass_table.specs.Machine.{Machine, IsClosed};
 ghost use Rattle.pass_table.specs.Fits.{Fits};
-ghost use Rattle.run_ends.specs.Settled.{shown, ended, settled, why_open};
-ghost use Rattle.run_ends.specs.Claims.{IsReason, closed_by};
+ghost use Rattle.found_ends.specs.Settled.{shown, ended, settled, why_open};
+ghost use Rattle.found_ends.specs.Claims.{IsReason, closed_by};
 ghost use Rattle.pass_core.specs.Counting.{after_report};
 ghost use Rattle.pass_core.specs.Explained.{IsExplained, AreExplained, KeepsExplained};
 ghost use Rattle.pass_core.specs.Tabled.{IsTabledBy};
@@ -15,7 +15,7 @@ use crate::budget::Budget;
 use crate::state::State;
 use frac128::Memory;
 use proved_report::Open;
-use run_ends::{Closed, Settled, claimed, ended, shown, why_open};
+use found_ends::{Closed, Settled, claimed, ended, shown, why_open};
 use std::alloc::Global;
 
 impl State {

@@ -3,9 +3,9 @@ ghost use Rattle.std.specs.Prelude.{◌≡◌, ◌<◌, ◌∷◌, [], false, No
 ghost use Rattle.rationals.specs.Choices.{pick};
 ghost use Rattle.scen_defs.specs.Lists.{Each};
 ghost use Rattle.scen_defs.specs.Program.{content, Program as ProgramOf};
-ghost use Rattle.run_data.specs.Counts.{grown};
+ghost use Rattle.node_data.specs.Counts.{grown};
 ghost use Rattle.cut_banks.specs.Banks.{fit_banks, swept_banks, edited_banks};
-ghost use Rattle.run_data.specs.Frames.{frame_of};
+ghost use Rattle.node_data.specs.Frames.{frame_of};
 ghost use Rattle.pass_core.specs.Versions.{next_version, with_next, next_touch, next_touches, next_versions};
 ghost use Rattle.pass_table.specs.Marks.{nothing};
 ghost use Rattle.crew_table.specs.Parents.{AreParents};
@@ -19,8 +19,8 @@ use crew_table::Crew;
 use cut_defs::{Due, Part, Touch};
 use edit_defs::Touched;
 use frac128::Memory;
-use run_data::Frame;
-use run_ends::{Ends, Lasts};
+use node_data::Frame;
+use found_ends::{Ends, Lasts};
 use scen_defs::{Kind, Program};
 use std::alloc::Global;
 

@@ -11,5 +11,5 @@ mod state;
 
 pub use budget::Budget;
 pub use laws::{made_ends_assemble_well, roots_assemble_well};
-pub use run_ends::{Closed, Settled};
+pub use found_ends::{Closed, Settled};
 pub use state::State;

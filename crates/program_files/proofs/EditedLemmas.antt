@@ -7,7 +7,7 @@ use Rattle.scen_defs.specs.declared.program.Program.{Program as ProgramOf}
 use Rattle.edit_defs.specs.declared.edit.Item.{Item}
 use Rattle.edit_script.specs.Script.{script_of}
 use Rattle.edit_script.specs.Drafts.{Means}
-use Rattle.script_steps.specs.Solves.{solve_count}
+use Rattle.edit_script.specs.Solves.{solve_count}
 use Rattle.report_reader.specs.Reports.{reports_of, FailOf}
 use Rattle.input_files.specs.declared.kind.FileKind.TheVariants as kind
 use Rattle.input_files.specs.declared.fetch.Texts.{Texts as TextsOf}

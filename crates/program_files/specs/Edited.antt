@@ -8,7 +8,7 @@ use Rattle.scen_defs.specs.declared.program.Program.{Program as ProgramOf}
 use Rattle.scen_defs.specs.declared.report.Report.{Report}
 use Rattle.edit_defs.specs.declared.edit.Item.{Item}
 use Rattle.edit_script.specs.Script.{script_of}
-use Rattle.script_steps.specs.Solves.{solve_count}
+use Rattle.edit_script.specs.Solves.{solve_count}
 use Rattle.report_reader.specs.Reports.{read_text, reports_of}
 use Rattle.report_reader.specs.Stated.{IsStated}
 use Rattle.input_files.specs.declared.kind.FileKind.{FileKind}

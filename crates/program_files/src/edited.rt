@@ -3,7 +3,7 @@ ghost use Rattle.std.specs.Prelude.{◌≡◌, ◌≤◌, ◌∷◌, [], IfOk, l
 ghost use Rattle.scen_defs.specs.Program.{content};
 ghost use Rattle.edit_script.specs.Allowed.{AreAllowed};
 ghost use Rattle.edit_script.specs.Script.{report_item};
-ghost use Rattle.script_steps.specs.Solves.{solve_count};
+ghost use Rattle.edit_script.specs.Solves.{solve_count};
 ghost use Rattle.input_files.specs.Unfetched.{texts_view, given_bytes};
 ghost use Rattle.program_files.specs.Meant.{AreWithin, MeansProgram};
 ghost use Rattle.program_files.specs.Edited.{or_empty, MeansScript};
@@ -16,7 +16,7 @@ use frac128::Memory;
 use input_files::{FileKind, Texts};
 use report_reader::read_reports;
 use scen_defs::{Program, Report};
-use script_steps::solves;
+use edit_script::solves;
 use std::alloc::Global;
 
 /// The bytes of a text, none where there is no text.

@@ -1,5 +1,5 @@
 //! Words of commands, and the library for command lines.
-use run_remarks::put_word_fault;
+use run_notes::put_word_fault;
 use std::alloc::Global;
 use std::test::Fail;
 

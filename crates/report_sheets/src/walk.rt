@@ -8,7 +8,7 @@ use edit_apply::count;
 use edit_defs::{Act, Script};
 use frac128::Memory;
 use scen_defs::Program;
-use script_steps::applied;
+use edit_script::applied;
 use std::alloc::Global;
 
 /// Applies the edits of a script that stand before a SOLVE, of which so many others come first; all edits where there is no such SOLVE.

@@ -5,26 +5,9 @@ ghost use Rattle.scen_nodes.specs.Derived.{derived, derived_bound, derived_colum
 ghost use Rattle.scen_nodes.specs.Derived.{derived_end, derived_node, derived_place, derived_row};
 
 use frac128::{Form, Frac, Memory};
-use scen_defs::{Column, Kind, Node, NodeRow, Program, Row, Scenario};
-use smps_words::Name;
+use scen_copies::{copied_name, copied_names, copied_rows};
+use scen_defs::{Column, Kind, Node, NodeRow, Program, Scenario};
 use std::alloc::Global;
-
-fn copied(alloc: Global, name: &Name) -> Result<Name, Memory>
-    ensures { IfOk result (λ copy. copy ≡ name.now) }
-{
-    let copy = Name::new(alloc, name.as_bytes())?;
-    Ok(copy)
-}
-
-fn names(alloc: Global, names: &[Name]) -> Result<Vec<Name>, Memory>
-    ensures { IfOk result (λ all. all.items ≡ names.now) }
-{
-    let mut all = Vec::new(alloc);
-    for name in names {
-        all.push(copied(alloc, name)?)?;
-    }
-    Ok(all)
-}
 
 /// A bound in a run of this kind: in a Recession run 0, and this number where there is none.
 pub fn derived_bound(kind: Kind, absent: Frac, bound: Option<Frac>) -> Option<Frac>
@@ -66,28 +49,12 @@ fn columns(alloc: Global, kind: Kind, columns: &[Column]) -> Result<Vec<Column>,
 {
     let mut all = Vec::new(alloc);
     for column in columns {
-        let name = copied(alloc, &column.name)?;
+        let name = copied_name(alloc, &column.name)?;
         all.push(Column {
             name,
             stage: column.stage,
             lower: derived_bound(kind, Frac::one().neg(), column.lower),
             upper: derived_bound(kind, Frac::one(), column.upper),
-        })?;
-    }
-    Ok(all)
-}
-
-fn rows(alloc: Global, rows: &[Row]) -> Result<Vec<Row>, Memory>
-    ensures { IfOk result (λ all. all.items ≡ rows.now) }
-{
-    let mut all = Vec::new(alloc);
-    for row in rows {
-        let name = copied(alloc, &row.name)?;
-        all.push(Row {
-            name,
-            stage: row.stage,
-            kind: row.kind,
-            range: row.range,
         })?;
     }
     Ok(all)
@@ -149,7 +116,7 @@ fn nodes(alloc: Global, kind: Kind, nodes: &[Option<Node>]) -> Result<Vec<Option
 fn scenario(alloc: Global, scenario: &Scenario) -> Result<Scenario, Memory>
     ensures { IfOk result (λ copy. scenario_content copy ≡ scenario_content scenario.now) }
 {
-    let name = copied(alloc, &scenario.name)?;
+    let name = copied_name(alloc, &scenario.name)?;
     let mut path = Vec::new(alloc);
     path.extend_from_slice(&scenario.path)?;
     Ok(Scenario {
@@ -176,11 +143,11 @@ fn scenarios(alloc: Global, scenarios: &[Scenario]) -> Result<Vec<Scenario>, Mem
 pub fn derive(alloc: Global, program: &Program, kind: Kind) -> Result<Program, Memory>
     ensures { IfOk result (λ form. content form ≡ derived kind (content program.now)) }
 {
-    let objective = copied(alloc, &program.objective)?;
-    let rhs = copied(alloc, &program.rhs)?;
-    let periods = names(alloc, &program.periods)?;
+    let objective = copied_name(alloc, &program.objective)?;
+    let rhs = copied_name(alloc, &program.rhs)?;
+    let periods = copied_names(alloc, &program.periods)?;
     let columns = columns(alloc, kind, &program.columns)?;
-    let rows = rows(alloc, &program.rows)?;
+    let rows = copied_rows(alloc, &program.rows)?;
     let nodes = nodes(alloc, kind, &program.nodes)?;
     let scenarios = scenarios(alloc, &program.scenarios)?;
     Ok(Program::of_parts(objective, rhs, periods, columns, rows, nodes, scenarios))

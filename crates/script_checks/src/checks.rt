@@ -9,7 +9,7 @@ use edit_apply::count;
 use edit_defs::{Act, Script};
 use frac128::Memory;
 use scen_defs::{Program, Report};
-use script_steps::applied;
+use edit_script::applied;
 use std::alloc::Global;
 
 /// What the checks of the reports of a script come to: of the first against the program after the edits before the first SOLVE, and so

@@ -9,13 +9,13 @@ use Rattle.command_words.specs.Commands.{FileNames, Asked, command_of}
 use Rattle.command_words.specs.Commands.Asked.{OnFiles, MakeThis}
 use Rattle.input_files.specs.declared.kind.FileKind.{FileKind}
 use Rattle.input_files.specs.Fetched.{Texts, AreGiven, IsNamed, IsLong, StopsAt, file_limit}
-use Rattle.run_status.specs.declared.status.Status.{Status}
-use Rattle.run_status.specs.declared.status.Status.TheVariants.{Done, SomeOpen, Words, Refused, TooLong, ReadFault, WriteFault, Memory}
+use Rattle.exit_status.specs.declared.status.Status.{Status}
+use Rattle.exit_status.specs.declared.status.Status.TheVariants.{Done, SomeOpen, Words, Refused, TooLong, ReadFault, WriteFault, Memory}
 use Rattle.smps_cli.specs.Answers.{MayAnswer, MayAnswerFor, MayAnswerTask, MayCome, RefusesWords, HasTexts}
 use Rattle.smps_cli.specs.Ends.{MayEnd, RefusesTexts}
 use Rattle.smps_cli.specs.Makes.{MakesPlan, MayMake, PrintsSummary, texts_of, workload}
 use Rattle.smps_cli.specs.Sources.{HasFetched, LastSaysLong, StatusSaysLong, fetch_order}
-use Rattle.run_status.specs.Lines.{status_line}
+use Rattle.exit_status.specs.Lines.{status_line}
 
 module _ (content : Option Files) (names : FileNames) (task : Task) (status : Status) (output : List ℕ) where
   pub comes : (texts : Texts) → AreGiven content names texts → MayCome task texts status output → MayAnswerTask content names task status output

@@ -15,8 +15,8 @@ use Rattle.input_files.specs.declared.kind.FileKind.TheVariants as kind
 use Rattle.input_files.specs.Fetched.{Texts, AreGiven, IsGivenIf, IsLong, file_limit}
 use Rattle.program_files.specs.Edited.{RefusesFiles}
 use Rattle.program_files.proofs.MeaningLemmas.{texts_mean_one_program}
-use Rattle.run_status.specs.declared.status.Status.{Status}
-use Rattle.run_status.specs.declared.status.Status.TheVariants.{Done, SomeOpen, Words, Refused, TooLong, ReadFault, WriteFault, Memory}
+use Rattle.exit_status.specs.declared.status.Status.{Status}
+use Rattle.exit_status.specs.declared.status.Status.TheVariants.{Done, SomeOpen, Words, Refused, TooLong, ReadFault, WriteFault, Memory}
 use Rattle.smps_cli.specs.Answers.{MayAnswer, MayAnswerFor}
 use Rattle.smps_cli.specs.Completes.{AsksForReport, EndsOrWantsMemory, alone}
 use Rattle.smps_cli.specs.Solved.{MayBeSolved}

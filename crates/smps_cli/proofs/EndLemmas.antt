@@ -5,9 +5,9 @@ use Rattle.program_files.specs.declared.reading.Unread.{Unread}
 use Rattle.program_files.specs.declared.reading.Unread.TheVariants as unread
 use Rattle.program_files.specs.Views.{MeansOrRefused, GivesReports}
 use Rattle.scen_defs.specs.declared.program.Program.{Program}
-use Rattle.run_status.specs.declared.status.Status.{Status}
+use Rattle.exit_status.specs.declared.status.Status.{Status}
 use Rattle.smps_cli.specs.Ends.{MayEnd, RefusesTexts, RefusesUnread, AnswersUnread}
-use Rattle.run_status.specs.Findings.{open_status}
+use Rattle.exit_status.specs.Findings.{open_status}
 
 module _ (prints : Status → List ℕ → Type 0) (texts : Texts) (output : List ℕ) where
   by_open : (left : Bool) → prints (open_status left) output → MayEnd prints (RefusesTexts texts) (open_status left) output

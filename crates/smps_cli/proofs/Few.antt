@@ -15,7 +15,7 @@ use Rattle.build_defs.specs.Nodes.{Stand, nodes_of, rows_at}
 use Rattle.build_defs.specs.Built.{position_of, node_rows, node_at, nodes_from, program_of, paths_from, built, most_scenarios, most_nodes, exceeds_at}
 use Rattle.input_files.specs.Fetched.{Texts}
 use Rattle.program_files.specs.Meant.{MeansProgram}
-use Rattle.tree_method.specs.Stands.{HasFewNodes}
+use Rattle.nested_method.specs.Stands.{HasFewNodes}
 
 -- a walk that comes to its end has come to that of its first part
 first_ok : {X Y : Type 0} (w : Result X Operation) (k : X → Result Y Operation) (y : Y) → then_walk w k ≡ Ok y → (x : X) × ((w ≡ Ok x) × (k x ≡ Ok y))

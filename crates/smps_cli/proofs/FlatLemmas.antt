@@ -10,8 +10,8 @@ use Rattle.flat_write.specs.declared.fault.FlatFault.{FlatFault}
 use Rattle.flat_write.specs.declared.fault.FlatFault.TheVariants.{Limit, Passed, Memory}
 use Rattle.program_files.specs.declared.reading.Unread.{Unread}
 use Rattle.program_files.specs.declared.reading.Unread.TheVariants as unread
-use Rattle.run_status.specs.declared.status.Status.{Status}
-use Rattle.run_status.specs.declared.status.Status.TheVariants.{Done, Refused}
+use Rattle.exit_status.specs.declared.status.Status.{Status}
+use Rattle.exit_status.specs.declared.status.Status.TheVariants.{Done, Refused}
 use Rattle.smps_cli.specs.Ends.{AnswersUnread, RefusesUnread}
 use Rattle.smps_cli.specs.Flat.{FlatComes, IsFlat, MayBeFlat, RefusesCore, flat_end, limits_of}
 

@@ -7,8 +7,8 @@ use Rattle.program_files.specs.declared.reading.Unread.{Unread}
 use Rattle.program_files.specs.declared.reading.Unread.TheVariants as unread
 use Rattle.report_sheets.specs.declared.sheet.NoSheet.{NoSheet}
 use Rattle.report_sheets.specs.declared.sheet.NoSheet.TheVariants.{Missing, Unproved, Memory}
-use Rattle.run_status.specs.declared.status.Status.{Status}
-use Rattle.run_status.specs.declared.status.Status.TheVariants.{Done, Refused}
+use Rattle.exit_status.specs.declared.status.Status.{Status}
+use Rattle.exit_status.specs.declared.status.Status.TheVariants.{Done, Refused}
 use Rattle.smps_cli.specs.Ends.{AnswersUnread, RefusesUnread}
 use Rattle.smps_cli.specs.Tables.{IsTable, MayBeTable, TableComes, line_after}
 

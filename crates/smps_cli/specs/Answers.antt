@@ -9,9 +9,9 @@ use Rattle.command_words.specs.Commands.{FileNames, Asked, command_of}
 use Rattle.command_words.specs.Commands.Asked.{OnFiles, MakeThis}
 use Rattle.input_files.specs.declared.kind.FileKind.{FileKind}
 use Rattle.input_files.specs.Fetched.{Texts, AreGiven, IsNamed, IsLong}
-use Rattle.run_status.specs.declared.status.Status.{Status}
-use Rattle.run_status.specs.declared.status.Status.TheVariants.{Done, SomeOpen, Words, Refused, TooLong, ReadFault, WriteFault, Memory}
-use Rattle.run_status.specs.Lines.{status_line}
+use Rattle.exit_status.specs.declared.status.Status.{Status}
+use Rattle.exit_status.specs.declared.status.Status.TheVariants.{Done, SomeOpen, Words, Refused, TooLong, ReadFault, WriteFault, Memory}
+use Rattle.exit_status.specs.Lines.{status_line}
 use Rattle.smps_cli.specs.Shown.{MayBeShown}
 use Rattle.smps_cli.specs.Flat.{MayBeFlat}
 use Rattle.smps_cli.specs.Solved.{MayBeSolved}

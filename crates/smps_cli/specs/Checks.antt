@@ -8,12 +8,12 @@ use Rattle.edit_defs.specs.declared.edit.Item.{Item}
 use Rattle.input_files.specs.Fetched.{Texts}
 use Rattle.program_files.specs.Meant.{MeansProgram}
 use Rattle.program_files.specs.Edited.{MeansScript, MeansReports}
-use Rattle.script_steps.specs.Solves.{solve_count}
+use Rattle.edit_script.specs.Solves.{solve_count}
 use Rattle.script_checks.specs.declared.single.Checked.{Checked}
 use Rattle.script_checks.specs.Checked.{AreChecked, line_of, all_hold}
-use Rattle.run_status.specs.declared.status.Status.{Status}
+use Rattle.exit_status.specs.declared.status.Status.{Status}
 use Rattle.smps_cli.specs.Ends.{MayEnd, RefusesTexts}
-use Rattle.run_status.specs.Findings.{open_status}
+use Rattle.exit_status.specs.Findings.{open_status}
 
 -- The output is a line for each report that the file states: what its check against the program after the edits before its SOLVE comes
 -- to. Where all hold, nothing is left open.

@@ -18,8 +18,8 @@ use Rattle.scen_defs.specs.Program.{Program}
 use Rattle.program_files.specs.Meant.{MeansProgram}
 use Rattle.program_files.specs.Edited.{AreMeant}
 use Rattle.smps_cli.specs.Makes.{workload, texts_of}
-use Rattle.run_status.specs.declared.status.Status.{Status}
-use Rattle.run_status.specs.declared.status.Status.TheVariants.{Done, SomeOpen, Refused, Memory}
+use Rattle.exit_status.specs.declared.status.Status.{Status}
+use Rattle.exit_status.specs.declared.status.Status.TheVariants.{Done, SomeOpen, Refused, Memory}
 
 -- a core file alone
 abbrev pub alone : List ℕ → FileNames

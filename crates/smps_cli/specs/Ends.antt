@@ -7,9 +7,9 @@ use Rattle.input_files.specs.Fetched.{Texts}
 use Rattle.program_files.specs.Edited.{RefusesFiles}
 use Rattle.program_files.specs.declared.reading.Unread.{Unread}
 use Rattle.program_files.specs.declared.reading.Unread.TheVariants as unread
-use Rattle.run_status.specs.declared.status.Status.{Status}
-use Rattle.run_status.specs.declared.status.Status.TheVariants.{Done, SomeOpen, Words, Refused, TooLong, ReadFault, WriteFault, Memory}
-use Rattle.run_status.specs.Lines.{refused_text}
+use Rattle.exit_status.specs.declared.status.Status.{Status}
+use Rattle.exit_status.specs.declared.status.Status.TheVariants.{Done, SomeOpen, Words, Refused, TooLong, ReadFault, WriteFault, Memory}
+use Rattle.exit_status.specs.Lines.{refused_text}
 
 -- It prints this, or refuses a text: nothing else comes.
 abbrev pub MayEnd : (Status → List ℕ → Type 0) → (FileKind → ℕ → Cause → List ℕ → Type 0)

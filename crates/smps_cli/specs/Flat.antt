@@ -16,9 +16,9 @@ use Rattle.flat_write.specs.declared.limits.FlatLimits.{FlatLimits}
 use Rattle.flat_write.specs.declared.fault.FlatFault.{FlatFault}
 use Rattle.flat_write.specs.declared.fault.FlatFault.TheVariants.{Limit, Passed, Memory}
 use Rattle.flat_write.specs.Flat.{written}
-use Rattle.run_status.specs.declared.status.Status.{Status}
-use Rattle.run_status.specs.declared.status.Status.TheVariants.{Done, Refused}
-use Rattle.run_status.specs.Lines.{refused_text}
+use Rattle.exit_status.specs.declared.status.Status.{Status}
+use Rattle.exit_status.specs.declared.status.Status.TheVariants.{Done, Refused}
+use Rattle.exit_status.specs.Lines.{refused_text}
 use Rattle.smps_cli.specs.Ends.{MayEnd, RefusesTexts}
 
 -- how large the text may be: as each core file, or as a program on a tree

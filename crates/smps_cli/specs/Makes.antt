@@ -17,10 +17,10 @@ use Rattle.program_files.specs.Meant.{MeansProgram}
 use Rattle.smps_session.specs.Reasons.{told_reasons}
 use Rattle.smps_session.specs.Comes.{ComesOfAll}
 use Rattle.smps_session.specs.declared.whole.StatedLimits.{StatedLimits}
-use Rattle.run_status.specs.declared.status.Status.{Status}
-use Rattle.run_status.specs.declared.status.Status.TheVariants.{Done}
+use Rattle.exit_status.specs.declared.status.Status.{Status}
+use Rattle.exit_status.specs.declared.status.Status.TheVariants.{Done}
 use Rattle.smps_cli.specs.Ends.{MayEnd, RefusesTexts}
-use Rattle.run_status.specs.Findings.{command_status}
+use Rattle.exit_status.specs.Findings.{command_status}
 
 -- the three texts of a workload
 abbrev pub workload : Plan → Made

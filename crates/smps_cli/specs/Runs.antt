@@ -5,8 +5,8 @@ use Rattle.smps_io.specs.Fetches.{FetchesPrefix}
 use Rattle.smps_io.specs.Files.{Files}
 use Rattle.command_words.specs.Commands.{command_of}
 use Rattle.input_files.specs.declared.kind.FileKind.{FileKind}
-use Rattle.run_status.specs.declared.status.Status.{Status}
-use Rattle.run_status.specs.declared.status.Status.TheVariants.{Words, ReadFault, WriteFault}
+use Rattle.exit_status.specs.declared.status.Status.{Status}
+use Rattle.exit_status.specs.declared.status.Status.TheVariants.{Words, ReadFault, WriteFault}
 use Rattle.smps_cli.specs.Answers.{Answers}
 use Rattle.smps_cli.specs.Completes.{AsksForReport, EndsOrWantsMemory, AsksOfProgram, EndsTask, AsksForWorkload, AnswersOrWantsMemory}
 use Rattle.smps_cli.specs.Sources.{HasFetched, LastSaysLong, fetch_order}

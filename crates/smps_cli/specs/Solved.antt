@@ -8,14 +8,14 @@ use Rattle.command_words.specs.declared.command.Budget.{Budget}
 use Rattle.input_files.specs.Fetched.{Texts}
 use Rattle.program_files.specs.Meant.{MeansProgram}
 use Rattle.program_files.specs.Edited.{MeansScript}
-use Rattle.tree_method.specs.Stands.{HasFewNodes}
+use Rattle.nested_method.specs.Stands.{HasFewNodes}
 use Rattle.smps_session.specs.declared.told.Told.{Told}
 use Rattle.smps_session.specs.declared.whole.StatedLimits.{StatedLimits}
 use Rattle.smps_session.specs.Told.{IsScripted}
 use Rattle.smps_session.specs.Comes.{IsOnTree}
-use Rattle.run_status.specs.declared.status.Status.{Status}
+use Rattle.exit_status.specs.declared.status.Status.{Status}
 use Rattle.smps_cli.specs.Ends.{MayEnd, RefusesTexts}
-use Rattle.run_status.specs.Findings.{is_open_finding, open_status}
+use Rattle.exit_status.specs.Findings.{is_open_finding, open_status}
 
 -- which numbers of a budget the words state
 abbrev pub stated_of : Budget → StatedLimits

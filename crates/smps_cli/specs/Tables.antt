@@ -12,13 +12,13 @@ use Rattle.input_files.specs.declared.kind.FileKind.TheVariants.{Report}
 use Rattle.input_files.specs.Fetched.{Texts}
 use Rattle.program_files.specs.Meant.{MeansProgram}
 use Rattle.program_files.specs.Edited.{MeansScript, MeansReports, or_empty}
-use Rattle.script_steps.specs.Solves.{solve_count}
+use Rattle.edit_script.specs.Solves.{solve_count}
 use Rattle.report_sheets.specs.Sheets.{HoldsAsAsked, TellsWhyNot}
 use Rattle.report_sheets.specs.declared.sheet.NoSheet.{NoSheet}
 use Rattle.report_sheets.specs.declared.sheet.NoSheet.TheVariants.{Missing, Unproved, Memory}
-use Rattle.run_status.specs.declared.status.Status.{Status}
-use Rattle.run_status.specs.declared.status.Status.TheVariants.{Done, SomeOpen, Refused}
-use Rattle.run_status.specs.Lines.{refused_text}
+use Rattle.exit_status.specs.declared.status.Status.{Status}
+use Rattle.exit_status.specs.declared.status.Status.TheVariants.{Done, SomeOpen, Refused}
+use Rattle.exit_status.specs.Lines.{refused_text}
 use Rattle.smps_cli.specs.Ends.{MayEnd, RefusesTexts}
 
 -- the number of the line after the last one of a text

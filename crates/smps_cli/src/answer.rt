@@ -13,7 +13,7 @@ ghost use Rattle.smps_cli.specs.Answers.{MayAnswer, MayAnswerFor, MayAnswerTask,
 ghost use Rattle.smps_cli.specs.Found.{found_text};
 ghost use Rattle.smps_cli.specs.Makes.{MakesPlan};
 ghost use Rattle.smps_cli.specs.Sources.{HasFetched, LastSaysLong, StatusSaysLong, fetch_order};
-ghost use Rattle.run_status.specs.Lines.{line_with, status_line};
+ghost use Rattle.exit_status.specs.Lines.{line_with, status_line};
 
 use crate::check::checked;
 use crate::fetched::{Fetched, FileNames};
@@ -27,7 +27,7 @@ use command_words::{Command, PlainWords, Plan, Sources, Task};
 use core_defs::Core;
 use frac128::Memory;
 use input_files::{Texts, Unfetched, fetched_texts};
-use run_status::Status;
+use exit_status::Status;
 use smps_io::Shelf;
 use std::alloc::Global;
 use std::fs::Files;

@@ -4,7 +4,7 @@ ghost use Rattle.scen_defs.specs.Program.{content};
 ghost use Rattle.input_files.specs.Unfetched.{texts_view};
 ghost use Rattle.program_files.specs.Meant.{AreWithin};
 ghost use Rattle.program_files.specs.Edited.{MeansReports};
-ghost use Rattle.script_steps.specs.Solves.{solve_count};
+ghost use Rattle.edit_script.specs.Solves.{solve_count};
 ghost use Rattle.smps_cli.specs.Inputs.{IsInput};
 ghost use Rattle.smps_cli.specs.Checks.{MayBeChecked, PrintsChecks};
 ghost use Rattle.smps_cli.specs.Found.{found_text};
@@ -16,10 +16,10 @@ use crate::refuse::stopped;
 use frac128::Memory;
 use input_files::Texts;
 use program_files::read_told;
-use run_status::open_status;
+use exit_status::open_status;
 use scen_defs::Report;
 use script_checks::{all_hold, check_script};
-use script_steps::solves;
+use edit_script::solves;
 use std::alloc::Global;
 
 /// The answer for the texts of the files: the checks of the reports, or the first fault.

@@ -16,9 +16,9 @@ use core_defs::Cause;
 use flat_write::{FlatFault, FlatLimits, write_flat};
 use frac128::Memory;
 use input_files::{FileKind, Texts};
-use run_status::Status;
+use exit_status::Status;
 use scen_defs::Program;
-use script_steps::apply_all;
+use edit_script::apply_all;
 use std::alloc::Global;
 
 /// The answer for the texts of the files: the program that they mean after all edits, as one core file, or their first fault.

@@ -18,7 +18,7 @@ mod write;
 pub use answer::Ran;
 pub use fetched::Fetched;
 pub use found::{Checks, Found, Lack, Summary};
-pub use run_status::{FileKind, Status};
+pub use exit_status::{FileKind, Status};
 pub use script_checks::Checked;
 pub use smps_session::Told;
 pub use top_call::run;

@@ -6,7 +6,7 @@ ghost use Rattle.smps_cli.specs.Found.{found_text};
 use crate::answer::{Answer, line_answer};
 use frac128::Memory;
 use program_files::Unread;
-use run_status::Status;
+use exit_status::Status;
 use std::alloc::Global;
 
 /// The answer that tells what stops the reading of the texts.

@@ -3,7 +3,7 @@ ghost use Rattle.std.specs.Prelude.{◌≡◌, IfOk};
 ghost use Rattle.std.specs.List.{flat_map};
 ghost use Rattle.input_files.specs.Unfetched.{texts_view};
 ghost use Rattle.program_files.specs.Meant.{AreWithin};
-ghost use Rattle.run_status.specs.Findings.{open_status};
+ghost use Rattle.exit_status.specs.Findings.{open_status};
 ghost use Rattle.smps_cli.specs.Found.{found_text};
 ghost use Rattle.smps_cli.specs.Inputs.{IsInput};
 ghost use Rattle.smps_cli.specs.Solved.{MayBeSolved, PrintsReports, told_text, any_open};
@@ -15,7 +15,7 @@ use crate::refuse::stopped;
 use command_words::Budget;
 use frac128::Memory;
 use input_files::Texts;
-use run_status::{is_open, open_status};
+use exit_status::{is_open, open_status};
 use smps_session::{StatedLimits, Told, scripted};
 use std::alloc::Global;
 

@@ -5,7 +5,7 @@ ghost use Rattle.input_files.specs.Fetched.{file_limit};
 ghost use Rattle.input_files.specs.Unfetched.{texts_view};
 ghost use Rattle.program_files.specs.Meant.{AreWithin};
 ghost use Rattle.program_files.specs.Edited.{MeansReports, or_empty};
-ghost use Rattle.script_steps.specs.Solves.{solve_count};
+ghost use Rattle.edit_script.specs.Solves.{solve_count};
 ghost use Rattle.smps_cli.specs.Inputs.{IsInput};
 ghost use Rattle.smps_cli.specs.Tables.{IsTable, MayBeTable, RefusesReport, TableComes, line_after};
 ghost use Rattle.smps_cli.specs.Found.{found_text};
@@ -20,7 +20,7 @@ use frac128::Memory;
 use input_files::{FileKind, Texts};
 use program_files::read_told;
 use report_sheets::{NoSheet, print_sheet};
-use run_status::Status;
+use exit_status::Status;
 use scen_defs::Report;
 use std::alloc::Global;
 

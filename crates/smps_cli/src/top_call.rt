@@ -6,7 +6,7 @@ use crate::answer::{Ran, answered};
 use crate::found::Found;
 use crate::write::write_found;
 use frac128::Memory;
-use run_status::Status;
+use exit_status::Status;
 use smps_io::{Shelf, Sink, SinkFault};
 use std::alloc::Global;
 use std::fs::Files;

@@ -25,24 +25,24 @@ use Rattle.pass_core.specs.declared.budget.Budget.{Budget}
 use Rattle.pass_core.specs.declared.state.Counts.{Counts}
 use Rattle.pass_core.specs.declared.state.State.{State}
 use Rattle.pass_core.specs.Explained.{AreExplained}
-use Rattle.run_ends.specs.Claims.{EndsAssembly}
+use Rattle.found_ends.specs.Claims.{EndsAssembly}
 use Rattle.pass_core.specs.Beginning.{IsBeginning}
 use Rattle.pass_core.specs.Counting.{no_commits, one_solve_more}
-use Rattle.tree_method.specs.declared.found.Found.{Found}
-use Rattle.tree_method.specs.declared.method.Method.{Method}
-use Rattle.tree_method.specs.declared.method.Method.TheVariants.{Working as AtWork, Idle}
-use Rattle.tree_method.specs.declared.method.Working.{Working}
-use Rattle.tree_method.specs.Stands.{HasFewNodes, WorksOn, StandsOn, Begins, HasSolve, StandsCleared, EndsAt, closing}
-use Rattle.tree_method.specs.Stands.{CutPasses, CostPasses, OpeningPasses, FindsBySolves, WorksAnew, WorksBySteps, is_spent, after_telling}
-use Rattle.tree_method.proofs.StandLemmas.{more_counted, solves_behind}
-use Rattle.tree_method.proofs.Numbers.{pivots_arise, pass_arises, cut_arises, cost_arises, opening_arises, closing_pivots, closing_passed}
-use Rattle.tree_method.proofs.Numbers.{closing_dual, told_cleared}
-use Rattle.run_laws.specs.Ways.{AreFew, IsOnWay}
-use Rattle.run_laws.proofs.Finished.{ends_are_finished}
-use Rattle.run_laws.specs.Courses.{here, by_solves}
-use Rattle.run_laws.proofs.Course.{beginning_opens}
-use Rattle.run_laws.proofs.Ways.{solves_keep_way, ways_have_numbers, begun_counts}
-use Rattle.run_laws.proofs.WhereMet.{reasons_were_met}
+use Rattle.nested_method.specs.declared.found.Found.{Found}
+use Rattle.nested_method.specs.declared.method.Method.{Method}
+use Rattle.nested_method.specs.declared.method.Method.TheVariants.{Working as AtWork, Idle}
+use Rattle.nested_method.specs.declared.method.Working.{Working}
+use Rattle.nested_method.specs.Stands.{HasFewNodes, WorksOn, StandsOn, Begins, HasSolve, StandsCleared, EndsAt, closing}
+use Rattle.nested_method.specs.Stands.{CutPasses, CostPasses, OpeningPasses, FindsBySolves, WorksAnew, WorksBySteps, is_spent, after_telling}
+use Rattle.nested_method.proofs.StandLemmas.{more_counted, solves_behind}
+use Rattle.nested_method.proofs.Numbers.{pivots_arise, pass_arises, cut_arises, cost_arises, opening_arises, closing_pivots, closing_passed}
+use Rattle.nested_method.proofs.Numbers.{closing_dual, told_cleared}
+use Rattle.progress_laws.specs.Ways.{AreFew, IsOnWay}
+use Rattle.progress_laws.proofs.Finished.{ends_are_finished}
+use Rattle.progress_laws.specs.Courses.{here, by_solves}
+use Rattle.progress_laws.proofs.Course.{beginning_opens}
+use Rattle.progress_laws.proofs.Ways.{solves_keep_way, ways_have_numbers, begun_counts}
+use Rattle.progress_laws.proofs.WhereMet.{reasons_were_met}
 use Rattle.smps_session.specs.Reasons.{told_reasons}
 use Rattle.smps_session.specs.Comes.{tells_solves, is_unfinished, ShowsClosing, ShowsFound, PassesInTestOf, WasReason, ComesOf, ComesOfAll, IsUnderWay}
 use Rattle.smps_session.specs.Whole.{IsOwnOrWhole}

@@ -17,8 +17,8 @@ use Rattle.edit_defs.proofs.Lists.{changed-length, reached-length}
 use Rattle.edit_defs.proofs.Paths.{follows-length, copies-long}
 use Rattle.edit_defs.proofs.Stays.{named-fits, with-parent}
 use Rattle.edit_script.specs.Allowed.{IsAllowed}
-use Rattle.script_steps.proofs.StepLemmas.{no-passing}
-use Rattle.tree_method.specs.Stands.{HasFewNodes}
+use Rattle.edit_script.proofs.StepLemmas.{no-passing}
+use Rattle.nested_method.specs.Stands.{HasFewNodes}
 use Rattle.smps_session.specs.Comes.{IsOnTree}
 
 -- an edit adds at most one node a period

@@ -15,8 +15,8 @@ use Rattle.proved_report.specs.Passing.{PassesInTest}
 use Rattle.proved_report.specs.Reports.{claimed_report, IsClaimed}
 use Rattle.proved_report.proofs.PassingLemmas.{by_claim}
 use Rattle.pass_core.specs.declared.budget.Budget.{Budget}
-use Rattle.tree_method.specs.declared.found.Found.{Found}
-use Rattle.tree_method.specs.Stands.{LeavesOpen, TellsWhy}
+use Rattle.nested_method.specs.declared.found.Found.{Found}
+use Rattle.nested_method.specs.Stands.{LeavesOpen, TellsWhy}
 use Rattle.smps_session.specs.Reasons.{told_reasons}
 
 -- ---- a report that is true for the reason that was found is true for the reasons that are told

@@ -23,9 +23,9 @@ use Rattle.smps_session.specs.declared.whole.Answered.{Answered}
 use Rattle.smps_session.specs.Whole.{IsOwnOrWhole}
 use Rattle.proved_report.specs.Reports.{EqualIsOptimal}
 use Rattle.smps_session.specs.Told.{IsTold, AreTold}
-use Rattle.tree_method.specs.declared.method.Method.{Method}
-use Rattle.tree_method.specs.Stands.{HasFewNodes, Begins, WorksBySolves, WorksAsAsked, GoesOn, StandsCleared}
-use Rattle.tree_method.proofs.Numbers.{edits_cleared}
+use Rattle.nested_method.specs.declared.method.Method.{Method}
+use Rattle.nested_method.specs.Stands.{HasFewNodes, Begins, WorksBySolves, WorksAsAsked, GoesOn, StandsCleared}
+use Rattle.nested_method.proofs.Numbers.{edits_cleared}
 use Rattle.smps_session.specs.Comes.{ComesOf, IsOnTree, TakesEdit, IsUnderWay}
 use Rattle.smps_session.specs.Courses.{Course, course_at, TellsOne, IsBehind}
 

@@ -12,12 +12,12 @@ use Rattle.edit_defs.proofs.Causes.{edits_without_cause_apply}
 use Rattle.edit_defs.proofs.Shifts.{widths_stay}
 use Rattle.edit_script.specs.Allowed.{IsAllowed}
 use Rattle.pass_core.specs.declared.budget.Budget.{Budget}
-use Rattle.tree_method.specs.declared.method.Method.{Method}
-use Rattle.tree_method.specs.declared.method.Method.TheVariants.{Working as AtWork, Idle}
-use Rattle.tree_method.specs.declared.method.Working.{Working}
-use Rattle.tree_method.specs.Stands.{HasFewNodes, WorksOn, StandsOn, Begins, WorksBySolves, GoesOn, after_telling}
-use Rattle.run_laws.specs.Ways.{AreFew}
-use Rattle.run_laws.proofs.Ways.{ways_begin, solves_keep_way, reports_keep_way, edits_keep_way}
+use Rattle.nested_method.specs.declared.method.Method.{Method}
+use Rattle.nested_method.specs.declared.method.Method.TheVariants.{Working as AtWork, Idle}
+use Rattle.nested_method.specs.declared.method.Working.{Working}
+use Rattle.nested_method.specs.Stands.{HasFewNodes, WorksOn, StandsOn, Begins, WorksBySolves, GoesOn, after_telling}
+use Rattle.progress_laws.specs.Ways.{AreFew}
+use Rattle.progress_laws.proofs.Ways.{ways_begin, solves_keep_way, reports_keep_way, edits_keep_way}
 use Rattle.smps_session.specs.Comes.{ShowsFound, IsUnderWay}
 
 -- of fewer items there are few

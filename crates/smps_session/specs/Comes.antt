@@ -15,7 +15,7 @@ use Rattle.proved_report.specs.declared.open.Open.TheVariants.{Passed as PassedA
 use Rattle.proved_report.specs.Open.{given}
 use Rattle.claim_laws.specs.Held.{PassesInClaim}
 use Rattle.claim_laws.specs.Tells.{TellsClaim}
-use Rattle.run_ends.specs.Claims.{EndsAssembly}
+use Rattle.found_ends.specs.Claims.{EndsAssembly}
 use Rattle.scen_tree.specs.Trees.{Tree, tree_walk}
 use Rattle.edit_defs.specs.declared.edit.Edit.{Edit}
 use Rattle.edit_defs.specs.After.{after}
@@ -25,14 +25,14 @@ use Rattle.pass_core.specs.declared.state.State.{State}
 use Rattle.pass_core.specs.Beginning.{IsBeginning}
 use Rattle.pass_core.specs.Counting.{no_commits}
 use Rattle.pass_core.specs.Reasons.{HasReason}
-use Rattle.tree_method.specs.declared.method.Method.{Method}
-use Rattle.tree_method.specs.declared.method.Method.TheVariants.{Working as AtWork, Idle}
-use Rattle.tree_method.specs.declared.method.Working.{Working}
-use Rattle.tree_method.specs.Stands.{HasFewNodes, IsAtEnd, SolvesNodes, NeverAnew, HasSolve, WorksBySolves, WorksAsAsked, GoesOn}
-use Rattle.tree_method.specs.Stands.{CutPasses, CostPasses, OpeningPasses, Begins, closing}
-use Rattle.tree_method.specs.Stands.{is_spent, after_telling}
-use Rattle.run_laws.specs.Ways.{AreFew, KeepsWay}
-use Rattle.run_laws.specs.WhereMet.{WasMet}
+use Rattle.nested_method.specs.declared.method.Method.{Method}
+use Rattle.nested_method.specs.declared.method.Method.TheVariants.{Working as AtWork, Idle}
+use Rattle.nested_method.specs.declared.method.Working.{Working}
+use Rattle.nested_method.specs.Stands.{HasFewNodes, IsAtEnd, SolvesNodes, NeverAnew, HasSolve, WorksBySolves, WorksAsAsked, GoesOn}
+use Rattle.nested_method.specs.Stands.{CutPasses, CostPasses, OpeningPasses, Begins, closing}
+use Rattle.nested_method.specs.Stands.{is_spent, after_telling}
+use Rattle.progress_laws.specs.Ways.{AreFew, KeepsWay}
+use Rattle.progress_laws.specs.WhereMet.{WasMet}
 use Rattle.smps_session.specs.Whole.{IsOwnOrWhole}
 use Rattle.smps_session.specs.declared.whole.StatedLimits.{StatedLimits}
 

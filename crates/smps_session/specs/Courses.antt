@@ -8,7 +8,7 @@ use Rattle.edit_defs.specs.After.{after}
 use Rattle.pass_core.specs.declared.budget.Budget.{Budget}
 use Rattle.smps_session.specs.declared.told.Told.{Told}
 use Rattle.smps_session.specs.declared.whole.StatedLimits.{StatedLimits}
-use Rattle.tree_method.specs.declared.method.Method.{Method}
+use Rattle.nested_method.specs.declared.method.Method.{Method}
 use Rattle.smps_session.specs.Comes.{TakesEdit}
 use Rattle.smps_session.specs.Told.{IsTold}
 

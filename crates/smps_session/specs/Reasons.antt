@@ -6,7 +6,7 @@ use Rattle.report_defs.specs.Truth.{Reasons}
 use Rattle.proved_report.specs.Open.{IsPassing}
 use Rattle.proved_report.specs.Passing.{PassesInTest}
 use Rattle.pass_core.specs.declared.budget.Budget.{Budget}
-use Rattle.tree_method.specs.Stands.{PassesInMethod, EndsPivots}
+use Rattle.nested_method.specs.Stands.{PassesInMethod, EndsPivots}
 
 -- PASSED: the operation passes 128 bits, and it is one of the method on this program at that place, or of a test of what was found.
 -- PIVOTS: a solve of the program of a node came to the end of the pivots that are allowed. SOLVES: so many solves are allowed.

@@ -5,7 +5,7 @@ ghost use Rattle.edit_defs.specs.After.{after};
 ghost use Rattle.edit_defs.specs.Limits.{counts};
 ghost use Rattle.edit_script.specs.Allowed.{AreAllowed, IsAllowed};
 ghost use Rattle.pass_core.specs.declared.budget.Budget.{Budget as BudgetOf};
-ghost use Rattle.tree_method.specs.Stands.{HasFewNodes, StandsOn, StandsCleared};
+ghost use Rattle.nested_method.specs.Stands.{HasFewNodes, StandsOn, StandsCleared};
 ghost use Rattle.smps_session.specs.Comes.{TakesEdit, IsUnderWay};
 ghost use Rattle.smps_session.specs.Courses.{course_at, TellsOne, IsBehind};
 
@@ -16,7 +16,7 @@ use frac128::Memory;
 use pass_core::Budget;
 use scen_defs::Program;
 use std::alloc::Global;
-use tree_method::Method;
+use nested_method::Method;
 use whole_guess::WholeHint;
 
 /// How far a script has come.

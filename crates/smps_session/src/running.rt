@@ -4,7 +4,7 @@ ghost use Rattle.scen_defs.specs.Fits.{ListsHaveNames};
 ghost use Rattle.scen_defs.specs.Program.{content, view_of, Program as ProgramOf};
 ghost use Rattle.report_defs.specs.Truth.{IsTrue, HasCounts};
 ghost use Rattle.proved_report.specs.Reports.{EqualIsOptimal};
-ghost use Rattle.tree_method.specs.Stands.{HasFewNodes, StandsOn, StandsCleared};
+ghost use Rattle.nested_method.specs.Stands.{HasFewNodes, StandsOn, StandsCleared};
 ghost use Rattle.smps_session.specs.Reasons.{told_reasons};
 ghost use Rattle.smps_session.specs.Comes.{is_unfinished, ShowsFound, ComesOf, ComesOfAll, IsUnderWay};
 
@@ -14,7 +14,7 @@ use pass_core::Budget;
 use proved_report::report;
 use scen_defs::{Finding, Program, Report};
 use std::alloc::Global;
-use tree_method::Method;
+use nested_method::Method;
 use whole_guess::WholeHint;
 
 /// Solves a program on a tree by the nested method, with so many solves of nodes at most and so many pivots in each, and

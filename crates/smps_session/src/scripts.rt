@@ -4,7 +4,7 @@ ghost use Rattle.scen_defs.specs.Program.{content};
 ghost use Rattle.edit_defs.specs.Limits.{counts};
 ghost use Rattle.edit_script.specs.Allowed.{AreAllowed};
 ghost use Rattle.pass_core.specs.declared.budget.Budget.{Budget as BudgetOf};
-ghost use Rattle.tree_method.specs.Stands.{HasFewNodes, Begins, StandsOn};
+ghost use Rattle.nested_method.specs.Stands.{HasFewNodes, Begins, StandsOn};
 ghost use Rattle.smps_session.specs.Told.{IsScripted};
 
 use crate::items::Progress;
@@ -16,7 +16,7 @@ use frac128::Memory;
 use pass_core::Budget;
 use scen_defs::Program;
 use std::alloc::Global;
-use tree_method::Method;
+use nested_method::Method;
 use whole_guess::WholeHint;
 
 impl Progress {

@@ -3,7 +3,7 @@ ghost use Rattle.std.specs.Prelude.{◌≡◌, ◌+◌, ℕ, IfOk, OnOk};
 ghost use Rattle.scen_defs.specs.Fits.{ListsHaveNames};
 ghost use Rattle.scen_defs.specs.Program.{content, Program as ProgramOf};
 ghost use Rattle.report_text.specs.Text.{report_text};
-ghost use Rattle.tree_method.specs.Stands.{HasFewNodes, StandsOn, StandsCleared};
+ghost use Rattle.nested_method.specs.Stands.{HasFewNodes, StandsOn, StandsCleared};
 ghost use Rattle.smps_session.specs.Comes.{IsUnderWay};
 ghost use Rattle.smps_session.specs.Told.{IsTold};
 
@@ -14,7 +14,7 @@ use pass_core::Budget;
 use report_text::print_report;
 use scen_defs::{Finding, Program, Report};
 use std::alloc::Global;
-use tree_method::Method;
+use nested_method::Method;
 use whole_guess::WholeHint;
 
 /// What is told of a report.

@@ -10,8 +10,8 @@ use Rattle.command_words.specs.declared.command.Task.{Task}
 use Rattle.command_words.specs.declared.command.Task.TheVariants.{Solve, Check, Table, Show, Flat}
 use Rattle.command_words.specs.Commands.{Asked, command_of}
 use Rattle.command_words.specs.Commands.Asked.{OnFiles, MakeThis}
-use Rattle.run_status.specs.declared.status.Status.TheVariants.{Memory}
-use Rattle.run_status.specs.Lines.{status_number}
+use Rattle.exit_status.specs.declared.status.Status.TheVariants.{Memory}
+use Rattle.exit_status.specs.Lines.{status_number}
 use Rattle.smps_cli.specs.Completes.{EndsTask}
 use Rattle.smps_cli.specs.Runs.{IsRun, ShelfState, SinkState}
 use Rattle.smps_cli.specs.Sources.{LastSaysLong}

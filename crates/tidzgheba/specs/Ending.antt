@@ -7,9 +7,9 @@ use Rattle.std.specs.declared.vec.IntoIter.{IntoIter}
 use Rattle.std.specs.IoError.{error_kind}
 use Rattle.std.specs.Vec.Iter.{into_iter_items}
 use Rattle.smps_io.specs.Files.{Files}
-use Rattle.run_status.specs.declared.status.Status.{Status}
-use Rattle.run_status.specs.declared.status.Status.TheVariants.{Memory}
-use Rattle.run_status.specs.Lines.{status_number}
+use Rattle.exit_status.specs.declared.status.Status.{Status}
+use Rattle.exit_status.specs.declared.status.Status.TheVariants.{Memory}
+use Rattle.exit_status.specs.Lines.{status_number}
 use Rattle.smps_cli.specs.Runs.{IsRun, ShelfState, SinkState}
 
 -- the number is that of a status to which a run of these words came

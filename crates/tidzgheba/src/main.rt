@@ -3,11 +3,11 @@
 
 ghost use Rattle.std.specs.Prelude.{◌≡◌, map, drop, string_bytes, IfOk};
 ghost use Rattle.std.specs.Vec.Iter.{into_iter_items};
-ghost use Rattle.run_status.specs.Lines.{status_number};
+ghost use Rattle.exit_status.specs.Lines.{status_number};
 ghost use Rattle.smps_cli.specs.Runs.{shelf_state, sink_state};
 ghost use Rattle.tidzgheba.specs.Ending.{EndsOn, EndsWith};
 
-use run_remarks::{MEMORY, NOT_TEXT, UNEXPLAINED, explanation};
+use run_notes::{MEMORY, NOT_TEXT, UNEXPLAINED, explanation};
 use smps_cli::{Ran, Status, run};
 use smps_io::{RealShelf, RealSink, Shelf, Sink};
 use std::alloc::{AllocError, Global};

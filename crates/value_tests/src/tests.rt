@@ -1,6 +1,6 @@
 // The least costs of programs of scenarios, of means, and with a fixed first period.
 use frac128::{Form, Frac, Memory, parse};
-use sample_programs::{COVER, Source, read_source};
+use test_programs::{COVER, Source, read_source};
 use scen_defs::{Finding, Program, Report};
 use scen_tree::Tree;
 use smps_session::{StatedLimits, session};

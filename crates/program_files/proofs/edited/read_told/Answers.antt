@@ -1,5 +1,5 @@
 use Rattle.std.proofs.Common.{ℕ, List, Err, sym, subst}
-use Rattle.script_steps.specs.Solves.{solve_count}
+use Rattle.edit_script.specs.Solves.{solve_count}
 use Rattle.report_reader.specs.Reports.{reports_of, FailOf}
 use Rattle.input_files.specs.Unfetched.{texts_view}
 use Rattle.program_files.specs.declared.reading.Unread.{Unread}

@@ -1,7 +1,7 @@
 use Rattle.std.proofs.Common.{not}
 use Rattle.std.proofs.lemmas.Result.{IfOk-weaker}
 use Rattle.input_files.specs.Unfetched.{texts_view}
-use Rattle.script_steps.specs.Solves.{solve_count}
+use Rattle.edit_script.specs.Solves.{solve_count}
 use Rattle.script_checks.specs.Checked.{all_hold}
 use Rattle.smps_cli.specs.Found.{found_text}
 use Rattle.smps_cli.specs.Checks.{MayBeChecked, PrintsChecks}

@@ -1,7 +1,7 @@
 use Rattle.std.proofs.Common.{◌≡◌, Bool, List, not, ap, refl, ◌∙◌}
 use Rattle.script_checks.specs.declared.single.Checked.{Checked}
 use Rattle.script_checks.specs.Checked.{all_hold}
-use Rattle.run_status.specs.Findings.{open_status}
+use Rattle.exit_status.specs.Findings.{open_status}
 use Rattle.smps_cli.proofs.check.checked_reports.Goals as goal
 
 pub returns : goal.returns

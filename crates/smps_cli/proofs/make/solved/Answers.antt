@@ -3,7 +3,7 @@ use Rattle.scen_defs.specs.Program.{content}
 use Rattle.input_files.specs.Fetched.{Texts}
 use Rattle.program_files.specs.Meant.{MeansProgram}
 use Rattle.input_files.specs.Unfetched.{texts_view}
-use Rattle.width_laws.proofs.Widths.{meant_have_widths}
+use Rattle.range_laws.proofs.Widths.{meant_have_widths}
 use Rattle.smps_cli.proofs.Few.{few_nodes}
 use Rattle.smps_cli.proofs.make.solved.Goals as goal
 

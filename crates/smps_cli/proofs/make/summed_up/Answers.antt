@@ -4,7 +4,7 @@ use Rattle.input_files.specs.Fetched.{Texts}
 use Rattle.input_files.specs.Unfetched.{texts_view}
 use Rattle.smps_cli.specs.Found.{found_text}
 use Rattle.smps_cli.specs.Ends.{RefusesUnread}
-use Rattle.run_status.specs.Findings.{is_open_finding}
+use Rattle.exit_status.specs.Findings.{is_open_finding}
 use Rattle.smps_cli.specs.Makes.{MaySumUp, PrintsSummary, texts_of, workload}
 use Rattle.smps_cli.proofs.EndLemmas.{may_print, may_refuse, program_refuses}
 use Rattle.smps_cli.proofs.make.summed_up.Goals as goal

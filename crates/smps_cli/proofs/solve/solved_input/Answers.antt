@@ -1,6 +1,6 @@
 use Rattle.scen_defs.specs.Program.{content}
 use Rattle.input_files.specs.Unfetched.{texts_view}
-use Rattle.width_laws.proofs.Widths.{meant_have_widths}
+use Rattle.range_laws.proofs.Widths.{meant_have_widths}
 use Rattle.smps_cli.proofs.Few.{few_nodes}
 use Rattle.smps_cli.proofs.OnTrees.{on_tree}
 use Rattle.smps_cli.proofs.solve.solved_input.Goals as goal

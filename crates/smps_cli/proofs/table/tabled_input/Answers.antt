@@ -1,6 +1,6 @@
 use Rattle.std.proofs.lemmas.Result.{IfOk-weaker}
 use Rattle.input_files.specs.Unfetched.{texts_view}
-use Rattle.script_steps.specs.Solves.{solve_count}
+use Rattle.edit_script.specs.Solves.{solve_count}
 use Rattle.smps_cli.specs.Found.{found_text}
 use Rattle.smps_cli.specs.Tables.{MayBeTable}
 use Rattle.smps_cli.proofs.EndLemmas.{reports_refuse}

@@ -1,5 +1,5 @@
 use Rattle.scen_defs.specs.Program.{content}
-use Rattle.tree_method.specs.Stands.{StandsOn}
+use Rattle.nested_method.specs.Stands.{StandsOn}
 use Rattle.smps_session.proofs.ComeLemmas.{shows_found}
 use Rattle.smps_session.proofs.ReasonLemmas.{true_told}
 use Rattle.smps_session.proofs.ToldLemmas.{on_ok}

@@ -1,6 +1,6 @@
 use Rattle.std.proofs.Common.{◌≡◌, ◌<◌, ◌^◌, true, false, inl, inr, arith}
 use Rattle.scen_defs.specs.Program.{content}
-use Rattle.tree_method.specs.Stands.{is_spent}
+use Rattle.nested_method.specs.Stands.{is_spent}
 use Rattle.smps_session.specs.Comes.{tells_solves}
 use Rattle.smps_session.proofs.ComeLemmas.{first_counts, counts_fewer, left_over, round_counts, ended_by, comes_of, tells_cleared}
 use Rattle.smps_session.proofs.WayLemmas.{many_items, way_told}

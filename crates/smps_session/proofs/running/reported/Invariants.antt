@@ -3,7 +3,7 @@ use Rattle.scen_defs.specs.Fits.{ListsHaveNames}
 use Rattle.scen_defs.specs.Program.{Program as Started, content, view_of}
 use Rattle.report_defs.specs.Truth.{IsTrue, HasCounts}
 use Rattle.proved_report.specs.Reports.{EqualIsOptimal}
-use Rattle.tree_method.specs.Stands.{HasFewNodes, StandsOn}
+use Rattle.nested_method.specs.Stands.{HasFewNodes, StandsOn}
 use Rattle.smps_session.specs.Reasons.{told_reasons}
 use Rattle.smps_session.proofs.ComeLemmas.{HasCounted}
 use Rattle.smps_session.specs.Comes.{ShowsFound, IsUnderWay}

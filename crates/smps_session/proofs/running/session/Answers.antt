@@ -1,6 +1,6 @@
 use Rattle.std.proofs.Common.{◌≡◌, ℕ, IfOk, subst}
 use Rattle.scen_defs.specs.Program.{content}
-use Rattle.tree_method.proofs.Numbers.{first_cleared}
+use Rattle.nested_method.proofs.Numbers.{first_cleared}
 use Rattle.smps_session.proofs.ComeLemmas.{comes_of_all}
 use Rattle.smps_session.proofs.WayLemmas.{begins_way}
 use Rattle.smps_session.proofs.running.session.Goals as goal

@@ -18,7 +18,7 @@ use Rattle.pass_core.proofs.Leaving.{ready_stays, ready_same, ready_opens}
 use Rattle.pass_core.proofs.FirstCuts.{ready_puts}
 use Rattle.pass_core.specs.Tabled.{IsTabledBy, HasRoom, IsBegunBy}
 use Rattle.pass_core.proofs.Tabling.{ready_tabled, refit, room_of, room_in, begun_by, rested, opening, turned}
-use Rattle.run_data.specs.declared.versions.Version.{Version}
+use Rattle.node_data.specs.declared.versions.Version.{Version}
 use Rattle.pass_core.specs.Made.{AreBooksOf}
 use Rattle.pass_core.proofs.Making.{same_made}
 use Rattle.pass_core.proofs.Resting.{only_cost}

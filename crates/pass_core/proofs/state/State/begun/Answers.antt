@@ -2,8 +2,8 @@ use Rattle.std.proofs.Common.{◌≡◌, Some, refl, sym, ap, ◌∙◌, rules, 
 use Rattle.scen_defs.specs.Program.{content}
 use Rattle.cut_banks.specs.Banks.{pools_of}
 use Rattle.cut_banks.specs.Pools.{cuts_read}
-use Rattle.run_ends.specs.Lasts.{trial_of}
-use Rattle.run_data.specs.Counts.{version_of}
+use Rattle.found_ends.specs.Lasts.{trial_of}
+use Rattle.node_data.specs.Counts.{version_of}
 use Rattle.pass_core.specs.Turns.{datum_in}
 use Rattle.pass_core.proofs.TaskFits.{program_book, is_in}
 use Rattle.pass_core.proofs.state.State.begun.Goals as goal

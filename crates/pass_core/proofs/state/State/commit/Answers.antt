@@ -17,7 +17,7 @@ use Rattle.pass_core.specs.Made.{run_book, IsMadeAbout, KeepsMade}
 use Rattle.pass_core.proofs.Making.{then_made}
 use Rattle.rationals.specs.Passes.{Operation}
 use Rattle.rationals.specs.Choices.{pick}
-use Rattle.run_ends.specs.Costs.{joined_cost}
+use Rattle.found_ends.specs.Costs.{joined_cost}
 use Rattle.pass_core.specs.Reasons.{PassesAtCost, Halts, cost_halts, solve_halts, IsAtSolve, IsOfSolve, GainsReasons}
 use Rattle.pass_core.proofs.Reasoning.{stopped_reasons, told_at, solve_reasons, stuck_wider}
 use Rattle.pass_core.specs.Left.{StaysInRun, LeavesNone, LeavesBy}

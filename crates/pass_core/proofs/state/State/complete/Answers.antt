@@ -2,13 +2,13 @@ use Rattle.std.proofs.Common.{◌≡◌, Bool, false, true, None, inr, refl, sym
 use Rattle.scen_defs.specs.declared.report.Place.TheVariants.{Cost}
 use Rattle.proved_report.specs.declared.open.Open.{Open}
 use Rattle.proved_report.specs.declared.open.Open.TheVariants.{Passed}
-use Rattle.run_ends.specs.Costs.{joined_cost}
+use Rattle.found_ends.specs.Costs.{joined_cost}
 use Rattle.pass_core.specs.Reasons.{cost_halts, IsOfSolve}
 use Rattle.pass_core.proofs.Reasoning.{same_reasons, then_reasons, run_reasons}
 use Rattle.scen_defs.specs.Program.{content}
-use Rattle.run_ends.specs.Ends.{after_policy}
-use Rattle.run_ends.specs.Lasts.{joined_points}
-use Rattle.run_ends.specs.declared.ends.Ends.{Ends}
+use Rattle.found_ends.specs.Ends.{after_policy}
+use Rattle.found_ends.specs.Lasts.{joined_points}
+use Rattle.found_ends.specs.declared.ends.Ends.{Ends}
 use Rattle.pass_core.specs.declared.state.State.{State}
 use Rattle.pass_core.specs.Left.{TakesComplete}
 use Rattle.pass_core.proofs.Explaining.{on_ok}

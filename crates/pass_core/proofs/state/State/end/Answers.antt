@@ -6,8 +6,8 @@ use Rattle.cut_banks.specs.Banks.{pools_of}
 use Rattle.node_lp.specs.declared.task.Task.{Task}
 use Rattle.node_lp.specs.declared.solved.Solved.{Solved}
 use Rattle.pass_table.specs.Machine.{Flight, Machine}
-use Rattle.run_data.specs.Counts.{version_of}
-use Rattle.run_data.specs.Frames.{children_in}
+use Rattle.node_data.specs.Counts.{version_of}
+use Rattle.node_data.specs.Frames.{children_in}
 use Rattle.pass_core.specs.declared.state.State.{State}
 use Rattle.pass_core.specs.Made.{run_book, KeepsMade, CutsAreMade}
 use Rattle.pass_core.specs.Reasons.{PassesAtCost, solve_halts, IsOfSolve}

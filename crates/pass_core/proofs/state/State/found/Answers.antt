@@ -1,6 +1,6 @@
 use Rattle.std.proofs.Common.{subst}
 use Rattle.proved_report.specs.declared.open.Open.{Open}
-use Rattle.run_ends.specs.Claims.{IsReason}
+use Rattle.found_ends.specs.Claims.{IsReason}
 use Rattle.pass_core.proofs.Closing.{told_allowed, told_stopped, told_explained}
 use Rattle.pass_core.proofs.state.State.found.Goals as goal
 

@@ -4,7 +4,7 @@ use Rattle.scen_defs.specs.Program.{content}
 use Rattle.scen_tree.specs.Trees.{tree_walk}
 use Rattle.cut_defs.specs.Stored.{IsMadeFor}
 use Rattle.node_lp.specs.Problem.{is_priced}
-use Rattle.run_data.specs.Frames.{frame_of}
+use Rattle.node_data.specs.Frames.{frame_of}
 use Rattle.pass_core.specs.Made.{BankBooks, run_book, AreBooksOf, HasGrounds}
 use Rattle.pass_core.specs.Turns.{AreFirstFrom}
 use Rattle.pass_core.proofs.state.State.ground_cuts.Given as goal

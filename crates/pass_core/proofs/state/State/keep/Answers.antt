@@ -1,7 +1,7 @@
 use Rattle.std.proofs.Common.{◌≡◌, Result, Err, refl, ap, subst, ◌∙◌}
 use Rattle.rationals.specs.Passes.{Operation}
 use Rattle.frac128.specs.declared.fault.ArithmeticFault.{ArithmeticFault}
-use Rattle.run_ends.specs.Lasts.{kept, KeepsPoint}
+use Rattle.found_ends.specs.Lasts.{kept, KeepsPoint}
 use Rattle.proved_report.specs.declared.open.Open.TheVariants.{Solves}
 use Rattle.pass_core.specs.declared.state.State.{State}
 use Rattle.pass_core.specs.Reasons.{point_halts, IsOfSolve}

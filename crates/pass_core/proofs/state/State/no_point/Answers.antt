@@ -9,7 +9,7 @@ use Rattle.pass_core.proofs.Making.{same_made, then_made}
 use Rattle.pass_core.specs.Reasons.{solve_halts, IsOfSolve}
 use Rattle.proved_report.specs.declared.open.Open.{Open}
 use Rattle.pass_core.proofs.Reasoning.{same_reasons, then_reasons}
-use Rattle.run_ends.specs.declared.last.Lasts.{Lasts}
+use Rattle.found_ends.specs.declared.last.Lasts.{Lasts}
 use Rattle.pass_core.proofs.Leaving.{stays_then, lasts_stays, table_stays, offers_as}
 use Rattle.pass_core.proofs.state.State.no_point.Goals as goal
 

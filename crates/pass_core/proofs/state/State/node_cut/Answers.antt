@@ -1,9 +1,9 @@
 use Rattle.std.proofs.Common.{◌≡◌, ◌∙◌, Some, None, Option, IsSome, IfSome, map, refl, sym, ap, subst}
 use Rattle.scen_defs.specs.Program.{content}
 use Rattle.cut_defs.specs.Data.{Datum, IsDatum}
-use Rattle.run_data.specs.Frames.{Frame, children_in, frame_of}
-use Rattle.run_data.specs.NodeData.{share_in, node_datum}
-use Rattle.run_data.specs.Counts.{version_of}
+use Rattle.node_data.specs.Frames.{Frame, children_in, frame_of}
+use Rattle.node_data.specs.NodeData.{share_in, node_datum}
+use Rattle.node_data.specs.Counts.{version_of}
 use Rattle.pass_core.specs.Turns.{datum_in}
 use Rattle.pass_core.specs.Made.{cuts_there}
 use Rattle.pass_core.proofs.TaskFits.{program_book, is_in}

@@ -5,7 +5,7 @@ use Rattle.pass_core.specs.Made.{run_book}
 use Rattle.pass_core.specs.Reasons.{IsOfOpening, GainsReasons}
 use Rattle.pass_core.specs.Grounds.{OneIsNotPut}
 use Rattle.pass_core.specs.Explained.{PointsAreFound}
-use Rattle.run_ends.specs.declared.ends.Ends.{Ends}
+use Rattle.found_ends.specs.declared.ends.Ends.{Ends}
 use Rattle.pass_core.specs.declared.state.State.{State}
 use Rattle.pass_core.proofs.Standing.{none_stand}
 use Rattle.pass_core.proofs.Tabling.{run_opened}

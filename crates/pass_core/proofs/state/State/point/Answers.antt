@@ -1,6 +1,6 @@
 use Rattle.std.proofs.Common.{◌≡◌, Bool, true, false, Ok, ap, inl, inr, refl, sym, subst, ◌∙◌, rules}
 use Rattle.node_lp.specs.declared.solved.Solved.TheVariants as solved
-use Rattle.run_ends.specs.declared.last.Lasts.{Lasts}
+use Rattle.found_ends.specs.declared.last.Lasts.{Lasts}
 use Rattle.pass_core.specs.declared.state.State.{State}
 use Rattle.pass_core.specs.Turns.{EndsBy}
 use Rattle.pass_core.proofs.Standing.{join_passes, same_points, then_points, point_stands}

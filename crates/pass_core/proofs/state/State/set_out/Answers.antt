@@ -4,7 +4,7 @@ use Rattle.scen_defs.specs.Valid.{Lives}
 use Rattle.cut_banks.specs.Banks.{pools_of}
 use Rattle.cut_banks.specs.Pools.{numbers_read}
 use Rattle.node_lp.specs.Problem.{IsProblem, problem_of}
-use Rattle.run_data.specs.Frames.{children_in}
+use Rattle.node_data.specs.Frames.{children_in}
 use Rattle.pass_core.specs.declared.state.Begun.{Begun}
 use Rattle.pass_core.specs.Explained.{IsDatumOf}
 use Rattle.pass_core.specs.Turns.{IsTaskOf}

@@ -1,12 +1,12 @@
 use Rattle.std.proofs.Common.{ℕ, List, replicate, arith, ap, refl, ◌∙◌}
 use Rattle.scen_defs.specs.Program.{content}
-use Rattle.run_data.specs.Frames.{Frame}
+use Rattle.node_data.specs.Frames.{Frame}
 use Rattle.cut_banks.specs.Banks.{empty_banks}
 use Rattle.pass_core.proofs.Beginning.{all_nodes}
 use Rattle.pass_core.proofs.Parentage.{are_parents, made_one, started}
 use Rattle.scen_defs.specs.declared.report.Kind.TheVariants.{Feasible}
-use Rattle.run_data.specs.declared.versions.Version.{Version}
-use Rattle.run_data.specs.Counts.{untouched, version_of}
+use Rattle.node_data.specs.declared.versions.Version.{Version}
+use Rattle.node_data.specs.Counts.{untouched, version_of}
 use Rattle.pass_core.proofs.MadeAfterEdits.{all_made_at_start, never_touched}
 use Rattle.pass_core.proofs.state.State.start.Goals as goal
 

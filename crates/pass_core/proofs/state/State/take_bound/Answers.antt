@@ -1,5 +1,5 @@
 use Rattle.std.proofs.Common.{◌≡◌, ◌<◌, Option, None, IfSome, refl, sym, ap, subst, arith, ◌∙◌}
-use Rattle.run_ends.specs.Ends.{after_root}
+use Rattle.found_ends.specs.Ends.{after_root}
 use Rattle.cut_defs.specs.Stored.{Stored}
 use Rattle.pass_core.specs.Explained.{GivesCut}
 use Rattle.pass_core.proofs.Explaining.{root_kept}

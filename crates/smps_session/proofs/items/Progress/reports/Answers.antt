@@ -1,6 +1,6 @@
 use Rattle.std.proofs.Common.{ℕ, ◌+◌, refl, sym, subst}
 use Rattle.scen_defs.specs.Program.{content}
-use Rattle.tree_method.proofs.Numbers.{first_cleared}
+use Rattle.nested_method.proofs.Numbers.{first_cleared}
 use Rattle.smps_session.specs.Courses.{course_at}
 use Rattle.smps_session.proofs.ToldLemmas.{IsOnCourse, begins_course, item_allowed, stays_on_course, all_told}
 use Rattle.smps_session.proofs.WayLemmas.{begins_way}

@@ -2,7 +2,7 @@ use Rattle.std.proofs.Common.{◌≡◌, length}
 use Rattle.scen_defs.specs.Program.{content}
 use Rattle.edit_defs.specs.Limits.{counts}
 use Rattle.smps_session.proofs.ToldLemmas.{HasCome}
-use Rattle.tree_method.specs.Stands.{HasFewNodes, StandsOn, StandsCleared}
+use Rattle.nested_method.specs.Stands.{HasFewNodes, StandsOn, StandsCleared}
 use Rattle.smps_session.proofs.items.Progress.reports.Given as goal
 
 abbrev pub invariant-loop-rest : goal.invariant-loop-rest

@@ -1,5 +1,0 @@
-pub mod Lists
-pub mod Points
-pub mod Rows
-pub mod Multipliers
-pub mod Forms

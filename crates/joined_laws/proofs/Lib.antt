@@ -1,0 +1,11 @@
+pub mod Along
+pub mod Joined
+pub mod Places
+pub mod Policies
+pub mod Totals
+pub mod Costs
+pub mod Lists
+pub mod Points
+pub mod Rows
+pub mod Multipliers
+pub mod Forms

@@ -1,0 +1,4 @@
+pub mod Points
+pub mod Joins
+pub mod Rows
+pub mod Fits

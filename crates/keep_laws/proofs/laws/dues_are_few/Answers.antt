@@ -1,5 +1,0 @@
-use Rattle.keep_laws.proofs.Dues.{dues_are_few}
-use Rattle.keep_laws.proofs.laws.dues_are_few.Goals as goal
-
-pub returns : goal.returns
-returns c = dues_are_few

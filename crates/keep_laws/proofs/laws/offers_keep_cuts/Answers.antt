@@ -1,5 +1,0 @@
-use Rattle.keep_laws.proofs.Offers.{offers_keep_cuts}
-use Rattle.keep_laws.proofs.laws.offers_keep_cuts.Goals as goal
-
-pub returns : goal.returns
-returns c = offers_keep_cuts

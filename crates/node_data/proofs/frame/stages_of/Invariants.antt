@@ -1,0 +1,7 @@
+use Rattle.std.proofs.Common.{◌≡◌, ◌++◌, drop, map}
+use Rattle.scen_defs.specs.Program.{nodes_content}
+use Rattle.node_data.specs.Frames.{stage_of}
+use Rattle.node_data.proofs.frame.stages_of.Given as goal
+
+abbrev pub invariant-loop-place : goal.invariant-loop-place
+invariant-loop-place l = l.stages.items ++ map stage_of (nodes_content (drop l.place-index l.nodes)) ≡ map stage_of (nodes_content l.nodes)

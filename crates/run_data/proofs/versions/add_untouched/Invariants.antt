@@ -1,6 +1,0 @@
-use Rattle.std.proofs.Common.{◌≡◌, ◌++◌, replicate}
-use Rattle.run_data.specs.Counts.{untouched}
-use Rattle.run_data.proofs.versions.add_untouched.Given as goal
-
-abbrev pub invariant-loop-node : goal.invariant-loop-node
-invariant-loop-node l = l.nodes.items ≡ l.initial.nodes.items ++ replicate l._node untouched

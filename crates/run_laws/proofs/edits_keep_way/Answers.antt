@@ -1,5 +1,0 @@
-use Rattle.run_laws.proofs.Ways.{edits_keep_way}
-use Rattle.run_laws.proofs.edits_keep_way.Goals as goal
-
-pub returns : goal.returns
-returns c = edits_keep_way

@@ -1,7 +1,0 @@
-use Rattle.run_laws.proofs.NeverStuck.{never_stuck}
-use Rattle.run_laws.proofs.Openings.{openings_are_made}
-use Rattle.run_laws.proofs.SolvesUsed.{solves_are_used}
-use Rattle.run_laws.proofs.never_stuck.Goals as goal
-
-pub returns : goal.returns
-returns c = never_stuck solves_are_used openings_are_made

@@ -1,5 +1,0 @@
-use Rattle.run_laws.proofs.Openings.{openings_are_made}
-use Rattle.run_laws.proofs.openings_are_made.Goals as goal
-
-pub returns : goal.returns
-returns c = openings_are_made

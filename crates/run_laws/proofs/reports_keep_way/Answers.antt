@@ -1,5 +1,0 @@
-use Rattle.run_laws.proofs.Ways.{reports_keep_way}
-use Rattle.run_laws.proofs.reports_keep_way.Goals as goal
-
-pub returns : goal.returns
-returns c = reports_keep_way

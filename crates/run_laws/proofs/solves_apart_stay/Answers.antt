@@ -1,5 +1,0 @@
-use Rattle.run_laws.proofs.Apart.{stay_begun}
-use Rattle.run_laws.proofs.solves_apart_stay.Goals as goal
-
-pub returns : goal.returns
-returns c = stay_begun

@@ -1,5 +1,0 @@
-use Rattle.run_laws.proofs.Ways.{ways_begin}
-use Rattle.run_laws.proofs.ways_begin.Goals as goal
-
-pub returns : goal.returns
-returns c = ways_begin

@@ -1,5 +1,0 @@
-use Rattle.solve_laws.proofs.Bounds.{bounds_hold_at_points}
-use Rattle.solve_laws.proofs.laws.bounds_hold_at_points.Goals as goal
-
-pub returns : goal.returns
-returns c = bounds_hold_at_points

@@ -1,5 +1,0 @@
-use Rattle.solve_laws.proofs.Bounds.{never_loose}
-use Rattle.solve_laws.proofs.laws.never_loose.Goals as goal
-
-pub returns : goal.returns
-returns c = never_loose

@@ -1,5 +1,0 @@
-use Rattle.solve_laws.proofs.Offers.{offers_hold}
-use Rattle.solve_laws.proofs.laws.offers_hold.Goals as goal
-
-pub returns : goal.returns
-returns c = offers_hold

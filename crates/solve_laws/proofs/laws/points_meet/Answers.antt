@@ -1,5 +1,0 @@
-use Rattle.solve_laws.proofs.Points.{points_meet}
-use Rattle.solve_laws.proofs.laws.points_meet.Goals as goal
-
-pub returns : goal.returns
-returns c = points_meet

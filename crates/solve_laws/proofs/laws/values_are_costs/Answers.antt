@@ -1,5 +1,0 @@
-use Rattle.solve_laws.proofs.Costs.{values_are_costs}
-use Rattle.solve_laws.proofs.laws.values_are_costs.Goals as goal
-
-pub returns : goal.returns
-returns c = values_are_costs

@@ -1,5 +1,0 @@
-use Rattle.tree_method.proofs.Histories.{histories_make_sound}
-use Rattle.tree_method.proofs.laws.histories_make_sound.Goals as goal
-
-pub returns : goal.returns
-returns c = histories_make_sound

@@ -1,5 +1,0 @@
-use Rattle.tree_method.proofs.Standing.{touches_stand}
-use Rattle.tree_method.proofs.laws.touches_stand.Goals as goal
-
-pub returns : goal.returns
-returns c = touches_stand

@@ -1,5 +1,0 @@
-use Rattle.walk_laws.proofs.Ends.{walks_end_passing}
-use Rattle.walk_laws.proofs.laws.walks_end_passing.Goals as goal
-
-pub returns : goal.returns
-returns c = walks_end_passing
