@@ -4,11 +4,11 @@ ghost use Rattle.input_files.specs.Unfetched.{texts_view};
 ghost use Rattle.program_files.specs.Meant.{AreWithin, MeansProgram};
 
 use command_words::{Command, PlainWords, Sources};
+use edit_script::apply_all;
 use frac128::Memory;
 use input_files::{Texts, Unfetched, fetched_texts};
 use program_files::{Unread, read_edits, read_program};
 use scen_defs::Program;
-use edit_script::apply_all;
 use smps_io::Shelf;
 use std::alloc::Global;
 use std::fs::Files;

@@ -2,13 +2,13 @@
 use crate::meant::program_of;
 use case_texts::{Case, Part};
 use frac128::Memory;
-use test_programs::{nodes_text, stated_text};
 use run_notes::explanation;
 use scen_defs::Program;
 use smps_cli::{Ran, run};
 use smps_io::{MemoryShelf, MemorySink, NeverFails, Shelf};
 use std::alloc::Global;
 use std::rt::Runtime;
+use test_programs::{nodes_text, stated_text};
 
 /// What a run came to.
 #[derive(Drop)]

@@ -1,11 +1,11 @@
 //! Two rows, A and B at most 4, A and three times B at most 6, at costs -3 and -2: each point and each
 //! dual of a grid, beside plain sums of whole numbers.
 use frac128::Frac;
-use test_programs::{Source, read_source};
 use scen_model::{Halt, Program, Values, cost, dual_value, feasible, is_direction, zero_value};
 use std::alloc::Global;
 use std::process::Abort;
 use std::test::Fail;
+use test_programs::{Source, read_source};
 
 const MIX: &str =
     "NAME MIX\nROWS\n N COST\n L LIM1\n L LIM2\nCOLUMNS\n A COST -3 LIM1 1\n A LIM2 1\n B COST -2 LIM1 1\n B LIM2 3\n\

@@ -2,13 +2,13 @@
 //! 1/2, and Y, which costs 3/2, is decided. X and Y together are at least the demand.
 use crate::rows::expect_row;
 use frac128::{Frac, Memory, parse};
-use test_programs::{COVER, read_source};
 use scen_model::{
     Halt, Kind, Program, Values, cost, derive, dual_value, feasible, fits, is_direction, zero_value,
 };
 use std::alloc::Global;
 use std::process::Abort;
 use std::test::Fail;
+use test_programs::{COVER, read_source};
 
 /// Values of columns, each as node, column and value; whether they fit, are feasible and are a direction, and
 /// their cost; and whether they are feasible where finite ends are 0 and absent bounds are -1 and 1.

@@ -4,13 +4,13 @@ ghost use Rattle.input_files.specs.Unfetched.{given_bytes, texts_view};
 ghost use Rattle.program_files.specs.Meant.{AreWithin, MeansProgram};
 ghost use Rattle.scen_defs.specs.Program.{content};
 
+use edit_script::apply_all;
 use frac128::Memory;
 use input_files::Texts;
 use program_files::{Unread, read_edits, read_program};
-use test_programs::Source;
 use scen_defs::Program;
-use edit_script::apply_all;
 use std::alloc::Global;
+use test_programs::Source;
 
 /// The bytes of a text that is there.
 fn bytes_if(alloc: Global, text: &str) -> Result<Option<Vec<u8>>, Memory>

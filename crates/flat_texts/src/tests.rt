@@ -1,11 +1,11 @@
 //! Texts, limits and operations that pass, by hand.
 use crate::meant::meant;
 use flat_write::{FlatFault, FlatLimits, write_flat};
-use test_programs::{COVER, Source};
 use scen_defs::Program;
 use std::alloc::Global;
 use std::process::Abort;
 use std::test::Fail;
+use test_programs::{COVER, Source};
 
 /// X stands at the root alone, and in the rows of both nodes below it; Y costs 3/2 with probability 1/2 at each of them.
 const COVER_TEXT: &str = "\

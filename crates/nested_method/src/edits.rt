@@ -22,11 +22,11 @@ use crate::method::{Method, Working, treeless};
 use cut_defs::Due;
 use edit_defs::{Counts, Edit};
 use edit_retire::{rows_version, shift, sweeps, touches};
+use edit_script::applied;
 use frac128::Memory;
 use proved_report::Open;
 use scen_defs::Program;
 use scen_tree::Tree;
-use edit_script::applied;
 use std::alloc::Global;
 
 /// Whether nodes come or go with an edit.

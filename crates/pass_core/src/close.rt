@@ -13,9 +13,9 @@ ghost use Rattle.pass_core.specs.Tabled.{IsTabledBy};
 
 use crate::budget::Budget;
 use crate::state::State;
+use found_ends::{Closed, Settled, claimed, ended, shown, why_open};
 use frac128::Memory;
 use proved_report::Open;
-use found_ends::{Closed, Settled, claimed, ended, shown, why_open};
 use std::alloc::Global;
 
 impl State {

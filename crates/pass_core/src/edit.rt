@@ -18,9 +18,9 @@ use crate::state::{State, WORKERS};
 use crew_table::Crew;
 use cut_defs::{Due, Part, Touch};
 use edit_defs::Touched;
+use found_ends::{Ends, Lasts};
 use frac128::Memory;
 use node_data::Frame;
-use found_ends::{Ends, Lasts};
 use scen_defs::{Kind, Program};
 use std::alloc::Global;
 

@@ -25,10 +25,10 @@ ghost use Rattle.pass_core.specs.Grounds.{OpeningDual, FaultsDual, put_cut, put_
 use crate::state::State;
 use cut_proof::{CutFault, SharedCut};
 use dual_assemble::{assemble, ground_cut};
-use frac128::Memory;
-use proved_report::Open;
-use node_data::datum_of;
 use found_ends::Lasts;
+use frac128::Memory;
+use node_data::datum_of;
+use proved_report::Open;
 use scen_defs::{Kind, Place, Program, Values};
 use scen_tree::Tree;
 use std::alloc::Global;

@@ -10,6 +10,6 @@ mod laws;
 mod state;
 
 pub use budget::Budget;
-pub use laws::{made_ends_assemble_well, roots_assemble_well};
 pub use found_ends::{Closed, Settled};
+pub use laws::{made_ends_assemble_well, roots_assemble_well};
 pub use state::State;

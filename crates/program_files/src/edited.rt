@@ -11,12 +11,11 @@ ghost use Rattle.program_files.specs.Views.{GivesScript, GivesReports};
 
 use crate::reading::{Unread, stopped};
 use edit_defs::{Act, Item, Script};
-use edit_script::read_script;
+use edit_script::{read_script, solves};
 use frac128::Memory;
 use input_files::{FileKind, Texts};
 use report_reader::read_reports;
 use scen_defs::{Program, Report};
-use edit_script::solves;
 use std::alloc::Global;
 
 /// The bytes of a text, none where there is no text.

@@ -6,9 +6,9 @@ ghost use Rattle.report_sheets.specs.Sheets.{program_at};
 
 use edit_apply::count;
 use edit_defs::{Act, Script};
+use edit_script::applied;
 use frac128::Memory;
 use scen_defs::Program;
-use edit_script::applied;
 use std::alloc::Global;
 
 /// Applies the edits of a script that stand before a SOLVE, of which so many others come first; all edits where there is no such SOLVE.

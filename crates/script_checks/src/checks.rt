@@ -7,9 +7,9 @@ ghost use Rattle.script_checks.specs.Checked.{AreChecked};
 use crate::single::{Checked, outcome_of};
 use edit_apply::count;
 use edit_defs::{Act, Script};
+use edit_script::applied;
 use frac128::Memory;
 use scen_defs::{Program, Report};
-use edit_script::applied;
 use std::alloc::Global;
 
 /// What the checks of the reports of a script come to: of the first against the program after the edits before the first SOLVE, and so

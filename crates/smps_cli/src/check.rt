@@ -13,13 +13,13 @@ use crate::answer::Answer;
 use crate::found::{Checks, Found};
 use crate::input::{Input, read_input};
 use crate::refuse::stopped;
+use edit_script::solves;
+use exit_status::open_status;
 use frac128::Memory;
 use input_files::Texts;
 use program_files::read_told;
-use exit_status::open_status;
 use scen_defs::Report;
 use script_checks::{all_hold, check_script};
-use edit_script::solves;
 use std::alloc::Global;
 
 /// The answer for the texts of the files: the checks of the reports, or the first fault.

@@ -13,12 +13,12 @@ use crate::input::{Input, read_input};
 use crate::refuse::stopped;
 use command_words::Extent;
 use core_defs::Cause;
+use edit_script::apply_all;
+use exit_status::Status;
 use flat_write::{FlatFault, FlatLimits, write_flat};
 use frac128::Memory;
 use input_files::{FileKind, Texts};
-use exit_status::Status;
 use scen_defs::Program;
-use edit_script::apply_all;
 use std::alloc::Global;
 
 /// The answer for the texts of the files: the program that they mean after all edits, as one core file, or their first fault.

@@ -16,9 +16,9 @@ mod top_call;
 mod write;
 
 pub use answer::Ran;
+pub use exit_status::{FileKind, Status};
 pub use fetched::Fetched;
 pub use found::{Checks, Found, Lack, Summary};
-pub use exit_status::{FileKind, Status};
 pub use script_checks::Checked;
 pub use smps_session::Told;
 pub use top_call::run;

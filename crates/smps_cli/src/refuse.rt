@@ -4,9 +4,9 @@ ghost use Rattle.smps_cli.specs.Ends.{AnswersUnread};
 ghost use Rattle.smps_cli.specs.Found.{found_text};
 
 use crate::answer::{Answer, line_answer};
+use exit_status::Status;
 use frac128::Memory;
 use program_files::Unread;
-use exit_status::Status;
 use std::alloc::Global;
 
 /// The answer that tells what stops the reading of the texts.

@@ -10,10 +10,10 @@ use crate::answer::Answer;
 use crate::found::Found;
 use crate::input::{Input, read_input};
 use crate::refuse::stopped;
+use edit_script::apply_all;
+use exit_status::Status;
 use frac128::Memory;
 use input_files::Texts;
-use exit_status::Status;
-use edit_script::apply_all;
 use std::alloc::Global;
 
 /// The answer for the texts of the files: the program that they mean after all edits, or their first fault.

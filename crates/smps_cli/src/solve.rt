@@ -13,9 +13,9 @@ use crate::found::Found;
 use crate::input::{Input, read_input};
 use crate::refuse::stopped;
 use command_words::Budget;
+use exit_status::{is_open, open_status};
 use frac128::Memory;
 use input_files::Texts;
-use exit_status::{is_open, open_status};
 use smps_session::{StatedLimits, Told, scripted};
 use std::alloc::Global;
 

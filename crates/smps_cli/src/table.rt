@@ -16,11 +16,11 @@ use crate::input::{Input, read_input};
 use crate::refuse::stopped;
 use command_words::Sheet;
 use core_defs::Cause;
+use exit_status::Status;
 use frac128::Memory;
 use input_files::{FileKind, Texts};
 use program_files::read_told;
 use report_sheets::{NoSheet, print_sheet};
-use exit_status::Status;
 use scen_defs::Report;
 use std::alloc::Global;
 

@@ -13,10 +13,10 @@ use crate::told::{Told, told_one};
 use crate::whole::StatedLimits;
 use edit_defs::{Act, Counts, Edit, Item};
 use frac128::Memory;
+use nested_method::Method;
 use pass_core::Budget;
 use scen_defs::Program;
 use std::alloc::Global;
-use nested_method::Method;
 use whole_guess::WholeHint;
 
 /// How far a script has come.

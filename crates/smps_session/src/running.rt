@@ -10,11 +10,11 @@ ghost use Rattle.smps_session.specs.Comes.{is_unfinished, ShowsFound, ComesOf, C
 
 use crate::whole::{Answered, StatedLimits, own_or_whole};
 use frac128::Memory;
+use nested_method::Method;
 use pass_core::Budget;
 use proved_report::report;
 use scen_defs::{Finding, Program, Report};
 use std::alloc::Global;
-use nested_method::Method;
 use whole_guess::WholeHint;
 
 /// Solves a program on a tree by the nested method, with so many solves of nodes at most and so many pivots in each, and

@@ -13,10 +13,10 @@ use crate::whole::StatedLimits;
 use edit_apply::count;
 use edit_defs::{Item, Script};
 use frac128::Memory;
+use nested_method::Method;
 use pass_core::Budget;
 use scen_defs::Program;
 use std::alloc::Global;
-use nested_method::Method;
 use whole_guess::WholeHint;
 
 impl Progress {

@@ -10,11 +10,11 @@ ghost use Rattle.smps_session.specs.Told.{IsTold};
 use crate::running::reported;
 use crate::whole::{StatedLimits, own_or_whole};
 use frac128::Memory;
+use nested_method::Method;
 use pass_core::Budget;
 use report_text::print_report;
 use scen_defs::{Finding, Program, Report};
 use std::alloc::Global;
-use nested_method::Method;
 use whole_guess::WholeHint;
 
 /// What is told of a report.

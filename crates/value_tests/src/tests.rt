@@ -1,12 +1,12 @@
 // The least costs of programs of scenarios, of means, and with a fixed first period.
 use frac128::{Form, Frac, Memory, parse};
-use test_programs::{COVER, Source, read_source};
 use scen_defs::{Finding, Program, Report};
 use scen_tree::Tree;
 use smps_session::{StatedLimits, session};
 use std::alloc::Global;
 use std::process::Abort;
 use std::test::Fail;
+use test_programs::{COVER, Source, read_source};
 use value_programs::{fixed_program, mean_program, scenario_program};
 
 const FARMER_CORE: &str = "\
