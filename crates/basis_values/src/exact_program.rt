@@ -1,8 +1,8 @@
 //! A linear program in exact numbers, and beside it the same in floats.
 
-use crate::rounded::float;
 use basis_factors::Entry;
 use basis_guess::FloatProgram;
+use decimals::float;
 use frac128::{Frac, Memory};
 use std::alloc::Global;
 

@@ -8,12 +8,10 @@ mod guesses;
 mod kernel;
 mod ray;
 mod refuted;
-mod rounded;
 mod solution;
 mod sums;
 mod zoom;
 
 pub use exact_program::{ExactColumn, ExactProgram, ExactRow};
 pub use guesses::{Guessed, guess, guess_from};
-pub use rounded::float;
 pub use solution::Solution;

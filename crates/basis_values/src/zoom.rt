@@ -3,11 +3,11 @@
 
 use crate::exact_program::{ExactProgram, ExactRow};
 use crate::kernel::at;
-use crate::rounded::{difference, float};
 use crate::solution::Solution;
 use crate::sums::{activity, reduced_costs};
 use basis_factors::Entry;
 use basis_guess::FloatProgram;
+use decimals::{float, float_difference};
 use frac128::{Frac, Memory};
 use std::alloc::Global;
 
@@ -34,11 +34,11 @@ fn float_activity(row: &ExactRow, point: &[Frac]) -> f64 {
 impl Near {
     fn of_column(low: Option<Frac>, high: Option<Frac>, value: Frac, price: Option<Frac>) -> Near {
         let low = match low {
-            Some(low) => difference(low, value),
+            Some(low) => float_difference(low, value),
             None => f64::NEG_INFINITY,
         };
         let high = match high {
-            Some(high) => difference(high, value),
+            Some(high) => float_difference(high, value),
             None => f64::INFINITY,
         };
         let cost = match price {

@@ -3,6 +3,7 @@ use crate::meant::program_of;
 use case_texts::{Case, Part};
 use frac128::Memory;
 use run_notes::explanation;
+use run_watch::Unwatched;
 use scen_defs::Program;
 use smps_cli::{Ran, run};
 use smps_io::{MemoryShelf, MemorySink, NeverFails, Shelf};
@@ -121,7 +122,7 @@ fn said_over<H: Shelf>(
     shelf: &mut H,
     sink: &mut MemorySink,
 ) -> Result<Said, Memory> {
-    let ran = run(rt, alloc, words, shelf, sink);
+    let ran = run(rt, alloc, words, shelf, sink, &mut Unwatched);
     said_of(rt, alloc, case, words, &ran)
 }
 

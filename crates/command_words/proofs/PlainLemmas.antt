@@ -7,7 +7,7 @@ use Rattle.std.proofs.lemmas.List.{take_at, drop_at, length_push}
 use Rattle.std.proofs.lemmas.Slice.Eq.{bytes_eq-Decides}
 use Rattle.clap.proofs.WalkLemmas.{both}
 use Rattle.command_words.specs.declared.flag.Flag.{Flag}
-use Rattle.command_words.specs.declared.flag.Flag.TheVariants.{Core, Time, Stoch, Edits, Report, Whole, Number, Form, Solves, Pivots, Workers}
+use Rattle.command_words.specs.declared.flag.Flag.TheVariants.{Core, Time, Stoch, Edits, Report, Whole, Number, Form, Solves, Pivots, Workers, Quiet}
 use Rattle.command_words.specs.declared.flag.Flag.TheVariants.{Start, Stages, Branches, Size, Text}
 use Rattle.command_words.specs.declared.command.Verb.{Verb}
 use Rattle.command_words.specs.Table.{flag_text}
@@ -33,6 +33,7 @@ named Form = refl
 named Solves = refl
 named Pivots = refl
 named Workers = refl
+named Quiet = refl
 named Start = refl
 named Stages = refl
 named Branches = refl
@@ -51,6 +52,7 @@ lacks_equals Form = refl
 lacks_equals Solves = refl
 lacks_equals Pivots = refl
 lacks_equals Workers = refl
+lacks_equals Quiet = refl
 lacks_equals Start = refl
 lacks_equals Stages = refl
 lacks_equals Branches = refl

@@ -14,11 +14,11 @@ use Rattle.clap.specs.Takes.{built_takes, default_passes, is_given, is_valid, le
 use Rattle.clap.proofs.TakesLemmas.{leaf_takes}
 use Rattle.clap.proofs.WalkLemmas.{both, first_value-rows}
 use Rattle.command_words.specs.declared.flag.Flag.{Flag}
-use Rattle.command_words.specs.declared.flag.Flag.TheVariants.{Core, Time, Stoch, Edits, Report, Whole, Number, Form, Solves, Pivots, Workers}
+use Rattle.command_words.specs.declared.flag.Flag.TheVariants.{Core, Time, Stoch, Edits, Report, Whole, Number, Form, Solves, Pivots, Workers, Quiet}
 use Rattle.command_words.specs.declared.flag.Flag.TheVariants.{Start, Stages, Branches, Size, Text}
 use Rattle.command_words.specs.declared.command.Command.{Command}
 use Rattle.command_words.specs.declared.command.Verb.{Verb}
-use Rattle.command_words.specs.declared.command.Verb.TheVariants.{Solve, Check, Table, Show, Flat, Make}
+use Rattle.command_words.specs.declared.command.Verb.TheVariants.{Solve, Check, Table, Show, Flat, Value, Make}
 use Rattle.command_words.specs.Table.{all_flags, flag_text}
 use Rattle.command_words.specs.Words.{Given, are_once, plain_word, same_flag, settings_of, value_with}
 use Rattle.command_words.specs.Commands.{all_allowed, allows, are_options, asked_with, command_by, command_with}
@@ -52,6 +52,7 @@ reader_is_simple Check = refl
 reader_is_simple Table = refl
 reader_is_simple Show = refl
 reader_is_simple Flat = refl
+reader_is_simple Value = refl
 reader_is_simple Make = refl
 
 reader_takes : (verb : Verb) (words : List (List ℕ))
@@ -62,6 +63,7 @@ reader_takes Check words = refl
 reader_takes Table words = refl
 reader_takes Show words = refl
 reader_takes Flat words = refl
+reader_takes Value words = refl
 reader_takes Make words = refl
 
 reader_matches : (verb : Verb) (words : List (List ℕ)) → matches_of (reader_of verb) words ≡ rows_after (map built_rule (flags_for verb)) [] words
@@ -71,6 +73,7 @@ reader_matches Check words = refl
 reader_matches Table words = refl
 reader_matches Show words = refl
 reader_matches Flat words = refl
+reader_matches Value words = refl
 reader_matches Make words = refl
 
 same_refl : (flag : Flag) → same_flag flag flag ≡ true
@@ -85,6 +88,7 @@ same_refl Form = refl
 same_refl Solves = refl
 same_refl Pivots = refl
 same_refl Workers = refl
+same_refl Quiet = refl
 same_refl Start = refl
 same_refl Stages = refl
 same_refl Branches = refl
@@ -103,6 +107,7 @@ is_there Form = refl
 is_there Solves = refl
 is_there Pivots = refl
 is_there Workers = refl
+is_there Quiet = refl
 is_there Start = refl
 is_there Stages = refl
 is_there Branches = refl
@@ -146,6 +151,7 @@ plain_is_long Form value = refl
 plain_is_long Solves value = refl
 plain_is_long Pivots value = refl
 plain_is_long Workers value = refl
+plain_is_long Quiet value = refl
 plain_is_long Start value = refl
 plain_is_long Stages value = refl
 plain_is_long Branches value = refl
@@ -164,6 +170,7 @@ plain_is_no_end Form value = refl
 plain_is_no_end Solves value = refl
 plain_is_no_end Pivots value = refl
 plain_is_no_end Workers value = refl
+plain_is_no_end Quiet value = refl
 plain_is_no_end Start value = refl
 plain_is_no_end Stages value = refl
 plain_is_no_end Branches value = refl

@@ -2,9 +2,9 @@
 use Rattle.std.specs.Prelude.{ℕ, Bool, true, List, [], ◌∷◌, Option, Some, None, is_some, if◌then◌else◌, ◌&&◌, ◌||◌, codes}
 use Rattle.command_words.specs.declared.flag.Flag.{Flag}
 use Rattle.command_words.specs.declared.flag.Flag.TheVariants.{Core, Time, Stoch, Edits, Report, Whole, Number, Form}
-use Rattle.command_words.specs.declared.flag.Flag.TheVariants.{Start, Stages, Branches, Size, Text}
+use Rattle.command_words.specs.declared.flag.Flag.TheVariants.{Quiet, Start, Stages, Branches, Size, Text}
 use Rattle.command_words.specs.declared.command.Verb.{Verb}
-use Rattle.command_words.specs.declared.command.Verb.TheVariants.{Solve, Check, Table, Show, Flat, Make}
+use Rattle.command_words.specs.declared.command.Verb.TheVariants.{Solve, Check, Table, Show, Flat, Value, Make}
 use Rattle.command_words.specs.declared.command.Task.{Task}
 use Rattle.command_words.specs.declared.command.Task.TheVariants as task
 use Rattle.command_words.specs.declared.command.Sheet.{Sheet}
@@ -17,7 +17,7 @@ use Rattle.command_words.specs.declared.command.Page.TheVariants as page
 use Rattle.command_words.specs.declared.command.Plan.{Plan}
 use Rattle.command_words.specs.Table.{further_flags, goes_with, needed_flags, value_kind}
 use Rattle.command_words.specs.Words.{Given, Values, same_text, then_some, settings_of, value_with, are_once}
-use Rattle.command_words.specs.Words.{has_flag, verb_named, number_for, number_given, budget_of}
+use Rattle.command_words.specs.Words.{has_flag, verb_named, number_for, number_given, is_set, budget_of}
 
 -- ---- which options there are
 
@@ -109,6 +109,7 @@ task_of Check value = Some task.Check
 task_of Table value = then_some (sheet_of value) (λ sheet. Some (task.Table sheet))
 task_of Show value = Some task.Show
 task_of Flat value = then_some (extent_of value) (λ size. Some (task.Flat size))
+task_of Value value = then_some (budget_of value) (λ budget. Some (task.Value budget))
 task_of Make value = None
 
 -- ---- workloads
@@ -135,7 +136,8 @@ plan_of value =
     then_some (number_given Branches (value Branches)) (λ b.
     then_some (number_given Size (value Size)) (λ k.
     then_some (page_of value) (λ found.
-    Some (record { start = s; stages = t; branches = b; size = k; page = found }))))))
+    then_some (is_set (value Quiet)) (λ q.
+    Some (record { start = s; stages = t; branches = b; size = k; page = found })))))))
 
 -- ---- commands
 
@@ -154,6 +156,7 @@ asked_with Check value = on_files Check value
 asked_with Table value = on_files Table value
 asked_with Show value = on_files Show value
 asked_with Flat value = on_files Flat value
+asked_with Value value = on_files Value value
 asked_with Make value = then_some (plan_of value) (λ plan. Some (MakeThis plan))
 
 abbrev pub command_with : Verb → List Given → Option Asked

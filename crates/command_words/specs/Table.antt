@@ -1,10 +1,10 @@
 -- The table of commands and options.
 use Rattle.std.specs.Prelude.{ℕ, List, [], ◌∷◌, Option, Some, None, codes}
 use Rattle.command_words.specs.declared.command.Verb.{Verb}
-use Rattle.command_words.specs.declared.command.Verb.TheVariants.{Solve, Check, Table, Show, Flat, Make}
+use Rattle.command_words.specs.declared.command.Verb.TheVariants.{Solve, Check, Table, Show, Flat, Value, Make}
 use Rattle.command_words.specs.declared.flag.Flag.{Flag}
 use Rattle.command_words.specs.declared.flag.Flag.TheVariants.{Core, Time, Stoch, Edits, Report, Whole, Number, Form}
-use Rattle.command_words.specs.declared.flag.Flag.TheVariants.{Solves, Pivots, Workers}
+use Rattle.command_words.specs.declared.flag.Flag.TheVariants.{Solves, Pivots, Workers, Quiet}
 use Rattle.command_words.specs.declared.flag.Flag.TheVariants.{Start, Stages, Branches, Size, Text}
 use Rattle.command_words.specs.declared.table.TheConstants.{MOST_WORKERS}
 use Rattle.command_words.specs.declared.table.ValueKind.{ValueKind}
@@ -14,7 +14,7 @@ use Rattle.command_words.specs.declared.table.ValueKind.TheVariants as kind
 
 abbrev pub all_flags : List Flag
 all_flags =
-    Core ∷ Time ∷ Stoch ∷ Edits ∷ Report ∷ Whole ∷ Number ∷ Form ∷ Solves ∷ Pivots ∷ Workers
+    Core ∷ Time ∷ Stoch ∷ Edits ∷ Report ∷ Whole ∷ Number ∷ Form ∷ Solves ∷ Pivots ∷ Workers ∷ Quiet
     ∷ Start ∷ Stages ∷ Branches ∷ Size ∷ Text ∷ []
 
 -- the name of an option, without its two minuses
@@ -30,6 +30,7 @@ flag_text Form = codes "form"
 flag_text Solves = codes "solves"
 flag_text Pivots = codes "pivots"
 flag_text Workers = codes "workers"
+flag_text Quiet = codes "quiet"
 flag_text Start = codes "start"
 flag_text Stages = codes "stages"
 flag_text Branches = codes "branches"
@@ -49,6 +50,7 @@ value_kind Form = kind.Form
 value_kind Solves = kind.Number 1 1000000000
 value_kind Pivots = kind.Number 1 1000000000
 value_kind Workers = kind.Number 1 MOST_WORKERS
+value_kind Quiet = kind.Yes
 value_kind Start = kind.Number 0 65536
 value_kind Stages = kind.Number 2 6
 value_kind Branches = kind.Number 2 4
@@ -63,7 +65,7 @@ goes_with flag = None
 -- ---- commands
 
 abbrev pub all_verbs : List Verb
-all_verbs = Solve ∷ Check ∷ Table ∷ Show ∷ Flat ∷ Make ∷ []
+all_verbs = Solve ∷ Check ∷ Table ∷ Show ∷ Flat ∷ Value ∷ Make ∷ []
 
 abbrev pub verb_text : Verb → List ℕ
 verb_text Solve = codes "solve"
@@ -71,6 +73,7 @@ verb_text Check = codes "check"
 verb_text Table = codes "table"
 verb_text Show = codes "show"
 verb_text Flat = codes "flat"
+verb_text Value = codes "value"
 verb_text Make = codes "make"
 
 -- the options that a command needs
@@ -80,13 +83,15 @@ needed_flags Check = Core ∷ Report ∷ []
 needed_flags Table = Core ∷ Report ∷ []
 needed_flags Show = Core ∷ []
 needed_flags Flat = Core ∷ []
+needed_flags Value = Core ∷ Time ∷ []
 needed_flags Make = Start ∷ Stages ∷ Branches ∷ Size ∷ []
 
 -- those that it takes beside them
 abbrev pub further_flags : Verb → List Flag
-further_flags Solve = Time ∷ Stoch ∷ Edits ∷ Solves ∷ Pivots ∷ Workers ∷ []
+further_flags Solve = Time ∷ Stoch ∷ Edits ∷ Solves ∷ Pivots ∷ Workers ∷ Quiet ∷ []
 further_flags Check = Time ∷ Stoch ∷ Edits ∷ []
 further_flags Table = Time ∷ Stoch ∷ Edits ∷ Number ∷ Form ∷ []
 further_flags Show = Time ∷ Stoch ∷ Edits ∷ []
 further_flags Flat = Time ∷ Stoch ∷ Edits ∷ Whole ∷ []
-further_flags Make = Text ∷ []
+further_flags Value = Stoch ∷ Solves ∷ Pivots ∷ Workers ∷ Quiet ∷ []
+further_flags Make = Text ∷ Quiet ∷ []

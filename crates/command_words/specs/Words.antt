@@ -7,7 +7,7 @@ use Rattle.std.specs.Coded.{Coded-set, coded_list, coded_option, coded_ℕ}
 use Rattle.std.specs.List.{position_or_len, before_first, after_first}
 use Rattle.frac128.specs.Numbers.{is_digit, number_from}
 use Rattle.command_words.specs.declared.flag.Flag.{Flag}
-use Rattle.command_words.specs.declared.flag.Flag.TheVariants.{Solves, Pivots, Workers}
+use Rattle.command_words.specs.declared.flag.Flag.TheVariants.{Solves, Pivots, Workers, Quiet}
 use Rattle.command_words.specs.declared.table.ValueKind.{ValueKind}
 use Rattle.command_words.specs.declared.table.ValueKind.TheVariants.{File, Number, Page, Form, Yes}
 use Rattle.command_words.specs.declared.command.Verb.{Verb}
@@ -177,11 +177,16 @@ abbrev pub number_given : Flag → Option (List ℕ) → Option ℕ
 number_given flag None = None
 number_given flag (Some word) = number_for (value_kind flag) word
 
--- with whether the words state how many solves, and how many pivots
-abbrev pub budget_by : Bool → Bool → Option ℕ → Option ℕ → Option ℕ → Option Budget
-budget_by of_solves of_pivots solves pivots workers =
-    then_some solves (λ s. then_some pivots (λ p. then_some workers (λ w.
-    Some (record { solves = s; solves_stated = of_solves; pivots = p; pivots_stated = of_pivots }))))
+-- whether an option that stands alone is there; its value is yes
+abbrev pub is_set : Option (List ℕ) → Option Bool
+is_set None = Some false
+is_set (Some word) = if same_text word (codes "yes") then Some true else None
+
+-- with whether the words state how many solves, and how many pivots; what is said while it is solved changes nothing
+abbrev pub budget_by : Bool → Bool → Option ℕ → Option ℕ → Option ℕ → Option Bool → Option Budget
+budget_by of_solves of_pivots solves pivots workers quiet =
+    then_some solves (λ s. then_some pivots (λ p. then_some workers (λ w. then_some quiet (λ q.
+    Some (record { solves = s; solves_stated = of_solves; pivots = p; pivots_stated = of_pivots })))))
 
 -- what each option has as its value, if it is there
 abbrev pub Values : Type 0
@@ -193,3 +198,4 @@ budget_of value = budget_by (is_some (value Solves)) (is_some (value Pivots))
     (number_or 100000 Solves (value Solves))
     (number_or 100000 Pivots (value Pivots))
     (number_or 1 Workers (value Workers))
+    (is_set (value Quiet))

@@ -2,7 +2,7 @@
 ghost use Rattle.std.specs.Prelude.{◌≡◌, ◌<◌, ◌^◌, IfSome, is_some};
 ghost use Rattle.std.specs.Option.{option_map};
 ghost use Rattle.command_words.specs.Table.{value_kind};
-ghost use Rattle.command_words.specs.Words.{verb_among, verb_named, number_for, number_or, number_given, budget_of};
+ghost use Rattle.command_words.specs.Words.{verb_among, verb_named, number_for, number_or, number_given, is_set, budget_of};
 ghost use Rattle.command_words.specs.Commands.{allows, all_allowed, are_there, is_there_if, go_together, are_options};
 ghost use Rattle.command_words.specs.Commands.{sources_of, extent_named, extent_of, task_of, page_named, page_of, plan_of};
 ghost use Rattle.command_words.specs.Commands.{form_named, form_of, report_number_of, sheet_of};
@@ -23,6 +23,7 @@ pub enum Verb {
     Table,
     Show,
     Flat,
+    Value,
     Make,
 }
 
@@ -96,6 +97,8 @@ pub enum Task {
     Show,
     /// Print it as one core file.
     Flat(Extent),
+    /// Measure what information and the stochastic model are worth, with a budget for each report.
+    Value(Budget),
 }
 
 /// The texts of a workload.
@@ -260,6 +263,17 @@ fn number_given<'a, V: Values<'a>>(values: &V, flag: Flag) -> Option<u32>
     Some(number as u32)
 }
 
+/// Whether an option that stands alone is there; none where it has another value than `YES`.
+fn is_set<'a, V: Values<'a>>(values: &V, flag: Flag) -> Option<bool>
+    ensures { result ≡ is_set (V.values values.now flag) }
+{
+    match values.value(flag) {
+        None => Some(false),
+        Some("yes") => Some(true),
+        Some(_) => None,
+    }
+}
+
 /// How much may be done for a report, with the one worker that there may be.
 fn budget_given<'a, V: Values<'a>>(values: &V) -> Option<Budget>
     ensures { result ≡ budget_of (V.values values.now) }
@@ -267,6 +281,7 @@ fn budget_given<'a, V: Values<'a>>(values: &V) -> Option<Budget>
     let solves = number_or(values, Flag::Solves, BUDGET)?;
     let pivots = number_or(values, Flag::Pivots, BUDGET)?;
     let _workers = number_or(values, Flag::Workers, 1)?;
+    let _quiet = is_set(values, Flag::Quiet)?;
     Some(Budget {
         solves,
         solves_stated: values.value(Flag::Solves).is_some(),
@@ -358,6 +373,10 @@ fn task_given<'a, V: Values<'a>>(verb: Verb, values: &V) -> Option<Task>
             let extent = extent_given(values)?;
             Some(Task::Flat(extent))
         }
+        Verb::Value => {
+            let budget = budget_given(values)?;
+            Some(Task::Value(budget))
+        }
         Verb::Make => None,
     }
 }
@@ -395,6 +414,7 @@ fn plan_given<'a, V: Values<'a>>(values: &V) -> Option<Plan>
     let branches = number_given(values, Flag::Branches)?;
     let size = number_given(values, Flag::Size)?;
     let page = page_given(values)?;
+    let _quiet = is_set(values, Flag::Quiet)?;
     Some(Plan {
         start,
         stages,
@@ -418,7 +438,7 @@ pub(crate) fn asked_with<'a, V: Values<'a>>(verb: Verb, values: &V) -> Option<Co
     ensures { option_map asked result ≡ asked_with verb (V.values values.now) }
 {
     match verb {
-        Verb::Solve | Verb::Check | Verb::Table | Verb::Show | Verb::Flat => {
+        Verb::Solve | Verb::Check | Verb::Table | Verb::Show | Verb::Flat | Verb::Value => {
             on_files(verb, values)
         }
         Verb::Make => {

@@ -29,6 +29,8 @@ pub enum Flag {
     Pivots,
     /// How many workers solve side by side.
     Workers,
+    /// Whether nothing is said of how a run goes on.
+    Quiet,
     /// The number that a workload is drawn from.
     Start,
     /// How many periods a workload has.

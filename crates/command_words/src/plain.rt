@@ -86,6 +86,13 @@ impl PlainWords {
         }
     }
 
+    /// Whether the words ask that nothing is said of how a run goes on.
+    pub fn is_quiet(&self) -> bool {
+        self.options
+            .iter()
+            .any(|option| option.as_str() == "--quiet=yes")
+    }
+
     /// What the library finds in the words. It takes them, so that it fails only for want of memory.
     fn matches(&self, alloc: Global) -> Result<ArgMatches<'_>, Error>
         ensures values { IfOk result (λ matches. (settings : List Given)

@@ -70,17 +70,18 @@ pub struct CommandRow {
 }
 
 /// All commands.
-pub const VERBS: [Verb; 6] = [
+pub const VERBS: [Verb; 7] = [
     Verb::Solve,
     Verb::Check,
     Verb::Table,
     Verb::Show,
     Verb::Flat,
+    Verb::Value,
     Verb::Make,
 ];
 
 /// All options.
-pub const FLAGS: [Flag; 16] = [
+pub const FLAGS: [Flag; 17] = [
     Flag::Core,
     Flag::Time,
     Flag::Stoch,
@@ -92,6 +93,7 @@ pub const FLAGS: [Flag; 16] = [
     Flag::Solves,
     Flag::Pivots,
     Flag::Workers,
+    Flag::Quiet,
     Flag::Start,
     Flag::Stages,
     Flag::Branches,
@@ -177,6 +179,12 @@ impl Flag {
                 MOST_WORKERS,
                 "how many workers solve side by side",
             ),
+            Flag::Quiet => OptionRow {
+                name: "quiet",
+                kind: ValueKind::Yes,
+                with: None,
+                help: "say nothing on standard error while it is solved",
+            },
             Flag::Start => number("start", 0, 65_536, "what the program is drawn from"),
             Flag::Stages => number("stages", 2, 6, "its periods"),
             Flag::Branches => number(
@@ -215,6 +223,7 @@ impl Verb {
                     Flag::Solves,
                     Flag::Pivots,
                     Flag::Workers,
+                    Flag::Quiet,
                 ],
             },
             Verb::Check => CommandRow {
@@ -247,11 +256,23 @@ impl Verb {
                 needs: &[Flag::Core],
                 takes: &[Flag::Time, Flag::Stoch, Flag::Edits, Flag::Whole],
             },
+            Verb::Value => CommandRow {
+                name: "value",
+                about: "print what it is worth to know what comes, and to plan for all that may come and not for the mean",
+                needs: &[Flag::Core, Flag::Time],
+                takes: &[
+                    Flag::Stoch,
+                    Flag::Solves,
+                    Flag::Pivots,
+                    Flag::Workers,
+                    Flag::Quiet,
+                ],
+            },
             Verb::Make => CommandRow {
                 name: "make",
                 about: "make a program from four numbers, and print a summary of its report, or one of its three texts",
                 needs: &[Flag::Start, Flag::Stages, Flag::Branches, Flag::Size],
-                takes: &[Flag::Text],
+                takes: &[Flag::Text, Flag::Quiet],
             },
         }
     }

@@ -24,6 +24,7 @@
 use crate::tests::program;
 use frac128::{Frac, parse};
 use proved_report::{Claim, Open, report};
+use run_watch::Unwatched;
 use scen_model::{
     Finding, Halt, Place, Program, Report, Values, cost, dual_value, feasible, fits, is_direction,
     zero_value,
@@ -503,7 +504,7 @@ fn is_again_so(
 
 /// The report of a program.
 fn first_report(alloc: Global, program: &Program) -> Result<Report, Fail> {
-    let answered = session(alloc, program, BUDGET, BUDGET, STATED)?;
+    let answered = session(alloc, program, BUDGET, BUDGET, STATED, &mut Unwatched)?;
     Ok(answered.report)
 }
 

@@ -16,6 +16,7 @@ use crate::found::{Found, nothing};
 use frac128::{ArithmeticFault, Memory};
 use pass_core::{Budget, State};
 use proved_report::Open;
+use run_watch::Watch;
 use scen_defs::{Place, Program};
 use scen_tree::Tree;
 use std::alloc::Global;
@@ -59,8 +60,21 @@ impl Working {
         self.state.budget().solves
     }
 
+    /// Lets a watcher look, where it is time.
+    fn show<W: Watch>(&self, watch: &mut W) {
+        if watch.is_due() {
+            watch.see(self.state.seen());
+        }
+    }
+
     /// Takes steps until so many solves were committed since the last item, or nothing is left to find.
-    fn run(&mut self, alloc: Global, program: &Program, work: u64) -> Result<(), Memory>
+    fn run<W: Watch>(
+        &mut self,
+        alloc: Global,
+        program: &Program,
+        work: u64,
+        watch: &mut W,
+    ) -> Result<(), Memory>
         ensures stays { let p = content program.now in (budget : BudgetOf)
             → WorksOn p budget self.old → OnOk result (WorksOn p budget self.new) }
         ensures steps { let p = content program.now in (m : Machine) → self.old.state.frame ≡ frame_of p
@@ -80,6 +94,7 @@ impl Working {
         'steps: loop {
             // the steps end, since this number has 64 bits
             let _allowed = self.allowed();
+            self.show(watch);
             if self.state.is_ripe(work) || !self.state.advance(alloc, program, &self.tree)? {
                 break;
             }
@@ -88,7 +103,12 @@ impl Working {
     }
 
     /// What is found where nothing is left to find.
-    fn find(&mut self, alloc: Global, program: &Program) -> Result<Found, Memory>
+    fn find<W: Watch>(
+        &mut self,
+        alloc: Global,
+        program: &Program,
+        watch: &mut W,
+    ) -> Result<Found, Memory>
         ensures why { let p = content program.now in (budget : BudgetOf)
             → WorksOn p budget self.old → IfOk result (TellsWhy p budget) }
         ensures stays { let p = content program.now in (budget : BudgetOf)
@@ -106,7 +126,7 @@ impl Working {
         ensures ends { let p = content program.now in (budget : BudgetOf) → HasFewNodes p
             → WorksOn p budget self.old → OnOk result (IsAtEnd p self.new.state) }
     {
-        self.run(alloc, program, ENDLESS)?;
+        self.run(alloc, program, ENDLESS, watch)?;
         let closed = self.state.found(alloc)?;
         Ok(Found {
             claim: closed.claim,
@@ -155,7 +175,13 @@ impl Method {
     }
 
     /// Works on the program until so many solves were committed since the last item, or nothing is left to find.
-    pub fn work(&mut self, alloc: Global, program: &Program, work: u64) -> Result<(), Memory>
+    pub fn work<W: Watch>(
+        &mut self,
+        alloc: Global,
+        program: &Program,
+        work: u64,
+        watch: &mut W,
+    ) -> Result<(), Memory>
         ensures stays { let p = content program.now in (budget : BudgetOf)
             → StandsOn p budget self.old → OnOk result (StandsOn p budget self.new) }
         ensures steps { OnOk result (WorksBySteps (content program.now) self.old self.new) }
@@ -171,13 +197,18 @@ impl Method {
             → OnOk result (IsInScript first edits came p rest self.new) }
     {
         match self {
-            Method::Working(working) => working.run(alloc, program, work),
+            Method::Working(working) => working.run(alloc, program, work, watch),
             Method::Idle(_, _) => Ok(()),
         }
     }
 
     /// What it finds of the program, and why a report of that is left open.
-    pub fn find(&mut self, alloc: Global, program: &Program) -> Result<Found, Memory>
+    pub fn find<W: Watch>(
+        &mut self,
+        alloc: Global,
+        program: &Program,
+        watch: &mut W,
+    ) -> Result<Found, Memory>
         ensures why { let p = content program.now in (budget : BudgetOf)
             → StandsOn p budget self.old → IfOk result (TellsWhy p budget) }
         ensures stays { let p = content program.now in (budget : BudgetOf)
@@ -199,7 +230,7 @@ impl Method {
             → StandsOn p budget self.old → OnOk result (EndsAt p self.new) }
     {
         match self {
-            Method::Working(working) => working.find(alloc, program),
+            Method::Working(working) => working.find(alloc, program, watch),
             Method::Idle(why, _) => Ok(nothing(*why)),
         }
     }

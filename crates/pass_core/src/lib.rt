@@ -7,6 +7,7 @@ mod commit;
 mod edit;
 mod ground;
 mod laws;
+mod seen;
 mod state;
 
 pub use budget::Budget;

@@ -7,9 +7,14 @@ use std::test::Fail;
 const TAKEN: &str = "\
 solve --core F
 solve --core=F --time T --stoch=S --edits E --solves 3 --pivots=1000000000 --workers 1
+solve --core F --quiet
+solve --quiet=yes --core F --solves 3
 show --edits=E --stoch S --time=T=1 --core a=b
 flat --core F --time=T --stoch S --edits E
 flat --whole --core F
+value --core F --time T
+value --core F --quiet --time T
+value --workers 1 --pivots=7 --stoch S --solves 3 --time=T --core=F
 check --core F --report=R
 check --report R --edits E --stoch S --time T --core F
 table --core F --report=R
@@ -18,6 +23,7 @@ table --report R --core F --number=10001 --form=csv
 table --report R --core F --form json
 table --report R --core F --form=html
 make --start 0 --stages 2 --branches 2 --size 1
+make --start 0 --stages 2 --branches 2 --size 1 --quiet
 make --size=20 --branches=4 --stages=6 --start=65536 --text=core
 make --start 1 --stages 3 --branches 3 --size 2 --text time
 make --start 1 --stages 3 --branches 3 --size 2 --text stoch

@@ -59,7 +59,7 @@ fn put_result<R: Files>(
 ) -> Result<(), AllocError> {
     match &ran.fetched {
         Some(fetched) => put_on_files(rt, alloc, text, status, &ran.found, fetched),
-        None => put_without_files(text, &ran.found),
+        None => put_without_files(alloc, text, &ran.found),
     }
 }
 
@@ -92,7 +92,7 @@ fn put_found(
 ) -> Result<(), AllocError> {
     match found {
         Found::Reports(tolds) => {
-            if put_reported(text, tolds)? {
+            if put_reported(alloc, text, tolds)? {
                 put_long_numbers(alloc, text, fetched)?;
             }
             put_skipped(alloc, text, fetched)?;
@@ -131,10 +131,10 @@ fn put_long_numbers(alloc: Global, text: &mut String, fetched: &Fetched) -> Resu
 }
 
 /// Appends what is said of a command that takes no files.
-fn put_without_files(text: &mut String, found: &Found) -> Result<(), AllocError> {
+fn put_without_files(alloc: Global, text: &mut String, found: &Found) -> Result<(), AllocError> {
     match found {
         Found::Summary(summary) => {
-            put_made(text, summary.report.finding)?;
+            put_made(alloc, text, &summary.report)?;
             if summary.by_whole {
                 put_only_whole(text)?;
             }

@@ -2,6 +2,7 @@
 #![tactic(auto)]
 
 mod checked;
+mod distance;
 mod explain;
 mod help;
 mod refusal;

@@ -1,7 +1,8 @@
 //! What standard error says of reports that are left open.
-use scen_defs::Finding;
+use crate::distance::{put_distance, put_distances};
+use scen_defs::{Finding, Report};
 use smps_cli::Told;
-use std::alloc::AllocError;
+use std::alloc::{AllocError, Global};
 
 const OPEN_PASSED: &str =
     "tidzgheba: OPEN PASSED: a result didn't fit into 128 bits, and the ends that were known by then are printed and hold; \
@@ -71,19 +72,21 @@ impl Opens {
 }
 
 /// Appends a sentence for each kind of OPEN among reports; whether a result didn't fit into 128 bits in one.
-pub fn put_reported(text: &mut String, tolds: &[Told]) -> Result<bool, AllocError> {
+pub fn put_reported(alloc: Global, text: &mut String, tolds: &[Told]) -> Result<bool, AllocError> {
     let mut opens = Opens::none();
     for told in tolds {
         opens = opens.with(told.finding);
     }
     opens.put(text)?;
+    put_distances(alloc, text, tolds)?;
     Ok(opens.passed)
 }
 
 /// Appends what is said of the report of a workload.
-pub fn put_made(text: &mut String, finding: Finding) -> Result<(), AllocError> {
-    let opens = Opens::none().with(finding);
+pub fn put_made(alloc: Global, text: &mut String, report: &Report) -> Result<(), AllocError> {
+    let opens = Opens::none().with(report.finding);
     opens.put(text)?;
+    put_distance(alloc, text, 1, report.finding, report.lower, report.upper)?;
     if opens.pivots || opens.solves {
         text.push_str(MADE_OPEN)?;
     }

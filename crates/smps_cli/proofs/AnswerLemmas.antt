@@ -115,3 +115,14 @@ module _ (words : List (List ℕ)) (status : Status) (asked : Option Asked) (e :
 
   pub long_for : (given : ℕ) → LastSaysLong asked status given → LastSaysLong (command_of words) status given
   long_for given h = subst (λ (command : Option Asked). LastSaysLong command status given) e h
+
+-- where memory was wanting, or the output failed, nothing is said of the last file
+pub memory_says_nothing : (asked : Option Asked) (given : ℕ) → LastSaysLong asked Memory given
+memory_says_nothing None given = tt
+memory_says_nothing (Some (OnFiles names t)) given = tt
+memory_says_nothing (Some (MakeThis plan)) given = tt
+
+pub failure_says_nothing : (asked : Option Asked) (given : ℕ) → LastSaysLong asked WriteFault given
+failure_says_nothing None given = tt
+failure_says_nothing (Some (OnFiles names t)) given = tt
+failure_says_nothing (Some (MakeThis plan)) given = tt

@@ -28,6 +28,7 @@ use core_defs::Core;
 use exit_status::Status;
 use frac128::Memory;
 use input_files::{Texts, Unfetched, fetched_texts};
+use run_watch::Watch;
 use smps_io::Shelf;
 use std::alloc::Global;
 use std::fs::Files;
@@ -73,13 +74,13 @@ impl Ran {
 }
 
 /// What a task comes to on its texts.
-fn come(alloc: Global, task: Task, texts: &Texts) -> Result<Answer, Memory>
+fn come<W: Watch>(alloc: Global, task: Task, texts: &Texts, watch: &mut W) -> Result<Answer, Memory>
     requires { AreWithin (texts_view texts.now) }
     ensures may { IfOk result (λ answer. MayCome task (texts_view texts.now) answer.status (found_text answer.found)) }
     ensures has { IfOk result (λ answer. HasTexts answer.status) }
 {
     match task {
-        Task::Solve(budget) => solved(alloc, texts, budget),
+        Task::Solve(budget) => solved(alloc, texts, budget, watch),
         Task::Check => checked(alloc, texts),
         Task::Table(sheet) => tabled(alloc, texts, sheet),
         Task::Show => shown(alloc, texts),
@@ -88,12 +89,18 @@ fn come(alloc: Global, task: Task, texts: &Texts) -> Result<Answer, Memory>
 }
 
 /// A run of a task on its texts.
-fn on_texts(alloc: Global, task: Task, names: FileNames, texts: Texts) -> Result<Ran, Memory>
+fn on_texts<W: Watch>(
+    alloc: Global,
+    task: Task,
+    names: FileNames,
+    texts: Texts,
+    watch: &mut W,
+) -> Result<Ran, Memory>
     requires { AreWithin (texts_view texts) }
     ensures may { IfOk result (λ ran. MayCome task (texts_view texts) ran.status (found_text ran.found)) }
     ensures has { IfOk result (λ ran. HasTexts ran.status) }
 {
-    match come(alloc, task, &texts) {
+    match come(alloc, task, &texts, watch) {
         Ok(answer) => Ok(Ran::of(answer, names, Some(texts))),
         Err(Memory) => Err(Memory),
     }
@@ -110,12 +117,13 @@ fn without_texts(alloc: Global, names: FileNames, status: Status) -> Result<Ran,
 }
 
 /// What a task on files comes to: fetches them first.
-fn on_files<R: Files, H: Shelf>(
+fn on_files<R: Files, H: Shelf, W: Watch>(
     rt: &R,
     alloc: Global,
     sources: &Sources<'_>,
     task: Task,
     shelf: &mut H,
+    watch: &mut W,
 ) -> Result<Ran, Memory>
     ensures may { IfOk result (λ ran.
         MayAnswerTask (H.content shelf.old) (sources_view sources.now) task ran.status (found_text ran.found)) }
@@ -130,7 +138,7 @@ fn on_files<R: Files, H: Shelf>(
 {
     let names = FileNames::of(alloc, sources)?;
     match fetched_texts(rt, alloc, shelf, sources) {
-        Ok(texts) => on_texts(alloc, task, names, texts),
+        Ok(texts) => on_texts(alloc, task, names, texts, watch),
         Err(Unfetched::Failed(kind)) => without_texts(alloc, names, Status::ReadFault(kind)),
         Err(Unfetched::TooLong(kind)) => without_texts(alloc, names, Status::TooLong(kind)),
         Err(Unfetched::Memory) => Err(Memory),
@@ -148,21 +156,29 @@ fn refused(alloc: Global) -> Result<Ran, Memory>
 }
 
 /// A run that makes a workload.
-fn making(alloc: Global, plan: Plan) -> Result<Ran, Memory>
+fn making<W: Watch>(alloc: Global, plan: Plan, watch: &mut W) -> Result<Ran, Memory>
     ensures { IfOk result (λ ran. MakesPlan plan ran.status (found_text ran.found)) }
 {
-    match made(alloc, plan) {
+    match made(alloc, plan, watch) {
         Ok(answer) => Ok(Ran::without_files(answer)),
         Err(Memory) => Err(Memory),
     }
 }
 
+/// Lets a watcher be quiet where the words ask for that.
+fn heed<W: Watch>(plain: &PlainWords, watch: &mut W) {
+    if plain.is_quiet() {
+        watch.be_quiet();
+    }
+}
+
 /// What the words and the files come to. Reads no file where the words aren't a command's, or the command takes none.
-pub(crate) fn answered<R: Files, H: Shelf>(
+pub(crate) fn answered<R: Files, H: Shelf, W: Watch>(
     rt: &R,
     alloc: Global,
     words: &[String],
     shelf: &mut H,
+    watch: &mut W,
 ) -> Result<Ran, Memory>
     ensures may { IfOk result (λ ran.
         MayAnswer (H.content shelf.old) (map string_bytes words.now) ran.status (found_text ran.found)) }
@@ -180,9 +196,10 @@ pub(crate) fn answered<R: Files, H: Shelf>(
     let Some(plain) = PlainWords::read(alloc, words)? else {
         return refused(alloc);
     };
+    heed(&plain, watch);
     match plain.command(alloc)? {
-        Command::OnFiles { sources, task } => on_files(rt, alloc, &sources, task, shelf),
-        Command::Make(plan) => making(alloc, plan),
+        Command::OnFiles { sources, task } => on_files(rt, alloc, &sources, task, shelf, watch),
+        Command::Make(plan) => making(alloc, plan, watch),
     }
 }
 

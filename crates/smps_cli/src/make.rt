@@ -19,6 +19,7 @@ use frac128::Memory;
 use input_files::{FILE_LIMIT, Texts};
 use program_files::read_program;
 use report_text::print_outcome;
+use run_watch::Watch;
 use scen_defs::{Program, Report};
 use smps_session::{Answered, StatedLimits, session};
 use std::alloc::Global;
@@ -28,7 +29,7 @@ use workload_maker::{Made, make};
 const BUDGET: u64 = 100_000;
 
 /// The answer for a plan: the text that is asked for, or the summary.
-pub(crate) fn made(alloc: Global, plan: Plan) -> Result<Answer, Memory>
+pub(crate) fn made<W: Watch>(alloc: Global, plan: Plan, watch: &mut W) -> Result<Answer, Memory>
     ensures { IfOk result (λ answer. MakesPlan plan answer.status (found_text answer.found)) }
 {
     let texts = make(alloc, plan.start, plan.stages, plan.branches, plan.size)?;
@@ -37,7 +38,7 @@ pub(crate) fn made(alloc: Global, plan: Plan) -> Result<Answer, Memory>
             status: Status::Done,
             found: Found::Page(page_of(texts, page)),
         }),
-        None => summed_up(alloc, plan, &texts_of(texts)),
+        None => summed_up(alloc, plan, &texts_of(texts), watch),
     }
 }
 
@@ -93,7 +94,12 @@ fn are_within(texts: &Texts) -> bool
 
 /// The answer for the texts of a workload: the summary, or their first fault, which never comes. That they are too long never comes
 /// either, and is answered as want of memory.
-fn summed_up(alloc: Global, plan: Plan, texts: &Texts) -> Result<Answer, Memory>
+fn summed_up<W: Watch>(
+    alloc: Global,
+    plan: Plan,
+    texts: &Texts,
+    watch: &mut W,
+) -> Result<Answer, Memory>
     requires { texts_view texts.now ≡ texts_of (workload plan) }
     ensures { IfOk result (λ answer. MaySumUp plan answer.status (found_text answer.found)) }
 {
@@ -101,7 +107,7 @@ fn summed_up(alloc: Global, plan: Plan, texts: &Texts) -> Result<Answer, Memory>
         return Err(Memory);
     }
     match read_program(alloc, texts) {
-        Ok(program) => solved(alloc, plan, texts, program),
+        Ok(program) => solved(alloc, plan, texts, program, watch),
         Err(unread) => stopped(alloc, unread),
     }
 }
@@ -124,7 +130,13 @@ fn reported(plan: Plan, program: Program, answered: Answered) -> Answer
 }
 
 /// The answer for the program of a workload: solves it.
-fn solved(alloc: Global, plan: Plan, texts: &Texts, program: Program) -> Result<Answer, Memory>
+fn solved<W: Watch>(
+    alloc: Global,
+    plan: Plan,
+    texts: &Texts,
+    program: Program,
+    watch: &mut W,
+) -> Result<Answer, Memory>
     requires texts { texts_view texts.now ≡ texts_of (workload plan) }
     requires means { MeansProgram (texts_view texts.now) (content program) }
     ensures { IfOk result (λ answer. PrintsSummary plan answer.status (found_text answer.found)) }
@@ -134,7 +146,7 @@ fn solved(alloc: Global, plan: Plan, texts: &Texts, program: Program) -> Result<
         solves: false,
         pivots: false,
     };
-    let answered = session(alloc, &program, BUDGET, BUDGET, stated)?;
+    let answered = session(alloc, &program, BUDGET, BUDGET, stated, watch)?;
     Ok(reported(plan, program, answered))
 }
 

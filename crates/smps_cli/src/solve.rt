@@ -16,26 +16,33 @@ use command_words::Budget;
 use exit_status::{is_open, open_status};
 use frac128::Memory;
 use input_files::Texts;
+use run_watch::Watch;
 use smps_session::{StatedLimits, Told, scripted};
 use std::alloc::Global;
 
 /// The answer for the texts of the files: the reports of the program that they mean, or their first fault.
-pub(crate) fn solved(alloc: Global, texts: &Texts, budget: Budget) -> Result<Answer, Memory>
+pub(crate) fn solved<W: Watch>(
+    alloc: Global,
+    texts: &Texts,
+    budget: Budget,
+    watch: &mut W,
+) -> Result<Answer, Memory>
     requires { AreWithin (texts_view texts.now) }
     ensures { IfOk result (λ answer. MayBeSolved budget (texts_view texts.now) answer.status (found_text answer.found)) }
 {
     match read_input(alloc, texts) {
-        Ok(mut input) => solved_input(alloc, texts, &mut input, budget),
+        Ok(mut input) => solved_input(alloc, texts, &mut input, budget, watch),
         Err(unread) => stopped(alloc, unread),
     }
 }
 
 /// The answer for the input of the texts: solves it for each SOLVE.
-fn solved_input(
+fn solved_input<W: Watch>(
     alloc: Global,
     texts: &Texts,
     input: &mut Input,
     budget: Budget,
+    watch: &mut W,
 ) -> Result<Answer, Memory>
     requires { IsInput (texts_view texts.now) input.old }
     ensures { IfOk result (λ answer. PrintsReports budget (texts_view texts.now) answer.status (found_text answer.found)) }
@@ -52,6 +59,7 @@ fn solved_input(
         budget.solves,
         budget.pivots,
         stated,
+        watch,
     )?;
     Ok(told(tolds))
 }

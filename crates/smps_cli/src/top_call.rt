@@ -7,6 +7,7 @@ use crate::found::Found;
 use crate::write::write_found;
 use exit_status::Status;
 use frac128::Memory;
+use run_watch::Watch;
 use smps_io::{Shelf, Sink, SinkFault};
 use std::alloc::Global;
 use std::fs::Files;
@@ -18,12 +19,13 @@ use std::fs::Files;
 /// A core file within the limit whose rows' ends fit into 128 bits ends with a report where neither the shelf
 /// nor the sink fails, unless memory is wanting. So each command ends with its whole output, of files within the limit that mean
 /// a program, a script for it, and reports with its names; but `flat` refuses a program that has no text.
-pub fn run<R: Files + Print, H: Shelf, K: Sink>(
+pub fn run<R: Files + Print, H: Shelf, K: Sink, W: Watch>(
     rt: &R,
     alloc: Global,
     words: &[String],
     shelf: &mut H,
     sink: &mut K,
+    watch: &mut W,
 ) -> Ran
     ensures { IsRun (map string_bytes words.now) (H.content shelf.old)
         (shelf_state (H.fetches shelf.old) (H.faults shelf.old) (H.given shelf.old))
@@ -31,7 +33,7 @@ pub fn run<R: Files + Print, H: Shelf, K: Sink>(
         (sink_state (K.written sink.old) (K.faults sink.old) (K.taken sink.old))
         (sink_state (K.written sink.new) (K.faults sink.new) (K.taken sink.new)) result.status }
 {
-    let ran = match answered(rt, alloc, words, shelf) {
+    let ran = match answered(rt, alloc, words, shelf, watch) {
         Ok(ran) => ran,
         Err(Memory) => {
             return Ran {

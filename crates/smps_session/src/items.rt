@@ -15,6 +15,7 @@ use edit_defs::{Act, Counts, Edit, Item};
 use frac128::Memory;
 use nested_method::Method;
 use pass_core::Budget;
+use run_watch::Watch;
 use scen_defs::Program;
 use std::alloc::Global;
 use whole_guess::WholeHint;
@@ -34,12 +35,13 @@ pub(crate) struct Progress {
 impl Progress {
     /// Applies an edit in place, after so many solves were committed since the item before it, or where nothing is left to find. The
     /// method goes on with the program after it.
-    fn change(
+    fn change<W: Watch>(
         &mut self,
         alloc: Global,
         program: &mut Program,
         edit: &Edit,
         work: u64,
+        watch: &mut W,
     ) -> Result<(), Memory>
         requires allowed { IsAllowed (content program.old) edit.now }
         requires counted { self.old.counted ≡ counts (content program.old).nodes }
@@ -55,18 +57,19 @@ impl Progress {
             → IsUnderWay budget start came (content program.old) self.old.method
             → OnOk result (IsUnderWay budget start (came + 1) (content program.new) self.new.method) }
     {
-        self.method.work(alloc, program, work)?;
+        self.method.work(alloc, program, work, watch)?;
         self.method.edit(alloc, program, &mut self.counted, edit)
     }
 
     /// Tells the report of the program as it is.
-    fn tell(
+    fn tell<W: Watch>(
         &mut self,
         alloc: Global,
         program: &Program,
         budget: Budget,
         stated: StatedLimits,
         tolds: &mut Vec<Told>,
+        watch: &mut W,
     ) -> Result<(), Memory>
         requires stands { StandsOn (content program.now) budget self.old.method }
         requires cleared { HasFewNodes (content program.now) → StandsCleared self.old.method }
@@ -88,6 +91,7 @@ impl Progress {
             budget,
             stated,
             &mut self.hint,
+            watch,
         )?;
         let next = self.number.checked_add(1).ok_or(Memory)?;
         tolds.push(told)?;
@@ -96,7 +100,7 @@ impl Progress {
     }
 
     /// Takes an item: an edit, or a SOLVE, of which a report is told.
-    pub(crate) fn take(
+    pub(crate) fn take<W: Watch>(
         &mut self,
         alloc: Global,
         program: &mut Program,
@@ -104,6 +108,7 @@ impl Progress {
         budget: Budget,
         stated: StatedLimits,
         tolds: &mut Vec<Told>,
+        watch: &mut W,
     ) -> Result<(), Memory>
         requires allowed { AreAllowed (content program.old) (item.now ∷ []) }
         requires counted { self.old.counted ≡ counts (content program.old).nodes }
@@ -120,8 +125,8 @@ impl Progress {
             (course_at (content program.new) self.new.method (came + 1) self.new.number tolds.new.items)) }
     {
         match &item.act {
-            Act::Change(edit) => self.change(alloc, program, edit, item.work),
-            Act::Solve => self.tell(alloc, program, budget, stated, tolds),
+            Act::Change(edit) => self.change(alloc, program, edit, item.work, watch),
+            Act::Solve => self.tell(alloc, program, budget, stated, tolds, watch),
         }
     }
 }

@@ -13,6 +13,7 @@ use frac128::Memory;
 use nested_method::Method;
 use pass_core::Budget;
 use proved_report::report;
+use run_watch::Watch;
 use scen_defs::{Finding, Program, Report};
 use std::alloc::Global;
 use whole_guess::WholeHint;
@@ -24,12 +25,13 @@ use whole_guess::WholeHint;
 /// of that solve, from 1, `OpenPassed` an operation that passes 128 bits and where it stands. Where the method leaves the report open
 /// for an operation, or for solves or pivots whose number isn't stated, the whole program is tried at once: a claim about it that
 /// stands its test is reported in place of the method's own report, which stays where none does.
-pub fn session(
+pub fn session<W: Watch>(
     alloc: Global,
     program: &Program,
     solves: u64,
     pivots: u64,
     stated: StatedLimits,
+    watch: &mut W,
 ) -> Result<Answered, Memory>
     ensures number { IfOk result (λ answered. answered.report.number ≡ 1) }
     ensures counts { IfOk result (λ answered. HasCounts (view_of (content program.now)) answered.report) }
@@ -42,19 +44,20 @@ pub fn session(
 {
     let budget = Budget { solves, pivots };
     let mut method = Method::begin(alloc, program, budget)?;
-    let own = reported(alloc, program, &mut method, 1, budget)?;
+    let own = reported(alloc, program, &mut method, 1, budget, watch)?;
     let mut hint = WholeHint::empty(alloc);
-    own_or_whole(alloc, program, own, budget, stated, &mut hint)
+    own_or_whole(alloc, program, own, budget, stated, &mut hint, watch)
 }
 
 /// The report of what the method finds of the program, where nothing is left to find. Where it is left open though no operation passed, no
 /// pivots ended and solves are left, which never comes of a correct method, the program is begun anew.
-pub(crate) fn reported(
+pub(crate) fn reported<W: Watch>(
     alloc: Global,
     program: &Program,
     method: &mut Method,
     number: u32,
     budget: Budget,
+    watch: &mut W,
 ) -> Result<Report, Memory>
     ensures number { IfOk result (λ report. report.number ≡ number) }
     ensures counts { IfOk result (HasCounts (view_of (content program.now))) }
@@ -72,13 +75,13 @@ pub(crate) fn reported(
         → StandsOn p budget method.old → IsUnderWay budget start came p method.old
         → OnOk result (IsUnderWay budget start (came + 1) p method.new) }
 {
-    let mut report = found(alloc, program, method, number, budget)?;
+    let mut report = found(alloc, program, method, number, budget, watch)?;
     for _ in 0..budget.solves {
         if !is_unfinished(&report, method) {
             break;
         }
         method.start_over(alloc, program)?;
-        report = found(alloc, program, method, number, budget)?;
+        report = found(alloc, program, method, number, budget, watch)?;
     }
     method.close();
     Ok(report)
@@ -95,12 +98,13 @@ fn is_unfinished(report: &Report, method: &Method) -> bool
 }
 
 /// The report of what the method finds of the program.
-fn found(
+fn found<W: Watch>(
     alloc: Global,
     program: &Program,
     method: &mut Method,
     number: u32,
     budget: Budget,
+    watch: &mut W,
 ) -> Result<Report, Memory>
     ensures number { IfOk result (λ report. report.number ≡ number) }
     ensures counts { IfOk result (HasCounts (view_of (content program.now))) }
@@ -112,7 +116,7 @@ fn found(
     ensures shows { (start : ProgramOf) (came : ℕ) → let p = content program.now in HasFewNodes p
         → StandsOn p budget method.old → IfOk result (ShowsFound budget start came program.now method.old method.new) }
 {
-    let found = method.find(alloc, program)?;
+    let found = method.find(alloc, program, watch)?;
     report(
         alloc,
         program,

@@ -15,6 +15,7 @@ use edit_defs::{Item, Script};
 use frac128::Memory;
 use nested_method::Method;
 use pass_core::Budget;
+use run_watch::Watch;
 use scen_defs::Program;
 use std::alloc::Global;
 use whole_guess::WholeHint;
@@ -39,13 +40,14 @@ impl Progress {
     }
 
     /// The reports of all items, one behind the other; before them nothing was done of the program.
-    fn reports(
+    fn reports<W: Watch>(
         &mut self,
         alloc: Global,
         program: &mut Program,
         items: &[Item],
         budget: Budget,
         stated: StatedLimits,
+        watch: &mut W,
     ) -> Result<Vec<Told>, Memory>
         requires allowed { AreAllowed (content program.old) items.now }
         requires counted { self.old.counted ≡ counts (content program.old).nodes }
@@ -57,7 +59,7 @@ impl Progress {
         let mut tolds = Vec::new(alloc);
         let mut rest = items;
         while let [item, behind @ ..] = rest {
-            self.take(alloc, program, item, budget, stated, &mut tolds)?;
+            self.take(alloc, program, item, budget, stated, &mut tolds, watch)?;
             rest = behind;
         }
         Ok(tolds)
@@ -67,18 +69,26 @@ impl Progress {
 /// Solves a program on a tree by the nested method after edits, once for each SOLVE of a script. A report may take so many solves of
 /// nodes at most, and so many pivots in each. The cuts that an edit leaves true are kept over it. What was found is tested before it is
 /// told, and the whole program is tried where the method had stopped, as by `session`; the program is then as the edits left it.
-pub fn scripted(
+pub fn scripted<W: Watch>(
     alloc: Global,
     program: &mut Program,
     script: &Script,
     solves: u64,
     pivots: u64,
     stated: StatedLimits,
+    watch: &mut W,
 ) -> Result<Vec<Told>, Memory>
     requires { AreAllowed (content program.old) script.now.items.items }
     ensures { let budget : BudgetOf = record { solves = solves; pivots = pivots } in
         IfOk result (λ tolds. IsScripted budget stated (content program.old) script.now.items.items tolds.items) }
 {
     let budget = Budget { solves, pivots };
-    Progress::begin(alloc, program, budget)?.reports(alloc, program, &script.items, budget, stated)
+    Progress::begin(alloc, program, budget)?.reports(
+        alloc,
+        program,
+        &script.items,
+        budget,
+        stated,
+        watch,
+    )
 }

@@ -9,10 +9,11 @@ ghost use Rattle.smps_session.specs.Told.{IsTold};
 
 use crate::running::reported;
 use crate::whole::{StatedLimits, own_or_whole};
-use frac128::Memory;
+use frac128::{Frac, Memory};
 use nested_method::Method;
 use pass_core::Budget;
 use report_text::print_report;
+use run_watch::Watch;
 use scen_defs::{Finding, Program, Report};
 use std::alloc::Global;
 use whole_guess::WholeHint;
@@ -23,6 +24,9 @@ pub struct Told {
     /// Its text, all of it.
     pub text: Vec<u8>,
     pub finding: Finding,
+    /// The ends of the least cost that it states.
+    pub lower: Option<Frac>,
+    pub upper: Option<Frac>,
     /// Whether it tells a claim about the whole program, after the method had stopped.
     pub by_whole: bool,
 }
@@ -44,13 +48,15 @@ fn printed(
     Ok(Told {
         text,
         finding: report.finding,
+        lower: report.lower,
+        upper: report.upper,
         by_whole,
     })
 }
 
 /// Tells what the method finds of the program, where nothing is left to find, or what the whole program shows where the method had stopped.
 /// The method goes on as it is without that.
-pub(crate) fn told_one(
+pub(crate) fn told_one<W: Watch>(
     alloc: Global,
     program: &Program,
     method: &mut Method,
@@ -58,6 +64,7 @@ pub(crate) fn told_one(
     budget: Budget,
     stated: StatedLimits,
     hint: &mut WholeHint,
+    watch: &mut W,
 ) -> Result<Told, Memory>
     requires stands { StandsOn (content program.now) budget method.old }
     requires cleared { HasFewNodes (content program.now) → StandsCleared method.old }
@@ -68,7 +75,7 @@ pub(crate) fn told_one(
     ensures way { (start : ProgramOf) (came : ℕ) → let p = content program.now in IsUnderWay budget start came p method.old
         → OnOk result (IsUnderWay budget start (came + 1) p method.new) }
 {
-    let own = reported(alloc, program, method, number, budget)?;
-    let answered = own_or_whole(alloc, program, own, budget, stated, hint)?;
+    let own = reported(alloc, program, method, number, budget, watch)?;
+    let answered = own_or_whole(alloc, program, own, budget, stated, hint, watch)?;
     printed(alloc, program, &answered.report, answered.by_whole)
 }

@@ -10,6 +10,7 @@ ghost use Rattle.smps_session.specs.Whole.{asks_whole, isnt_open, TellsWhole, Is
 use frac128::Memory;
 use pass_core::Budget;
 use proved_report::{Open, report};
+use run_watch::Watch;
 use scen_defs::{Finding, Place, Program, Report};
 use std::alloc::Global;
 use whole_guess::{WholeHint, guessed_claim};
@@ -89,13 +90,14 @@ fn whole(
 /// The method's own report of the program, or that of a claim about the whole program, where the own one is left open since an operation
 /// passed, or since solves or pivots have ended whose number the words don't state. A claim whose test leaves its report open changes
 /// nothing.
-pub(crate) fn own_or_whole(
+pub(crate) fn own_or_whole<W: Watch>(
     alloc: Global,
     program: &Program,
     own: Report,
     budget: Budget,
     stated: StatedLimits,
     hint: &mut WholeHint,
+    watch: &mut W,
 ) -> Result<Answered, Memory>
     requires counts { HasCounts (view_of (content program.now)) own }
     requires names { ListsHaveNames program.now own }
@@ -115,6 +117,7 @@ pub(crate) fn own_or_whole(
             by_whole: false,
         });
     }
+    watch.see_whole();
     match whole(alloc, program, own.number, budget, hint)? {
         Some(report) => Ok(Answered {
             report,

@@ -8,33 +8,39 @@ ghost use Rattle.smps_cli.specs.Runs.{shelf_state, sink_state};
 ghost use Rattle.tidzgheba.specs.Ending.{EndsOn, EndsWith};
 
 use run_notes::{MEMORY, NOT_TEXT, UNEXPLAINED, explanation};
+use run_watch::Watch;
 use smps_cli::{Ran, Status, run};
 use smps_io::{RealShelf, RealSink, Shelf, Sink};
 use std::alloc::{AllocError, Global};
 use std::env::Args;
 use std::fs::Files;
+use std::io::IsTerminal;
 use std::process::ExitCode;
 use std::{env, io};
+use watch_lines::Watcher;
 
 /// Runs the words of the process and ends with the number of the status to which they come.
 fn main(rt: HostRuntime) -> ExitCode {
+    let is_read = rt.stderr().is_terminal();
     ExitCode::from(ended(
         &rt,
         rt.alloc(),
         env::args(&rt),
         &mut RealShelf::new(rt.alloc()),
         &mut RealSink::new(),
+        &mut Watcher::new(&rt, rt.alloc(), is_read),
     ))
 }
 
 /// Runs the words behind the program's own name over a shelf and a sink; no words where one of them isn't UTF-8. Gives the number of the
 /// status; standard error says what it means where the output doesn't say all.
-fn ended<R: Files + Print + Eprint, H: Shelf, K: Sink>(
+fn ended<R: Files + Print + Eprint, H: Shelf, K: Sink, W: Watch>(
     rt: &R,
     alloc: Global,
     arguments: io::Result<Args>,
     shelf: &mut H,
     sink: &mut K,
+    watch: &mut W,
 ) -> u8
     ensures { EndsOn arguments (H.content shelf.old)
         (shelf_state (H.fetches shelf.old) (H.faults shelf.old) (H.given shelf.old))
@@ -44,13 +50,13 @@ fn ended<R: Files + Print + Eprint, H: Shelf, K: Sink>(
 {
     match arguments {
         Ok(arguments) => match words_of(alloc, arguments) {
-            Ok(words) => ended_so(rt, alloc, behind_first(&words), shelf, sink),
+            Ok(words) => ended_so(rt, alloc, behind_first(&words), shelf, sink, watch),
             Err(AllocError) => unread(rt),
         },
         Err(error) if error.kind() == io::ErrorKind::OutOfMemory => unread(rt),
         Err(_) => {
             let _ = rt.eprint(NOT_TEXT);
-            ended_silently(rt, alloc, &[], shelf, sink)
+            ended_silently(rt, alloc, &[], shelf, sink, watch)
         }
     }
 }
@@ -85,12 +91,13 @@ fn unread<R: Eprint>(rt: &R) -> u8
 }
 
 /// Runs the words; standard error says what their status means where the output doesn't say all.
-fn ended_so<R: Files + Print + Eprint, H: Shelf, K: Sink>(
+fn ended_so<R: Files + Print + Eprint, H: Shelf, K: Sink, W: Watch>(
     rt: &R,
     alloc: Global,
     words: &[String],
     shelf: &mut H,
     sink: &mut K,
+    watch: &mut W,
 ) -> u8
     ensures { EndsWith (map string_bytes words.now) (H.content shelf.old)
         (shelf_state (H.fetches shelf.old) (H.faults shelf.old) (H.given shelf.old))
@@ -98,18 +105,20 @@ fn ended_so<R: Files + Print + Eprint, H: Shelf, K: Sink>(
         (sink_state (K.written sink.old) (K.faults sink.old) (K.taken sink.old))
         (sink_state (K.written sink.new) (K.faults sink.new) (K.taken sink.new)) result }
 {
-    let ran = run(rt, alloc, words, shelf, sink);
+    let ran = run(rt, alloc, words, shelf, sink, watch);
+    watch.see_end();
     tell(rt, alloc, words, &ran);
     ran.status.number()
 }
 
 /// Runs words of which nothing more is said.
-fn ended_silently<R: Files + Print, H: Shelf, K: Sink>(
+fn ended_silently<R: Files + Print, H: Shelf, K: Sink, W: Watch>(
     rt: &R,
     alloc: Global,
     words: &[String],
     shelf: &mut H,
     sink: &mut K,
+    watch: &mut W,
 ) -> u8
     ensures { EndsWith (map string_bytes words.now) (H.content shelf.old)
         (shelf_state (H.fetches shelf.old) (H.faults shelf.old) (H.given shelf.old))
@@ -117,7 +126,8 @@ fn ended_silently<R: Files + Print, H: Shelf, K: Sink>(
         (sink_state (K.written sink.old) (K.faults sink.old) (K.taken sink.old))
         (sink_state (K.written sink.new) (K.faults sink.new) (K.taken sink.new)) result }
 {
-    let ran = run(rt, alloc, words, shelf, sink);
+    let ran = run(rt, alloc, words, shelf, sink, watch);
+    watch.see_end();
     ran.status.number()
 }
 

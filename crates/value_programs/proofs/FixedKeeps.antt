@@ -3,7 +3,7 @@ use Rattle.std.proofs.Common.{◌≡◌, ℕ, zero, suc, ◌<◌, ◌^◌, Bool,
 use Rattle.std.proofs.Common.{refl, sym, ap, ap₂, subst, ◌∙◌}
 use Rattle.rationals.specs.Rational.{le_refl_ℚ}
 use Rattle.rationals.specs.Choices.{pick}
-use Rattle.rationals.specs.Sparse.{Entry, coefficient}
+use Rattle.rationals.specs.Sparse.{Entry}
 use Rattle.scen_defs.specs.declared.report.Kind.TheVariants.{Cost}
 use Rattle.scen_defs.specs.declared.program.Column.{Column}
 use Rattle.scen_defs.specs.declared.program.NodeRow.{NodeRow}
@@ -11,42 +11,43 @@ use Rattle.scen_defs.specs.Lists.{Each, passes_at}
 use Rattle.scen_defs.specs.Program.{Node, Scenario, Program, node_at}
 use Rattle.scen_defs.specs.Valid.{IsProgram, HasParent, Follows, FitsColumn, FitsRow, FitsNode, FitsScenario, AreNames}
 use Rattle.scen_defs.proofs.SumLaws.{each-map}
+use Rattle.scen_defs.specs.Values.{At, at}
 use Rattle.scen_nodes.specs.Derived.{derived, derived_column, derived_place, derived_row}
 use Rattle.value_programs.specs.Fixed.{fixed_program, held_at, held_from}
 
-abbrev held : List Entry → ℕ → Column → Column
+abbrev held : List At → ℕ → Column → Column
 held v j c = pick (eqb c.stage 0) (held_at v j c) c
 
 -- ---- a column that is held has the same name and stage, and bounds in order
-held_stage : (v : List Entry) (j : ℕ) (c : Column) → (held v j c).stage ≡ c.stage
+held_stage : (v : List At) (j : ℕ) (c : Column) → (held v j c).stage ≡ c.stage
 held_stage v j c = go (eqb c.stage 0)
   where
     go : (b : Bool) → (pick b (held_at v j c) c).stage ≡ c.stage
     go true = refl
     go false = refl
 
-held_name : (v : List Entry) (j : ℕ) (c : Column) → (held v j c).name ≡ c.name
+held_name : (v : List At) (j : ℕ) (c : Column) → (held v j c).name ≡ c.name
 held_name v j c = go (eqb c.stage 0)
   where
     go : (b : Bool) → (pick b (held_at v j c) c).name ≡ c.name
     go true = refl
     go false = refl
 
-held_long : (v : List Entry) (j : ℕ) (cs : List Column) → length (held_from v j cs) ≡ length cs
+held_long : (v : List At) (j : ℕ) (cs : List Column) → length (held_from v j cs) ≡ length cs
 held_long v j [] = refl
 held_long v j (c ∷ cs) = ap suc (held_long v (suc j) cs)
 
-held_names : (v : List Entry) (j : ℕ) (cs : List Column) → map (λ (c : Column). c.name) (held_from v j cs) ≡ map (λ (c : Column). c.name) cs
+held_names : (v : List At) (j : ℕ) (cs : List Column) → map (λ (c : Column). c.name) (held_from v j cs) ≡ map (λ (c : Column). c.name) cs
 held_names v j [] = refl
 held_names v j (c ∷ cs) = ap₂ (λ n l. n ∷ l) (held_name v j c) (held_names v (suc j) cs)
 
-held_passes : (test : ℕ → Bool) (v : List Entry) (j k : ℕ) (cs : List Column)
+held_passes : (test : ℕ → Bool) (v : List At) (j k : ℕ) (cs : List Column)
     → passes_at (λ (c : Column). test c.stage) k (held_from v j cs) ≡ passes_at (λ (c : Column). test c.stage) k cs
 held_passes test v j k [] = refl
 held_passes test v j zero (c ∷ cs) = ap test (held_stage v j c)
 held_passes test v j (suc k) (c ∷ cs) = held_passes test v (suc j) k cs
 
-module _ (p : Program) (v : List Entry) (i : IsProgram p) where
+module _ (p : Program) (v : List At) (i : IsProgram p) where
   abbrev q : Program
   q = fixed_program p v
 
@@ -54,7 +55,7 @@ module _ (p : Program) (v : List Entry) (i : IsProgram p) where
   column j c h = go (eqb c.stage 0)
     where
       go : (b : Bool) → FitsColumn q (pick b (held_at v j c) c)
-      go true = record { stage = h.stage; in_order = le_refl_ℚ (coefficient v j) }
+      go true = record { stage = h.stage; in_order = le_refl_ℚ (at v 0 j) }
       go false = record { stage = h.stage; in_order = h.in_order }
 
   columns : (j : ℕ) (cs : List Column) → Each (FitsColumn p) cs → Each (FitsColumn q) (held_from v j cs)
@@ -124,10 +125,10 @@ same_program : (p : Program) → derived Cost p ≡ record p { columns = map (de
 same_program p = ap (λ nodes. let q : Program = record p { columns = map (derived_column Cost) p.columns; nodes = nodes } in q) (same_nodes p.nodes)
 
 -- a copy with other columns
-pub fixed_is : (p copy : Program) (v : List Entry) (columns : List Column) → copy ≡ derived Cost p → columns ≡ held_from v 0 p.columns → record copy { columns = columns } ≡ fixed_program p v
+pub fixed_is : (p copy : Program) (v : List At) (columns : List Column) → copy ≡ derived Cost p → columns ≡ held_from v 0 p.columns → record copy { columns = columns } ≡ fixed_program p v
 fixed_is p copy v columns e h =
     ap (λ (x : Program). let y : Program = record x { columns = columns } in y) (e ∙ same_program p)
     ∙ ap (λ l. let y : Program = record p { columns = l } in y) h
 
-pub fixed_parts : (p copy : Program) (v : List Entry) (columns : List Column) → IsProgram p → copy ≡ derived Cost p → columns ≡ held_from v 0 p.columns → IsProgram (record copy { columns = columns })
+pub fixed_parts : (p copy : Program) (v : List At) (columns : List Column) → IsProgram p → copy ≡ derived Cost p → columns ≡ held_from v 0 p.columns → IsProgram (record copy { columns = columns })
 fixed_parts p copy v columns i e h = subst IsProgram (sym (fixed_is p copy v columns e h)) (fixed_program_keeps p v i)

@@ -4,14 +4,14 @@ ghost use Rattle.rationals.specs.Choices.{pick};
 ghost use Rattle.scen_defs.specs.Program.{content};
 ghost use Rattle.value_programs.specs.Fixed.{fixed_program, held_at, held_from};
 
-use frac128::{Form, Memory};
+use frac128::Memory;
 use scen_copies::copied_name;
-use scen_defs::{Column, Kind, Program};
+use scen_defs::{Column, Kind, Program, Values};
 use scen_nodes::derive;
 use std::alloc::Global;
 
-/// A column with this number; one of the first period with both bounds at its value.
-fn held_column(alloc: Global, values: &Form, number: u64, column: &Column) -> Result<Column, Memory>
+/// A column with this number; one of the first period with both bounds at its value at the first node.
+fn held_column(alloc: Global, values: &Values, number: u64, column: &Column) -> Result<Column, Memory>
     ensures { IfOk result (λ held. held ≡ pick (eqb column.now.stage 0) (held_at values.now number column.now) column.now) }
 {
     let name = copied_name(alloc, &column.name)?;
@@ -19,7 +19,7 @@ fn held_column(alloc: Global, values: &Form, number: u64, column: &Column) -> Re
     let mut lower = column.lower;
     let mut upper = column.upper;
     if stage == 0 {
-        let value = values.get(number);
+        let value = values.get(0, number);
         lower = Some(value);
         upper = Some(value);
     }
@@ -32,7 +32,7 @@ fn held_column(alloc: Global, values: &Form, number: u64, column: &Column) -> Re
 }
 
 /// Columns, those of the first period with both bounds at their values.
-fn held_columns(alloc: Global, values: &Form, columns: &[Column]) -> Result<Vec<Column>, Memory>
+fn held_columns(alloc: Global, values: &Values, columns: &[Column]) -> Result<Vec<Column>, Memory>
     ensures { IfOk result (λ all. all.items ≡ held_from values.now 0 columns.now) }
 {
     let mut all = Vec::new(alloc);
@@ -43,8 +43,9 @@ fn held_columns(alloc: Global, values: &Form, columns: &[Column]) -> Result<Vec<
     Ok(all)
 }
 
-/// The program with both bounds of each column of the first period at its value; columns that the values don't have are held at 0.
-pub fn fixed_program(alloc: Global, program: &Program, values: &Form) -> Result<Program, Memory>
+/// The program with both bounds of each column of the first period at its value at the first node, which is 0 where the values don't
+/// have it.
+pub fn fixed_program(alloc: Global, program: &Program, values: &Values) -> Result<Program, Memory>
     ensures { IfOk result (λ held. content held ≡ fixed_program (content program.now) values.now) }
 {
     let columns = held_columns(alloc, values, &program.columns)?;

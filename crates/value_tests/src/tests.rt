@@ -1,5 +1,6 @@
 // The least costs of programs of scenarios, of means, and with a fixed first period.
 use frac128::{Form, Frac, Memory, parse};
+use run_watch::Unwatched;
 use scen_defs::{Finding, Program, Report};
 use scen_tree::Tree;
 use smps_session::{StatedLimits, session};
@@ -117,7 +118,7 @@ fn least_cost(alloc: Global, program: &Program) -> Result<Frac, Fail> {
         solves: false,
         pivots: false,
     };
-    let answered = session(alloc, program, 100_000, 100_000, stated)?;
+    let answered = session(alloc, program, 100_000, 100_000, stated, &mut Unwatched)?;
     Ok(optimum(&answered.report).ok_or("no optimum")?)
 }
 

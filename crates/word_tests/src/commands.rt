@@ -7,7 +7,7 @@ use std::process::Abort;
 use std::test::Fail;
 
 /// In each line the words, and after the bar what they ask for: the command; of a task on files the names of the files, and of
-/// `solve` the solves and the pivots, in brackets where the words don't state them; of `make` its numbers and the text that is
+/// `solve` and `value` the solves and the pivots, in brackets where the words don't state them; of `make` its numbers and the text that is
 /// printed. Nothing where they are refused.
 const WORDS: &str = "\
 solve --core F|solve F - - - - (100000) (100000)
@@ -71,9 +71,31 @@ flat --core F --wholes|
 solve --core F --whole|
 show --whole --core F|
 flat --time T|
+solve --core F --quiet|solve F - - - - (100000) (100000)
+solve --quiet --core=F --solves 7|solve F - - - - 7 (100000)
+solve --core F --quiet=yes --time T|solve F T - - - (100000) (100000)
+solve --core F --quiet=no|
+solve --core F --quiet no|
+solve --core F --quiet --quiet|
+check --core F --report R --quiet|
+show --core F --quiet|
+value --quiet --core F --time T|value F T - - - (100000) (100000)
+value --core F --time T --quiet=|
 flat --core F --report R|
 flat --core F --solves 3|
 flat --core F --stoch S|
+value --core F --time T|value F T - - - (100000) (100000)
+value --stoch=S --time=T --core=F --pivots 7|value F T S - - (100000) 7
+value --core F --time T --solves 3 --workers 1|value F T - - - 3 (100000)
+value|
+value --core F|
+value --time T|
+value --core F --stoch S|
+value --core F --time T --edits E|
+value --core F --time T --report R|
+value --core F --time T --workers 2|
+value --core F --time T --solves 0|
+value --core F --time T --whole|
 check --core F --report R|check F - - - R
 check --report=R --edits=E --stoch=S --time=T --core=F|check F T S E R
 check --core F|
@@ -133,12 +155,13 @@ fn told(alloc: Global, command: Command<'_>) -> Result<String, AllocError> {
 fn told_on_files(alloc: Global, sources: Sources<'_>, task: Task) -> Result<String, AllocError> {
     let files = files(alloc, sources)?;
     match task {
-        Task::Solve(budget) => told_budget(alloc, files.as_str(), budget),
+        Task::Solve(budget) => told_budget(alloc, "solve", files.as_str(), budget),
         Task::Check => format!(in alloc; "check {files}"),
         Task::Table(sheet) => told_sheet(alloc, files.as_str(), sheet),
         Task::Show => format!(in alloc; "show {files}"),
         Task::Flat(Extent::Core) => format!(in alloc; "flat {files}"),
         Task::Flat(Extent::Whole) => format!(in alloc; "flat {files} whole"),
+        Task::Value(budget) => told_budget(alloc, "value", files.as_str(), budget),
     }
 }
 
@@ -159,10 +182,15 @@ fn form_word(form: SheetForm) -> &'static str {
     }
 }
 
-fn told_budget(alloc: Global, files: &str, budget: Budget) -> Result<String, AllocError> {
+fn told_budget(
+    alloc: Global,
+    verb: &str,
+    files: &str,
+    budget: Budget,
+) -> Result<String, AllocError> {
     let solves = told_number(alloc, budget.solves, budget.solves_stated)?;
     let pivots = told_number(alloc, budget.pivots, budget.pivots_stated)?;
-    format!(in alloc; "solve {files} {solves} {pivots}")
+    format!(in alloc; "{verb} {files} {solves} {pivots}")
 }
 
 fn told_number(alloc: Global, number: u64, is_stated: bool) -> Result<String, AllocError> {

@@ -8,7 +8,7 @@ use Rattle.smps_cli.proofs.Few.{few_nodes}
 use Rattle.smps_cli.proofs.make.solved.Goals as goal
 
 pub returns : goal.returns
-returns c = record {
+returns g c = record {
   program = c.args.program;
   means = subst (λ (texts : Texts). MeansProgram texts (content c.args.program)) c.requires.texts c.requires.means;
   widths = meant_have_widths (texts_view c.args.texts.now) (content c.args.program) c.requires.means;

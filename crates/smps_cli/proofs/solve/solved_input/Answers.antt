@@ -6,7 +6,7 @@ use Rattle.smps_cli.proofs.OnTrees.{on_tree}
 use Rattle.smps_cli.proofs.solve.solved_input.Goals as goal
 
 pub returns : goal.returns
-returns c = record {
+returns g c = record {
   program = content c.args.input.now.program;
   means = c.requires.means;
   few = few_nodes (texts_view c.args.texts.now) (content c.args.input.now.program) c.requires.means;

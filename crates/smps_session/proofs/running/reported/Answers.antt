@@ -7,7 +7,7 @@ use Rattle.smps_session.proofs.WayLemmas.{many_items, way_told}
 use Rattle.smps_session.proofs.running.reported.Goals as goal
 
 pub loop-init : goal.loop-init
-loop-init c = record {
+loop-init g c = record {
   number = c.in_ok-report.ensures.number;
   counts = c.in_ok-report.ensures.counts;
   names = c.in_ok-report.ensures.names;
@@ -18,7 +18,7 @@ loop-init c = record {
 }
 
 pub loop-preserved : goal.loop-preserved
-loop-preserved c =
+loop-preserved g c =
     let p = content c.args.program.now in
     let budget = c.args.budget in
     let left : (tells_solves c.loop.report.finding ≡ true) × (is_spent c.loop.method ≡ false) =
@@ -42,10 +42,10 @@ loop-preserved c =
     }
 
 pub returns-clause-stands : goal.returns-clause-stands
-returns-clause-stands c = λ stands. c.close.ensures.stays (content c.args.program.now) c.args.budget (c.loop.invariant.stands stands)
+returns-clause-stands g c = λ stands. c.close.ensures.stays (content c.args.program.now) c.args.budget (c.loop.invariant.stands stands)
 
 pub returns-clause-comes : goal.returns-clause-comes
-returns-clause-comes c = λ start came few stands rests way.
+returns-clause-comes g c = λ start came few stands rests way.
     let p = content c.args.program.now in
     let under = c.loop.invariant.under_way start came few stands way in
     comes_of c.args.budget start came c.args.program.now c.args.method.now c.loop.method c.close.new.self c.loop.report few
@@ -57,12 +57,12 @@ returns-clause-comes c = λ start came few stands rests way.
     ]) c.close.ensures.after
 
 pub returns-clause-cleared : goal.returns-clause-cleared
-returns-clause-cleared c = λ few stands rests.
+returns-clause-cleared g c = λ few stands rests.
     let p = content c.args.program.now in
     tells_cleared c.args.budget p (2 ^ 20) c.args.program.now c.args.method.now c.loop.method c.close.new.self c.loop.report rests
     (c.loop.invariant.under_way p (2 ^ 20) few stands (many_items c.args.budget p p c.args.method.now)).0 c.close.ensures.after
 
 pub returns-clause-way : goal.returns-clause-way
-returns-clause-way c = λ start came few stands way.
+returns-clause-way g c = λ start came few stands way.
     way_told c.args.budget start came c.args.program.now c.args.method.now c.loop.method c.close.new.self c.loop.report
     (c.loop.invariant.stands stands) (c.loop.invariant.under_way start came few stands way).0 c.close.ensures.after way

@@ -10,7 +10,7 @@ use Rattle.smps_session.specs.Comes.{ShowsFound, IsUnderWay}
 use Rattle.smps_session.proofs.running.reported.Given as goal
 
 abbrev pub invariant-loop : goal.invariant-loop
-invariant-loop l = record {
+invariant-loop g l = record {
   number : l.report.number ≡ l.number;
   counts : HasCounts (view_of (content l.program)) l.report;
   names : ListsHaveNames l.program l.report;

@@ -6,15 +6,15 @@ use Rattle.smps_session.proofs.WayLemmas.{begins_way}
 use Rattle.smps_session.proofs.running.session.Goals as goal
 
 pub own_or_whole-requires-clause-truth : goal.own_or_whole-requires-clause-truth
-own_or_whole-requires-clause-truth c = c.in_ok-own.ensures.truth c.in_ok-method.ensures.stands
+own_or_whole-requires-clause-truth g c = c.in_ok-own.ensures.truth c.in_ok-method.ensures.stands
 
 pub returns-clause-number : goal.returns-clause-number
-returns-clause-number c =
+returns-clause-number g c =
     subst (λ (n : ℕ). IfOk c.own_or_whole.result (λ answered. answered.report.number ≡ n)) c.in_ok-own.ensures.number
     c.own_or_whole.ensures.number
 
 pub returns-clause-comes : goal.returns-clause-comes
-returns-clause-comes c = λ few.
+returns-clause-comes g c = λ few.
     let p = content c.args.program.now in
     let i = c.args.program.now.keeps in
     let begins = c.in_ok-method.ensures.begins few in

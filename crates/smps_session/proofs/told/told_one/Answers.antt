@@ -3,10 +3,10 @@ use Rattle.smps_session.proofs.ToldLemmas.{tells, on_ok}
 use Rattle.smps_session.proofs.told.told_one.Goals as goal
 
 pub own_or_whole-requires-clause-truth : goal.own_or_whole-requires-clause-truth
-own_or_whole-requires-clause-truth c = c.in_ok-own.ensures.truth c.requires.stands
+own_or_whole-requires-clause-truth g c = c.in_ok-own.ensures.truth c.requires.stands
 
 pub returns-clause-told : goal.returns-clause-told
-returns-clause-told c = λ start came way.
+returns-clause-told g c = λ start came way.
     tells c.args.budget c.args.stated start came c.args.number c.args.program.now c.args.method.now c.reported.new.method c.in_ok-own.own
     c.in_ok-answered.answered c.printed.result
     (c.in_ok-answered.ensures.number ∙ c.in_ok-own.ensures.number)
@@ -18,11 +18,11 @@ returns-clause-told c = λ start came way.
     c.in_ok-answered.ensures.whole
 
 pub returns-clause-stands : goal.returns-clause-stands
-returns-clause-stands c = on_ok c.printed.result _ (c.in_ok-own.ensures.stands c.requires.stands)
+returns-clause-stands g c = on_ok c.printed.result _ (c.in_ok-own.ensures.stands c.requires.stands)
 
 pub returns-clause-cleared : goal.returns-clause-cleared
-returns-clause-cleared c = λ few. on_ok c.printed.result _ (c.in_ok-own.ensures.cleared few c.requires.stands (c.requires.cleared few))
+returns-clause-cleared g c = λ few. on_ok c.printed.result _ (c.in_ok-own.ensures.cleared few c.requires.stands (c.requires.cleared few))
 
 pub returns-clause-way : goal.returns-clause-way
-returns-clause-way c = λ start came way.
+returns-clause-way g c = λ start came way.
     on_ok c.printed.result _ (λ few. c.in_ok-own.ensures.way start came few c.requires.stands way few)

@@ -12,10 +12,10 @@ use Rattle.nested_method.proofs.method.Working.run.Goals as goal
 use Rattle.nested_method.proofs.method.Working.run.Goals.{then-is_ripe-via-then-is_ripe, then-is_ripe-via-else-is_ripe+in_ok-advance+then-not-branch}
 
 pub steps-init : goal.steps-init
-steps-init c = ((λ budget w. w), (λ m f h. (goes_nowhere (content c.args.program.now) m c.args.self.now.state h, f)), (λ budget few w. solves_none (content c.args.program.now) c.args.self.now.state), (λ budget first edits rest came w h. h), none_beyond c.args.work c.args.self.now.state)
+steps-init g c = ((λ budget w. w), (λ m f h. (goes_nowhere (content c.args.program.now) m c.args.self.now.state h, f)), (λ budget few w. solves_none (content c.args.program.now) c.args.self.now.state), (λ budget first edits rest came w h. h), none_beyond c.args.work c.args.self.now.state)
 
 pub steps-preserved : goal.steps-preserved
-steps-preserved c =
+steps-preserved g c =
     let p = content c.args.program.now in
     let i = c.args.program.now.keeps in
     let new : Working = record { state = c.advance.new.self; tree = c.steps.self.tree } in
@@ -40,7 +40,7 @@ steps-preserved c =
     )
 
 pub returns-clause-stays : goal.returns-clause-stays
-returns-clause-stays c = elim c.then-is_ripe.branch [
+returns-clause-stays g c = elim c.then-is_ripe.branch [
   | then-is_ripe-via-then-is_ripe way ↦ λ budget w. subst (λ (working : Working). WorksOn (content c.args.program.now) budget working)
       (sym way.self-is) (c.steps.invariant.0 budget w)
   | then-is_ripe-via-else-is_ripe+in_ok-advance+then-not-branch way ↦ λ budget w.
@@ -55,7 +55,7 @@ returns-clause-stays c = elim c.then-is_ripe.branch [
 ]
 
 pub returns-clause-steps : goal.returns-clause-steps
-returns-clause-steps c = elim c.then-is_ripe.branch [
+returns-clause-steps g c = elim c.then-is_ripe.branch [
   | then-is_ripe-via-then-is_ripe way ↦ λ m f h. subst (λ (working : Working). GoesBySteps (content c.args.program.now) m working.state)
       (sym way.self-is) (c.steps.invariant.1 m f h).0
   | then-is_ripe-via-else-is_ripe+in_ok-advance+then-not-branch way ↦ λ m f h.
@@ -67,7 +67,7 @@ returns-clause-steps c = elim c.then-is_ripe.branch [
 ]
 
 pub returns-clause-solves : goal.returns-clause-solves
-returns-clause-solves c = elim c.then-is_ripe.branch [
+returns-clause-solves g c = elim c.then-is_ripe.branch [
   | then-is_ripe-via-then-is_ripe way ↦ λ budget few w.
       subst (λ (working : Working). SolvesOnce (content c.args.program.now) c.args.self.now.state working.state) (sym way.self-is)
       (c.steps.invariant.2 budget few w)
@@ -82,7 +82,7 @@ returns-clause-solves c = elim c.then-is_ripe.branch [
 ]
 
 pub returns-clause-made : goal.returns-clause-made
-returns-clause-made c = elim c.then-is_ripe.branch [
+returns-clause-made g c = elim c.then-is_ripe.branch [
   | then-is_ripe-via-then-is_ripe way ↦ λ budget first edits rest came w h.
       subst (λ (working : Working). IsInHistory first edits came (content c.args.program.now) rest working.state) (sym way.self-is) (c.steps.invariant.3 budget first edits rest came w h)
   | then-is_ripe-via-else-is_ripe+in_ok-advance+then-not-branch way ↦ λ budget first edits rest came w h.
@@ -95,7 +95,7 @@ returns-clause-made c = elim c.then-is_ripe.branch [
 ]
 
 pub returns-clause-amount : goal.returns-clause-amount
-returns-clause-amount c = elim c.then-is_ripe.branch [
+returns-clause-amount g c = elim c.then-is_ripe.branch [
   | then-is_ripe-via-then-is_ripe way ↦ λ budget few w.
       let p = content c.args.program.now in
       subst (λ (working : Working). SolvesAsAsked p c.args.work c.args.self.now.state working.state) (sym way.self-is) (record {
@@ -115,13 +115,13 @@ returns-clause-amount c = elim c.then-is_ripe.branch [
 ]
 
 pub steps-smaller : goal.steps-smaller
-steps-smaller c = leaves_fewer c.steps.self.state c.advance.new.self
+steps-smaller g c = leaves_fewer c.steps.self.state c.advance.new.self
     (omega (arith, c.allowed-allowed.ensures, c.allowed-allowed.type_inv))
     (not_ripe c.args.work _ _ (sym c.is_ripe.ensures ∙ c.if-is_ripe.false))
     (c.in_ok-advance.ensures.progress c.if-not-branch.false)
 
 pub returns-clause-endless : goal.returns-clause-endless
-returns-clause-endless c = elim c.then-is_ripe.branch [
+returns-clause-endless g c = elim c.then-is_ripe.branch [
   | then-is_ripe-via-then-is_ripe way ↦ λ all budget few w.
       let p = content c.args.program.now in
       let i = c.args.program.now.keeps in

@@ -12,7 +12,7 @@ use Rattle.nested_method.proofs.Ending.{steps_left}
 use Rattle.nested_method.proofs.method.Working.run.Given as goal
 
 abbrev pub invariant-steps : goal.invariant-steps
-invariant-steps l = ((budget : Budget) → WorksOn (content l.program) budget l.fn.self → WorksOn (content l.program) budget l.self)
+invariant-steps g l = ((budget : Budget) → WorksOn (content l.program) budget l.fn.self → WorksOn (content l.program) budget l.self)
     × ((m : Machine) → l.fn.self.state.frame ≡ frame_of (content l.program)
     → IsTabledBy (content l.program) l.fn.self.state m
     → GoesBySteps (content l.program) m l.self.state × (l.self.state.frame ≡ frame_of (content l.program)))
@@ -23,4 +23,4 @@ invariant-steps l = ((budget : Budget) → WorksOn (content l.program) budget l.
     × (l.self.state.counts.since_item ≤ max l.work l.fn.self.state.counts.since_item)
 
 abbrev pub decreases-steps : goal.decreases-steps
-decreases-steps l = steps_left l.self.state
+decreases-steps g l = steps_left l.self.state

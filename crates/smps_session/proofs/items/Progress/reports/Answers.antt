@@ -7,7 +7,7 @@ use Rattle.smps_session.proofs.WayLemmas.{begins_way}
 use Rattle.smps_session.proofs.items.Progress.reports.Goals as goal
 
 pub loop-rest-init : goal.loop-rest-init
-loop-rest-init c =
+loop-rest-init g c =
     let p = content c.args.program.now in
     record {
       counted = c.requires.counted;
@@ -26,17 +26,17 @@ loop-rest-init c =
     }
 
 pub take-requires-clause-allowed : goal.take-requires-clause-allowed
-take-requires-clause-allowed c = item_allowed (content c.loop-rest.program) c.item-item.result c.loop-rest.rest.now
+take-requires-clause-allowed g c = item_allowed (content c.loop-rest.program) c.item-item.result c.loop-rest.rest.now
     c.in-len1-up.len_at_least c.item-item.is c.loop-rest.invariant.come.course.0
 
 pub take-requires-clause-stands : goal.take-requires-clause-stands
-take-requires-clause-stands c = c.loop-rest.invariant.stands
+take-requires-clause-stands g c = c.loop-rest.invariant.stands
 
 pub take-requires-clause-cleared : goal.take-requires-clause-cleared
-take-requires-clause-cleared c = c.loop-rest.invariant.cleared
+take-requires-clause-cleared g c = c.loop-rest.invariant.cleared
 
 pub loop-rest-preserved : goal.loop-rest-preserved
-loop-rest-preserved c = record {
+loop-rest-preserved g c = record {
   counted = c.in_ok-take.ensures.counted;
   stands = c.in_ok-take.ensures.stands;
   cleared = c.in_ok-take.ensures.cleared;
@@ -54,7 +54,7 @@ loop-rest-preserved c = record {
 }
 
 pub returns : goal.returns
-returns c = record {
+returns g c = record {
   method = c.loop-rest.invariant.come.first;
   begins = c.loop-rest.invariant.come.begins;
   told = all_told c.args.budget c.args.stated (content c.args.program.now) c.loop-rest.invariant.come.first

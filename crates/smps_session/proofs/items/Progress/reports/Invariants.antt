@@ -6,7 +6,7 @@ use Rattle.nested_method.specs.Stands.{HasFewNodes, StandsOn, StandsCleared}
 use Rattle.smps_session.proofs.items.Progress.reports.Given as goal
 
 abbrev pub invariant-loop-rest : goal.invariant-loop-rest
-invariant-loop-rest l = record {
+invariant-loop-rest g l = record {
   counted : l.self.counted ≡ counts (content l.program).nodes;
   stands : StandsOn (content l.program) l.budget l.self.method;
   cleared : HasFewNodes (content l.program) → StandsCleared l.self.method;
@@ -15,4 +15,4 @@ invariant-loop-rest l = record {
 }
 
 abbrev pub decreases-loop-rest : goal.decreases-loop-rest
-decreases-loop-rest l = length l.rest
+decreases-loop-rest g l = length l.rest

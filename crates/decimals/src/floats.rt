@@ -23,7 +23,7 @@ pub fn float(value: Frac) -> f64 {
 }
 
 /// The difference of two fractions, rounded.
-pub(crate) fn difference(a: Frac, b: Frac) -> f64 {
+pub fn float_difference(a: Frac, b: Frac) -> f64 {
     match a.sub(b) {
         Ok(rest) => float(rest),
         Err(_) => float(a) - float(b),
