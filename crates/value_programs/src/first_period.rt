@@ -11,7 +11,12 @@ use scen_nodes::derive;
 use std::alloc::Global;
 
 /// A column with this number; one of the first period with both bounds at its value at the first node.
-fn held_column(alloc: Global, values: &Values, number: u64, column: &Column) -> Result<Column, Memory>
+fn held_column(
+    alloc: Global,
+    values: &Values,
+    number: u64,
+    column: &Column,
+) -> Result<Column, Memory>
     ensures { IfOk result (λ held. held ≡ pick (eqb column.now.stage 0) (held_at values.now number column.now) column.now) }
 {
     let name = copied_name(alloc, &column.name)?;

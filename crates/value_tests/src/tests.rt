@@ -1,7 +1,7 @@
 // The least costs of programs of scenarios, of means, and with a fixed first period.
-use frac128::{Form, Frac, Memory, parse};
+use frac128::{Frac, Memory, parse};
 use run_watch::Unwatched;
-use scen_defs::{Finding, Program, Report};
+use scen_defs::{Finding, Program, Report, Values};
 use scen_tree::Tree;
 use smps_session::{StatedLimits, session};
 use std::alloc::Global;
@@ -80,7 +80,7 @@ struct Wanted {
     /// That of the means.
     means: &'static str,
     /// The columns of the first period as the means decide them.
-    first: &'static [(u64, &'static str)],
+    first: &'static [(u32, &'static str)],
     /// The least cost where they are fixed.
     fixed: &'static str,
 }
@@ -131,12 +131,11 @@ fn expect_cost(alloc: Global, program: &Program, wanted: &str) -> Result<(), Fai
     }
 }
 
-/// The form with one value.
-fn single(rt: &impl Abort, alloc: Global, column: u64, value: Frac) -> Result<Form, Memory> {
+/// Puts the value of a column at the first node behind others.
+fn put(rt: &impl Abort, values: &mut Values, column: u32, value: Frac) -> Result<(), Memory> {
+    assert!(rt; values.ends_before(0, column));
     assert!(rt; !value.is_zero());
-    let mut form = Form::empty(alloc);
-    form.push(column, value)?;
-    Ok(form)
+    values.push(0, column, value)
 }
 
 fn expect(rt: &impl Abort, alloc: Global, wanted: &Wanted) -> Result<(), Fail> {
@@ -155,10 +154,9 @@ fn expect(rt: &impl Abort, alloc: Global, wanted: &Wanted) -> Result<(), Fail> {
     let tree = Tree::of(alloc, &program)?;
     let means = mean_program(alloc, &program, &tree)?;
     expect_cost(alloc, &means, wanted.means)?;
-    let mut first = Form::empty(alloc);
+    let mut first = Values::empty(alloc);
     for (column, value) in wanted.first {
-        let one = single(rt, alloc, *column, parse(value.as_bytes())?)?;
-        first = first.add_scaled(Frac::one(), &one)?;
+        put(rt, &mut first, *column, parse(value.as_bytes())?)?;
     }
     let held = fixed_program(alloc, &program, &first)?;
     expect_cost(alloc, &held, wanted.fixed)
