@@ -1,0 +1,4 @@
+pub mod Numbers
+pub mod Reports
+pub mod Measured
+pub mod Text
