@@ -8,7 +8,7 @@ const TAKEN: &str = "\
 solve --core F
 solve --core=F --time T --stoch=S --edits E --solves 3 --pivots=1000000000 --workers 1
 solve --core F --quiet
-solve --quiet=yes --core F --solves 3
+solve --quiet --core F --solves 3
 show --edits=E --stoch S --time=T=1 --core a=b
 flat --core F --time=T --stoch S --edits E
 flat --whole --core F

@@ -1,10 +1,11 @@
 //! What standard error says of a run.
 use crate::checked::put_checked;
 use crate::help::{ask_help, put_help};
+use crate::measured::put_measured;
 use crate::refusal::{file_start, put_refusal, put_too_long, put_unread};
 use crate::reported::{put_made, put_reported};
 use crate::sheets::{put_lack, put_unproved};
-use crate::whole::{put_only_whole, put_whole};
+use crate::whole::{put_only_whole, put_some_whole, put_whole};
 use crate::words::put_word_fault;
 use input_files::FileKind;
 use line_notes::{put_doubts, put_most_digits, put_unused};
@@ -101,6 +102,13 @@ fn put_found(
         Found::Checks(checks) => {
             put_checked(text, fetched, checks)?;
             put_skipped(alloc, text, fetched)
+        }
+        Found::Measures(measures) => {
+            if put_measured(text, measures)? {
+                put_long_numbers(alloc, text, fetched)?;
+            }
+            put_skipped(alloc, text, fetched)?;
+            put_some_whole(text, measures)
         }
         Found::Unproved(check) => put_unproved(alloc, text, fetched, check),
         _ => put_skipped(alloc, text, fetched),

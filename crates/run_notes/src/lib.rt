@@ -5,6 +5,7 @@ mod checked;
 mod distance;
 mod explain;
 mod help;
+mod measured;
 mod refusal;
 mod reported;
 mod sheets;

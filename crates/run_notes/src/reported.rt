@@ -1,7 +1,7 @@
 //! What standard error says of reports that are left open.
 use crate::distance::{put_distance, put_distances};
 use scen_defs::{Finding, Report};
-use smps_cli::Told;
+use smps_cli::{Measures, Told};
 use std::alloc::{AllocError, Global};
 
 const OPEN_PASSED: &str =
@@ -79,6 +79,22 @@ pub fn put_reported(alloc: Global, text: &mut String, tolds: &[Told]) -> Result<
     }
     opens.put(text)?;
     put_distances(alloc, text, tolds)?;
+    Ok(opens.passed)
+}
+
+/// Appends a sentence for each kind of OPEN among the reports of `value`; whether a result didn't fit into 128 bits in one.
+pub fn put_opens(text: &mut String, measures: &Measures) -> Result<bool, AllocError> {
+    let mut opens = Opens::none().with(measures.whole.report.finding);
+    for scenario in &measures.scenarios {
+        opens = opens.with(scenario.printed.report.finding);
+    }
+    if let Ok(printed) = &measures.means {
+        opens = opens.with(printed.report.finding);
+    }
+    if let Some(printed) = &measures.fixed {
+        opens = opens.with(printed.report.finding);
+    }
+    opens.put(text)?;
     Ok(opens.passed)
 }
 

@@ -1,5 +1,5 @@
 //! What standard error says of reports that were found by solving the whole program at once.
-use smps_cli::Told;
+use smps_cli::{Measures, Told};
 use std::alloc::AllocError;
 use std::fmt::Write;
 
@@ -30,6 +30,21 @@ pub fn put_whole(text: &mut String, tolds: &[Told]) -> Result<(), AllocError> {
 pub fn put_only_whole(text: &mut String) -> Result<(), AllocError> {
     text.push_str("tidzgheba: report 1")?;
     text.push_str(FOUND_SO)
+}
+
+/// Appends that some of the reports of `value` were found so; nothing where none was.
+pub fn put_some_whole(text: &mut String, measures: &Measures) -> Result<(), AllocError> {
+    let of_scenarios = measures
+        .scenarios
+        .iter()
+        .any(|scenario| scenario.printed.by_whole);
+    let of_means = matches!(&measures.means, Ok(printed) if printed.by_whole);
+    let of_fixed = matches!(&measures.fixed, Some(printed) if printed.by_whole);
+    if measures.whole.by_whole || of_scenarios || of_means || of_fixed {
+        text.push_str("tidzgheba: some reports")?;
+        text.push_str(FOUND_SO)?;
+    }
+    Ok(())
 }
 
 /// Appends the numbers of the first ones, with commas.

@@ -80,18 +80,32 @@ fn on_files<'a>(
     ))
 }
 
-/// Solves a program.
-fn solve<'a>(alloc: Global) -> Result<Command<'a>, AllocError> {
+/// The option that leaves out what is said while a program is solved.
+fn quiet<'a>(alloc: Global) -> Arg<'a> {
+    Arg::new(alloc, "quiet")
+        .long("quiet")
+        .action(ArgAction::SetTrue)
+        .help("say nothing while it is solved")
+}
+
+/// A command with the options that say how much may be done for a report, and whether anything is said while it is.
+fn with_budget<'a>(alloc: Global, command: Command<'a>) -> Result<Command<'a>, AllocError> {
     let solves = "at most so many solves of a node for a report";
     let pivots = "at most so many pivots for a solve";
+    let command = command.arg(number(alloc, "solves", 1, 1_000_000_000, solves))?;
+    let command = command.arg(number(alloc, "pivots", 1, 1_000_000_000, pivots))?;
+    let command = command.arg(number(alloc, "workers", 1, 1, "how many workers there are"))?;
+    command.arg(quiet(alloc))
+}
+
+/// Solves a program.
+fn solve<'a>(alloc: Global) -> Result<Command<'a>, AllocError> {
     let command = on_files(
         alloc,
         "solve",
         "solve the program that the files mean, and print the report",
     )?;
-    let command = command.arg(number(alloc, "solves", 1, 1_000_000_000, solves))?;
-    let command = command.arg(number(alloc, "pivots", 1, 1_000_000_000, pivots))?;
-    command.arg(number(alloc, "workers", 1, 1, "how many workers there are"))
+    with_budget(alloc, command)
 }
 
 /// Checks reports.
@@ -159,6 +173,17 @@ fn flat<'a>(alloc: Global) -> Result<Command<'a>, AllocError> {
     command.arg(whole(alloc))
 }
 
+/// Measures a program.
+fn value<'a>(alloc: Global) -> Result<Command<'a>, AllocError> {
+    let core = file(alloc, "core", "the program as if nothing were random").required(true);
+    let command = Command::new(alloc, "value")
+        .about("print what information and the stochastic model are worth")
+        .arg(core)?;
+    let command = command.arg(file(alloc, "time", "the periods").required(true))?;
+    let command = with_option(command, stoch(alloc))?;
+    with_budget(alloc, command)
+}
+
 /// Makes a program.
 fn make<'a>(alloc: Global) -> Result<Command<'a>, AllocError> {
     let start = number(
@@ -176,7 +201,8 @@ fn make<'a>(alloc: Global) -> Result<Command<'a>, AllocError> {
         true,
     ))?;
     let command = command.arg(number(alloc, "size", 1, 20, "its items").required(true))?;
-    command.arg(text(alloc))
+    let command = command.arg(text(alloc))?;
+    command.arg(quiet(alloc))
 }
 
 /// The program without its commands.
@@ -200,6 +226,7 @@ fn commands<'a>(alloc: Global) -> Result<Command<'a>, AllocError> {
     let program = with_command(program, table(alloc))?;
     let program = with_command(program, show(alloc))?;
     let program = with_command(program, flat(alloc))?;
+    let program = with_command(program, value(alloc))?;
     with_command(program, make(alloc))
 }
 

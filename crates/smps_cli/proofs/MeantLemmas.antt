@@ -31,6 +31,7 @@ use Rattle.smps_cli.specs.Checks.{PrintsChecks}
 use Rattle.smps_cli.specs.Ends.{MayEnd, RefusesTexts}
 use Rattle.smps_cli.specs.Flat.{FlatComes, IsFlat, MayBeFlat, RefusesFlat, flat_end, limits_of}
 use Rattle.smps_cli.specs.Tables.{IsTable, MayBeTable, RefusesTable, TableComes, line_after}
+use Rattle.smps_cli.specs.Measured.{PrintsMeasures}
 use Rattle.smps_cli.specs.Makes.{PrintsSummary, MayMake, workload, texts_of}
 use Rattle.smps_cli.specs.Shown.{PrintsProgram}
 use Rattle.smps_cli.specs.Solved.{PrintsReports}
@@ -151,6 +152,7 @@ module _ (texts : Texts) (sound : IsUnrefused texts) where
   by_task (task.Table sheet) status output may = by_table sheet status output may
   by_task task.Show status output may = by_end (PrintsProgram texts) status output may
   by_task (task.Flat size) status output may = by_flat size status output may
+  by_task (task.Value budget) status output may = by_end (PrintsMeasures budget texts) status output may
 
 meant_unrefused : (texts : Texts) → AreMeant texts → IsUnrefused texts
 unfolding IsUnrefused
@@ -187,3 +189,12 @@ pub comes_to_a_workload : (content : Option Files) (words : List (List ℕ)) →
 comes_to_a_workload content words asks status output may =
     by_page asks.plan asks.plan.page asks.meant status output
     (subst (λ (command : Option Asked). MayAnswerFor command content status output) asks.command may)
+
+-- want of memory ends each task
+pub memory_ends : (t : Task) → EndsTask t Memory
+memory_ends (task.Solve budget) = inr (inr refl)
+memory_ends task.Check = inr (inr refl)
+memory_ends (task.Table sheet) = inl (inr (inr refl))
+memory_ends task.Show = inr (inr refl)
+memory_ends (task.Flat size) = inl (inr (inr refl))
+memory_ends (task.Value budget) = inr (inr refl)

@@ -4,7 +4,7 @@ use Rattle.smps_io.specs.Faults.{RoseBy}
 use Rattle.smps_io.specs.Files.{Files}
 use Rattle.smps_io.specs.Puts.{Appends, AppendsPrefix}
 use Rattle.command_words.specs.declared.command.Task.{Task}
-use Rattle.command_words.specs.declared.command.Task.TheVariants.{Solve, Check, Table, Show, Flat}
+use Rattle.command_words.specs.declared.command.Task.TheVariants.{Solve, Check, Table, Show, Flat, Value}
 use Rattle.command_words.specs.Commands.{FileNames, Asked, command_of}
 use Rattle.command_words.specs.Commands.Asked.{OnFiles, MakeThis}
 use Rattle.input_files.specs.declared.kind.FileKind.{FileKind}
@@ -14,6 +14,7 @@ use Rattle.exit_status.specs.declared.status.Status.TheVariants.{Done, SomeOpen,
 use Rattle.exit_status.specs.Lines.{status_line}
 use Rattle.smps_cli.specs.Shown.{MayBeShown}
 use Rattle.smps_cli.specs.Flat.{MayBeFlat}
+use Rattle.smps_cli.specs.Measured.{MayBeMeasured}
 use Rattle.smps_cli.specs.Solved.{MayBeSolved}
 use Rattle.smps_cli.specs.Checks.{MayBeChecked}
 use Rattle.smps_cli.specs.Tables.{MayBeTable}
@@ -26,6 +27,7 @@ MayCome Check texts status output = MayBeChecked texts status output
 MayCome (Table sheet) texts status output = MayBeTable sheet.number texts status output
 MayCome Show texts status output = MayBeShown texts status output
 MayCome (Flat extent) texts status output = MayBeFlat extent texts status output
+MayCome (Value budget) texts status output = MayBeMeasured budget texts status output
 
 -- A file is too long, and the line says so.
 abbrev pub SaysTooLong : Option Files → FileNames → Status → List ℕ → Type 0

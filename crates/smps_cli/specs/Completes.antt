@@ -8,7 +8,7 @@ use Rattle.command_words.specs.declared.command.Budget.{Budget}
 use Rattle.command_words.specs.declared.command.Page.{Page}
 use Rattle.command_words.specs.declared.command.Plan.{Plan}
 use Rattle.command_words.specs.declared.command.Task.{Task}
-use Rattle.command_words.specs.declared.command.Task.TheVariants.{Solve, Check, Table, Show, Flat}
+use Rattle.command_words.specs.declared.command.Task.TheVariants.{Solve, Check, Table, Show, Flat, Value}
 use Rattle.command_words.specs.Commands.{FileNames, command_of}
 use Rattle.command_words.specs.Commands.Asked.{OnFiles, MakeThis}
 use Rattle.input_files.specs.Fetched.{Texts, AreGiven, file_limit}
@@ -82,3 +82,4 @@ EndsTask (Table sheet) status = AnswersOrWantsMemory status ⊎ ((line : ℕ) ×
 EndsTask Show status = AnswersOrWantsMemory status
 EndsTask (Flat extent) status =
     AnswersOrWantsMemory status ⊎ (status ≡ Refused Core 0 FlatLimit) ⊎ ((p : Operation) × (status ≡ Refused Core 0 (Passes p)))
+EndsTask (Value budget) status = AnswersOrWantsMemory status

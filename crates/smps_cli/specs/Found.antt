@@ -5,7 +5,9 @@ use Rattle.scen_defs.specs.Program.{content}
 use Rattle.report_text.specs.Shown.{program_text}
 use Rattle.script_checks.specs.Checked.{line_of}
 use Rattle.smps_cli.specs.declared.found.Found.{Found}
-use Rattle.smps_cli.specs.declared.found.Found.TheVariants.{Reports, Checks, Table, Unproved, Lacking, Shown, Flat, Summary, Page, Nothing}
+use Rattle.smps_cli.specs.declared.found.Found.TheVariants.{Reports, Checks, Table, Unproved, Lacking, Shown, Flat, Measures, Summary, Page}
+use Rattle.smps_cli.specs.declared.found.Found.TheVariants.{Nothing}
+use Rattle.value_measures.specs.Text.{measures_text}
 use Rattle.smps_cli.specs.Solved.{told_text}
 use Rattle.smps_cli.specs.Makes.{summary_text}
 
@@ -18,6 +20,7 @@ found_text (Unproved check) = []
 found_text (Lacking lack) = lack.line.items
 found_text (Shown program) = program_text (content program)
 found_text (Flat text) = text.items
+found_text (Measures m) = measures_text m
 found_text (Summary s) = summary_text s.plan s.program s.report
 found_text (Page text) = text.items
 found_text (Nothing line) = line.items

@@ -5,6 +5,7 @@ pub mod Solved
 pub mod Checks
 pub mod Shown
 pub mod Flat
+pub mod Measured
 pub mod Tables
 pub mod Makes
 pub mod Found

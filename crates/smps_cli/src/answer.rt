@@ -23,6 +23,7 @@ use crate::make::made;
 use crate::show::shown;
 use crate::solve::solved;
 use crate::table::tabled;
+use crate::value::valued;
 use command_words::{Command, PlainWords, Plan, Sources, Task};
 use core_defs::Core;
 use exit_status::Status;
@@ -85,6 +86,7 @@ fn come<W: Watch>(alloc: Global, task: Task, texts: &Texts, watch: &mut W) -> Re
         Task::Table(sheet) => tabled(alloc, texts, sheet),
         Task::Show => shown(alloc, texts),
         Task::Flat(extent) => flattened(alloc, texts, extent),
+        Task::Value(budget) => valued(alloc, texts, budget, watch),
     }
 }
 

@@ -3,6 +3,7 @@ use command_words::Plan;
 use scen_defs::{Program, Report};
 use script_checks::Checked;
 use smps_session::Told;
+use value_measures::Measures;
 
 /// What a command found. Its text is the whole output.
 #[derive(Drop)]
@@ -21,6 +22,8 @@ pub enum Found {
     Shown(Program),
     /// `flat`: the program as one core file.
     Flat(Vec<u8>),
+    /// `value`: what is measured of the program.
+    Measures(Measures),
     /// `make`: a workload and its report.
     Summary(Summary),
     /// `make`: the text of a workload that is asked for.

@@ -13,6 +13,7 @@ mod show;
 mod solve;
 mod table;
 mod top_call;
+mod value;
 mod write;
 
 pub use answer::Ran;
@@ -22,3 +23,4 @@ pub use found::{Checks, Found, Lack, Summary};
 pub use script_checks::Checked;
 pub use smps_session::Told;
 pub use top_call::run;
+pub use value_measures::{Measures, PrintedReport, ScenarioReport};

@@ -18,6 +18,7 @@ use script_checks::{Checked, print_checks};
 use smps_io::{Sink, SinkFault, write_all};
 use smps_session::Told;
 use std::alloc::Global;
+use value_measures::print_measures;
 
 /// Appends the text of each report; no call of the sink takes parts of two, so that a fault behind one leaves it whole.
 fn write_reports<R: Print, K: Sink>(rt: &R, sink: &mut K, tolds: &[Told]) -> Result<(), SinkFault>
@@ -86,6 +87,7 @@ pub(crate) fn write_found<R: Print, K: Sink>(
         Found::Reports(tolds) => write_reports(rt, sink, tolds),
         Found::Checks(checks) => write_made(rt, sink, lines(alloc, &checks.checks)),
         Found::Shown(program) => write_made(rt, sink, shown_text(alloc, program)),
+        Found::Measures(measures) => write_made(rt, sink, print_measures(alloc, measures)),
         Found::Summary(summary) => write_made(rt, sink, summary_text(alloc, summary)),
         Found::Unproved(_) => write_all(rt, sink, &[]),
         Found::Lacking(lack) => write_all(rt, sink, &lack.line),
