@@ -1,0 +1,9 @@
+pub mod Merges
+pub mod Scaled
+pub mod PathLaws
+pub mod TailKeeps
+pub mod Steps
+pub mod RiskPaths
+pub mod RiskPoints
+pub mod RiskProofs
+pub mod Parts
