@@ -18,14 +18,14 @@ pub struct Crew {
 }
 
 impl Model for Crew {
-    ghost use Rattle.std.specs.Prelude.{◌<◌, length};
+    ghost use Rattle.std.specs.Prelude.{◌<◌, ◌^◌, length};
     ghost use Rattle.pass_table.specs.declared.table.Table.{Table};
 
     ghost Value = { Table };
 
     ghost view = { λ t. t.table };
 
-    ghost invariant = { λ t. 0 < length t.table.flights.items };
+    ghost invariant = { λ t. (0 < length t.table.flights.items) × (length t.table.flights.items < 2 ^ 32) };
 }
 
 impl Crew {
@@ -48,6 +48,14 @@ impl Crew {
         ensures { 0 < length self.now.flights.items }
     {
         let _table = &self.table;
+    }
+
+    /// How many workers there are.
+    pub fn workers(&self) -> u32
+        ensures number { result ≡ length self.now.flights.items }
+        ensures some { 0 < result }
+    {
+        self.table.workers() as u32
     }
 
     /// Whether every node is fresh with a point.

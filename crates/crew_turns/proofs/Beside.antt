@@ -5,7 +5,7 @@ use Rattle.pass_table.specs.Machine.{IsAbove, Last, Flight, Machine, IsLive, IsC
 use Rattle.pass_table.specs.Machine.{begun, read_by, read, dropped, committed, raised}
 use Rattle.pass_table.specs.Fits.{Fits, AnswersBegin}
 use Rattle.pass_table.proofs.Stale.{same_at}
-use Rattle.pass_table.proofs.Events.{none_some}
+use Rattle.pass_table.proofs.Events.{none_some, some_same}
 use Rattle.pass_table.proofs.ReadLaws.{read_fits}
 use Rattle.pass_table.proofs.Valid.{valid_begun, valid_committed, valid_dropped, valid_raised}
 use Rattle.crew_turns.specs.Turn.{IsIdle, AreChildren, first_flight, read_by_each, read_each, EndsTurn, drops, commits, adds, TakesTurn}
@@ -20,7 +20,7 @@ use Rattle.crew_turns.proofs.Sheltered.{keeps_clear}
 use Rattle.crew_turns.proofs.Turned.{commit_turns, child_to, fresh_to, fresh_from, good_to, good_from}
 use Rattle.crew_turns.proofs.Crewing.{KeepsByReads, reads_keep, alike_begun, alike_raised, child_from}
 
-starts : (t : Table) (m : Machine) → IsValid m → IsIdle m → Fits t m → FitsBesides t m
+pub starts : (t : Table) (m : Machine) → IsValid m → IsIdle m → Fits t m → FitsBesides t m
 starts t m valid idle fits = record {
   flying = m;
   fits = fits;
@@ -41,11 +41,16 @@ starts t m valid idle fits = record {
   };
 }
 
+-- the machine itself is the one that the table fits
+pub starts_there : (t : Table) (m : Machine) (valid : IsValid m) (idle : IsIdle m) (fits : Fits t m) → (starts t m valid idle fits).flying ≡ m
+unfolding starts
+starts_there t m valid idle fits = refl
+
 -- ---- what a table tells
-live_to : (m k : Machine) → AreAlike m k → (n : ℕ) → IsLive m n → IsLive k n
+pub live_to : (m k : Machine) → AreAlike m k → (n : ℕ) → IsLive m n → IsLive k n
 live_to m k e n l = ap (λ (f : ℕ → Bool). f n) e.live ∙ l
 
-live_from : (m k : Machine) → AreAlike m k → (n : ℕ) → IsLive k n → IsLive m n
+pub live_from : (m k : Machine) → AreAlike m k → (n : ℕ) → IsLive k n → IsLive m n
 live_from m k e n l = ap (λ (f : ℕ → Bool). f n) (sym e.live) ∙ l
 
 tells_closed : (t : Table) (m : Machine) → FitsBesides t m → (t.closed ≡ true) ↔ IsClosed m
@@ -62,10 +67,10 @@ tells_complete t m h = (
 )
 
 -- ---- a Begin
-children_from : (m k : Machine) → AreAlike m k → (n : ℕ) (cs : List ℕ) → AreChildren k n cs → AreChildren m n cs
+pub children_from : (m k : Machine) → AreAlike m k → (n : ℕ) (cs : List ℕ) → AreChildren k n cs → AreChildren m n cs
 children_from m k e n cs h c = ((λ q. (h c).0 (child_to m k e n c q)), (λ q. child_from m k e n c ((h c).1 q)))
 
-may_to : (m k : Machine) → AreAlike m k → IsIdle k → (n : ℕ) → MayBegin m n → MayBegin k n
+pub may_to : (m k : Machine) → AreAlike m k → IsIdle k → (n : ℕ) → MayBegin m n → MayBegin k n
 may_to m k e idle n may = record {
   live = live_to m k e n may.live;
   stale = λ fresh. may.stale (fresh_from m k e n fresh);
@@ -117,10 +122,10 @@ module _ (old new : Table) (m : Machine) (v : ℕ) (f : Flight) (cs : List ℕ) 
   abbrev flight : Flight
   flight = read_by_each m.number (first_flight m n) cs
 
-  turn_of : (point : Bool) → IsATurn h.flying m v f cs point
+  pub turn_of : (point : Bool) → IsATurn h.flying m v f cs point
   turn_of point = commit_turns h.flying m v f cs point h.valid h.fair valid idle h.alike mine (h.reads n v f mine) children
 
-  by_commit : (point : Bool) → Fits new (committed h.flying v f point) → FitsBesides new (turned_at m n cs point)
+  pub by_commit : (point : Bool) → Fits new (committed h.flying v f point) → FitsBesides new (turned_at m n cs point)
   by_commit point fits = record {
     flying = committed h.flying v f point;
     fits = fits;
@@ -131,7 +136,7 @@ module _ (old new : Table) (m : Machine) (v : ℕ) (f : Flight) (cs : List ℕ) 
     alike = (turn_of point).alike;
   }
 
-  by_add : (point : Bool) → 0 < n → Fits new (raised (committed h.flying v f point) n) → FitsBesides new (raised (turned_at m n cs point) n)
+  pub by_add : (point : Bool) → 0 < n → Fits new (raised (committed h.flying v f point) n) → FitsBesides new (raised (turned_at m n cs point) n)
   by_add point low fits =
       let k : Machine = committed h.flying v f point in
       let k_valid : IsValid k = valid_committed h.flying v f point h.valid mine in record {
@@ -148,7 +153,7 @@ module _ (old new : Table) (m : Machine) (v : ℕ) (f : Flight) (cs : List ℕ) 
   are_reads : AreReads (begun m 0 n) (first_flight m n) cs reads
   are_reads = reads_are (begun m 0 n) (first_flight m n) cs (valid_begun m 0 n valid (idle 0) (turn_of true).may) (same_at m.flight 0 _ 0 refl)
 
-  by_drop : Fits new (dropped h.flying v) → FitsBesides new (dropped reads 0)
+  pub by_drop : Fits new (dropped h.flying v) → FitsBesides new (dropped reads 0)
   by_drop fits = record {
     flying = dropped h.flying v;
     fits = fits;
@@ -172,6 +177,59 @@ module _ (old new : Table) (m : Machine) (v : ℕ) (f : Flight) (cs : List ℕ) 
 
   abbrev turn_by : (added : Bool) (j : Machine) → EndsTurn 0 reads flight added j → TakesTurn m j
   turn_by added j e = record { node = n; may = (turn_of true).may; children = cs; are_children = children; added = added; ends = e }
+
+  -- ---- the same event of both machines
+  -- in this machine no other solve is in flight
+  abbrev pub IsAlone : Type 0
+  IsAlone = (v ≡ 0) × (h.flying ≡ reads)
+
+  -- the solve ended in the one machine, and so did the turn in the other
+  pub record TurnsBeside (added : Bool) (machine k : Machine) : Type 0 where
+    pub ends : EndsTurn 0 reads flight added machine
+    pub fits : FitsBesides new machine
+    pub flying : fits.flying ≡ k
+    pub alone : IsAlone → machine ≡ k
+
+  here : flight.node ≡ n
+  here = node_read m.number (first_flight m n) cs
+
+  same_flight : IsAlone → flight ≡ f
+  same_flight (first, alone) =
+      some_same flight f (sym are_reads.flight ∙ ap (λ (x : Machine). x.flight 0) (sym alone) ∙ ap h.flying.flight (sym first) ∙ mine.flight)
+
+  same_commit : (point : Bool) → IsAlone → turned_at m n cs point ≡ committed h.flying v f point
+  same_commit point a =
+      ap (λ (x : Machine). committed x 0 flight point) (sym a.1) ∙ ap (λ (w : ℕ). committed h.flying w flight point) (sym a.0)
+      ∙ ap (λ (g : Flight). committed h.flying v g point) (same_flight a)
+
+  pub commit_beside : (point : Bool) → Fits new (committed h.flying v f point)
+      → TurnsBeside false (turned_at m n cs point) (committed h.flying v f point)
+  unfolding by_commit
+  commit_beside point fits =
+      record { ends = commits point; fits = by_commit point fits; flying = refl; alone = same_commit point }
+
+  pub add_beside : (point : Bool) → 0 < n → Fits new (raised (committed h.flying v f point) n)
+      → TurnsBeside true (raised (turned_at m n cs point) flight.node) (raised (committed h.flying v f point) n)
+  unfolding by_add
+  add_beside point low fits =
+      let k : Machine = raised (committed h.flying v f point) n in
+      let P : ℕ → Type 0 = λ j. (x : FitsBesides new (raised (turned_at m n cs point) j)) × (x.flying ≡ k) in
+      let both : P flight.node = subst P (sym here) (by_add point low fits, refl) in record {
+        ends = adds point (omega (arith, here, low));
+        fits = both.0;
+        flying = both.1;
+        alone = λ a. ap (λ (x : Machine). raised x flight.node) (same_commit point a)
+            ∙ ap (λ (j : ℕ). raised (committed h.flying v f point) j) here;
+      }
+
+  pub drop_beside : Fits new (dropped h.flying v) → TurnsBeside false (dropped reads 0) (dropped h.flying v)
+  unfolding by_drop
+  drop_beside fits = record {
+    ends = drops;
+    fits = by_drop fits;
+    flying = refl;
+    alone = λ a. ap (λ (x : Machine). dropped x 0) (sym a.1) ∙ ap (λ (w : ℕ). dropped h.flying w) (sym a.0);
+  }
 
   ended : (added : Bool) (k : Machine) → EndsTurn v h.flying f added k → Fits new k → EndsAsTurn m n new
   ended added k drops fits =

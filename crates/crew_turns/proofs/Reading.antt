@@ -1,25 +1,30 @@
 -- What solves in flight have read stays so until they end.
-use Rattle.std.proofs.Common.{◌≡◌, ℕ, ◌<◌, ◌⊎◌, inl, inr, Bool, Some, List, [], ◌∷◌, arith, refl, sym, ap, subst, ◌∙◌}
+use Rattle.std.proofs.Common.{◌≡◌, ℕ, ◌<◌, ◌⊎◌, inl, inr, Bool, Some, List, [], ◌∷◌, length, get_or, arith, refl, sym, ap, subst, ◌∙◌}
 use Rattle.std.proofs.lemmas.Bool.{cases_eq}
+use Rattle.std.proofs.lemmas.List.{get_or-map, length-map, get_or_default}
 use Rattle.std.specs.List.{Contains}
+use Rattle.pass_table.specs.declared.table.Reading.{Reading}
+use Rattle.pass_table.specs.Fits.{HasRead}
+use Rattle.pass_table.specs.Readings.{reading_at, no_reading}
 use Rattle.pass_table.specs.Machine.{next, Flight, Machine, IsChild, IsFlown, IsFlying, IsValid, begun, read_by, read, dropped, committed, raised, opened}
 use Rattle.pass_table.proofs.Stale.{same_at, other_at}
 use Rattle.pass_table.proofs.Events.{some_same, flight_left, flight_not}
-use Rattle.crew_turns.specs.Turn.{AreChildren, first_flight, read_by_each}
-use Rattle.crew_turns.proofs.Turning.{node_read, below_read}
+use Rattle.crew_turns.specs.Turn.{AreChildren, first_flight, read_by_each, read_each}
+use Rattle.crew_turns.specs.Alike.{ReadsArePresent}
+use Rattle.crew_turns.proofs.Turning.{node_read, below_read, readings_of}
 use Rattle.crew_turns.specs.Clear.{IsFair}
 use Rattle.crew_turns.specs.Reads.{read_all, AllReadsArePresent, ReadsStay}
 
 -- what a worker's Reads leave
-record HasReadAll (m k : Machine) (v : ℕ) (f : Flight) (cs : List ℕ) : Type 0 where
-  live : k.live ≡ m.live
-  parent : k.parent ≡ m.parent
-  run : k.run ≡ m.run
-  number : k.number ≡ m.number
-  mine : k.flight v ≡ Some (read_by_each m.number f cs)
-  others : (u : ℕ) → (u ≡ v → ⊥) → k.flight u ≡ m.flight u
+pub record HasReadAll (m k : Machine) (v : ℕ) (f : Flight) (cs : List ℕ) : Type 0 where
+  pub live : k.live ≡ m.live
+  pub parent : k.parent ≡ m.parent
+  pub run : k.run ≡ m.run
+  pub number : k.number ≡ m.number
+  pub mine : k.flight v ≡ Some (read_by_each m.number f cs)
+  pub others : (u : ℕ) → (u ≡ v → ⊥) → k.flight u ≡ m.flight u
 
-has_read_all : (m : Machine) (v : ℕ) (f : Flight) (cs : List ℕ) → m.flight v ≡ Some f → HasReadAll m (read_all m v f cs) v f cs
+pub has_read_all : (m : Machine) (v : ℕ) (f : Flight) (cs : List ℕ) → m.flight v ≡ Some f → HasReadAll m (read_all m v f cs) v f cs
 has_read_all m v f [] has = record { live = refl; parent = refl; run = refl; number = refl; mine = has; others = λ u ne. refl }
 has_read_all m v f (c ∷ cs) has =
     let rest = has_read_all (read m v f c) v (read_by f c (m.number c)) cs (same_at m.flight v _ v refl) in record {
@@ -107,3 +112,47 @@ stays_read = record {
   reopen = reopen_reads;
   free = free_above;
 }
+
+-- the worker of turns reads in the same way
+pub reads_alone : (m : Machine) (f : Flight) (cs : List ℕ) → read_all m 0 f cs ≡ read_each m f cs
+reads_alone m f [] = refl
+reads_alone m f (c ∷ cs) = reads_alone (read m 0 f c) (read_by f c (m.number c)) cs
+
+-- what a solve whose reads are present read is what a commit asks for, where these are the numbers
+pub present_read : (m : Machine) (f : Flight) (cs numbers : List ℕ) → AreChildren m f.node cs → ReadsArePresent m f
+    → ((i : ℕ) → i < length cs → get_or numbers (get_or cs i 0) 0 ≡ m.number (get_or cs i 0)) → HasRead m f numbers (readings_of m.number cs)
+present_read m f cs numbers children reads present = record {
+  whole = λ c child. let here = (children c).0 child in (
+    here.0,
+    (omega (arith, length-map cs g, here.1), ap (λ (r : Reading). r.child) (get_or-map g cs here.0 c no_reading here.1) ∙ here.2),
+  );
+  child = λ i less. child_at i (long i less);
+  read = λ i less. read_at i (long i less);
+  present = λ i less. present_at i (long i less);
+}
+  where
+    g : ℕ → Reading
+    g c = record { child = c; number = m.number c }
+
+    long : (i : ℕ) → i < length (readings_of m.number cs) → i < length cs
+    long i less = omega (arith, length-map cs g, less)
+
+    at : (i : ℕ) → i < length cs → reading_at (readings_of m.number cs) i ≡ g (get_or cs i 0)
+    at i less = get_or-map g cs i 0 no_reading less
+
+    child_in : (i : ℕ) → i < length cs → IsChild m f.node (get_or cs i 0)
+    child_in i less = (children (get_or cs i 0)).1 (i, less, get_or_default cs i _ 0 less)
+
+    child_at : (i : ℕ) → i < length cs → IsChild m f.node (reading_at (readings_of m.number cs) i).child
+    child_at i less = subst (IsChild m f.node) (ap (λ (r : Reading). r.child) (sym (at i less))) (child_in i less)
+
+    read_at : (i : ℕ) → i < length cs
+        → (reading_at (readings_of m.number cs) i).number ≡ f.below (reading_at (readings_of m.number cs) i).child
+    read_at i less =
+        let P : Reading → Type 0 = λ r. r.number ≡ f.below r.child in
+        subst P (sym (at i less)) (sym (reads (get_or cs i 0) (child_in i less)))
+
+    present_at : (i : ℕ) → i < length cs
+        → get_or numbers (reading_at (readings_of m.number cs) i).child 0 ≡ m.number (reading_at (readings_of m.number cs) i).child
+    present_at i less =
+        let P : Reading → Type 0 = λ r. get_or numbers r.child 0 ≡ m.number r.child in subst P (sym (at i less)) (present i less)
