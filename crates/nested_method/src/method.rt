@@ -27,6 +27,9 @@ const MANY: usize = 1 << 32;
 /// More solves than are ever committed.
 const ENDLESS: u64 = u64::MAX;
 
+/// How many workers there are.
+const WORKERS: u32 = 1;
+
 /// The method on a program with its tree.
 #[derive(Drop)]
 pub struct Working {
@@ -168,7 +171,7 @@ impl Method {
             Ok(tree) => tree,
             Err(fault) => return Ok(Method::Idle(treeless(fault)?, budget)),
         };
-        match State::start(alloc, program, budget)? {
+        match State::start(alloc, program, budget, WORKERS)? {
             Some(state) => Ok(Method::Working(Working { state, tree })),
             None => Ok(Method::Idle(Open::Solves(budget.solves), budget)),
         }

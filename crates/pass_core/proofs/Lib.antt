@@ -7,6 +7,7 @@ pub mod Closing
 pub mod Pooling
 pub mod Parentage
 pub mod Tabling
+pub mod Desks
 pub mod CutNodes
 pub mod Leaving
 pub mod Solving

@@ -1,8 +1,9 @@
 -- What a step leaves, by whether it is told that something was done.
-use Rattle.std.proofs.Common.{◌≡◌, ◌⊎◌, inl, inr, Option, Some, None, IsSome, Result, Ok, Err, OnOk, refl, sym, ap, subst, ◌∙◌}
+use Rattle.std.proofs.Common.{◌≡◌, ◌⊎◌, inl, inr, Bool, Option, Some, None, IsSome, Result, Ok, Err, OnOk, refl, sym, ap, subst, ◌∙◌}
 use Rattle.scen_defs.specs.declared.report.Kind.TheVariants.{Cost}
 use Rattle.pass_table.specs.declared.table.Table.{Table}
 use Rattle.proved_report.specs.declared.open.Open.{Open}
+use Rattle.found_ends.specs.declared.last.Lasts.{Lasts}
 use Rattle.pass_core.specs.declared.state.Counts.{Counts}
 use Rattle.pass_core.specs.declared.state.State.{State}
 use Rattle.pass_core.specs.Counting.{first_stop, with_commit}
@@ -75,3 +76,11 @@ ready_rests old s table e = record {
   ends = ap (λ (x : State). x.ends) e;
   budget = ap (λ (x : State). x.budget) e;
 }
+
+-- and behind a Begin
+pub begun_others : (old s mid : State) → s ≡ record old { lasts = s.lasts; is_begun = s.is_begun } → mid ≡ record s { table = mid.table }
+    → mid ≡ record old { lasts = mid.lasts; is_begun = mid.is_begun; table = mid.table }
+begun_others old s mid e h =
+    h ∙ ap (λ (x : State). record x { table = mid.table }) e
+    ∙ ap (λ (l : Lasts). record old { lasts = l; is_begun = s.is_begun; table = mid.table }) (sym (ap (λ (x : State). x.lasts) h))
+    ∙ ap (λ (b : Bool). record old { lasts = mid.lasts; is_begun = b; table = mid.table }) (sym (ap (λ (x : State). x.is_begun) h))

@@ -16,13 +16,14 @@ use Rattle.pass_core.specs.declared.state.Counts.{Counts}
 use Rattle.pass_core.specs.declared.state.State.{State}
 use Rattle.pass_core.specs.Counting.{with_commit}
 use Rattle.pass_core.specs.Reasons.{PassesAtCost, solve_halts, IsOfSolve, GainsReasons}
-use Rattle.pass_core.specs.Tabled.{EndsSolve, IsBegunBy}
-use Rattle.pass_core.specs.Turns.{PointsStand, KeepsPoints, IsTaskOf, EndsBy, node_halts, SolvesNode, AreReady, MakesStep}
+use Rattle.pass_core.specs.Tabled.{EndsSolve}
+use Rattle.pass_core.specs.Desks.{IsBegunBy}
+use Rattle.pass_core.specs.Turns.{PointsStand, KeepsPoints, IsTaskOf, EndsBy, node_halts, SolvesNode, SolvesOn, AreReady, MakesStep}
 use Rattle.pass_core.specs.Turns.MakesStep.{solves}
 use Rattle.pass_core.specs.Left.{StaysInRun, LeavesBy, LeavesAnyhow}
 use Rattle.pass_core.proofs.Reasoning.{IsWithin, stuck_wider}
 use Rattle.pass_core.proofs.Leaving.{leaves_before, leaves_ready, anyhow_before, anyhow_ready}
-use Rattle.pass_core.proofs.Tabling.{read_machine, begun_flight, solve_ends}
+use Rattle.pass_core.proofs.Desks.{ends_on, ends_before}
 
 on_six : {X E : Type 0} (r : Result X E) (A B C D F G H : Type 0) → (A → B → C → D → F → G → H) → OnOk r A → OnOk r B → OnOk r C
     → OnOk r D → OnOk r F → OnOk r G → OnOk r H
@@ -41,34 +42,31 @@ by_tree p tree s n trial all walk = record {
 }
 
 -- a solve that is counted
-pub solved_by : (p : Program) (tree : Tree) (s : State) (counts : Counts) (m : Machine) (n : ℕ) (i : IsProgram p)
-    (walk : tree_walk p ≡ Ok tree) (frame : s.frame ≡ frame_of p) (b : IsBegunBy p (record s { counts = counts }) m n)
+pub solved_by : (p : Program) (tree : Tree) (s : State) (counts : Counts) (m : Machine) (w n : ℕ) (i : IsProgram p)
+    (walk : tree_walk p ≡ Ok tree) (frame : s.frame ≡ frame_of p) (b : IsBegunBy p (record s { counts = counts }) m w n)
     (t : Task) (all : Solved) (new : State) {X E : Type 0} (r : Result X E)
     → counts ≡ with_commit s.counts → IsTaskOf p s n t → IsProblem (problem_of t) → PointsStand p s.lasts.nodes.items → IsToldOf t all
     → IsAnswer t all
-    → OnOk r (EndsSolve 0 (EndsBy 0 t.trial all) (record s { counts = counts }) new (read_machine p (record s { counts = counts }) m n i frame b)
-    (begun_flight p (record s { counts = counts }) m n i frame b)) → OnOk r (KeepsPoints p (record s { counts = counts }) new)
+    → OnOk r (EndsSolve w (EndsBy w t.trial all) (record s { counts = counts }) new b.desk.fits.flying b.flight) → OnOk r (KeepsPoints p (record s { counts = counts }) new)
     → OnOk r (GainsReasons (IsOfSolve counts.all s.budget.solves all (solve_halts s.kind s.banks n t.trial all
     (PassesAtCost p tree s.lasts.nodes.items n t.trial all))) (record s { counts = counts }) new)
     → OnOk r (StaysInRun (record s { counts = counts }) new)
     → OnOk r (new.stop ≡ None → LeavesBy p tree n t.trial all (record s { counts = counts }) new)
-    → OnOk r (LeavesAnyhow n t.trial all (record s { counts = counts }) new) → OnOk r (SolvesNode p s m n new)
-solved_by p tree s counts m n i walk frame b t all new r raised task problem stand exact answer ends points reasons stays leaves anyhow =
+    → OnOk r (LeavesAnyhow n t.trial all (record s { counts = counts }) new) → OnOk r (SolvesOn p s m b.desk.fits.flying w n new)
+solved_by p tree s counts m w n i walk frame b t all new r raised task problem stand exact answer ends points reasons stays leaves anyhow =
     let counted : State = record s { counts = counts } in
-    let rm = read_machine p counted m n i frame b in
-    let bf = begun_flight p counted m n i frame b in
     let halts = solve_halts s.kind s.banks n t.trial all (PassesAtCost p tree s.lasts.nodes.items n t.trial all) in
-    on_six r (EndsSolve 0 (EndsBy 0 t.trial all) counted new rm bf) (KeepsPoints p counted new)
+    on_six r (EndsSolve w (EndsBy w t.trial all) counted new b.desk.fits.flying b.flight) (KeepsPoints p counted new)
     (GainsReasons (IsOfSolve counts.all s.budget.solves all halts) counted new) (StaysInRun counted new)
     (new.stop ≡ None → LeavesBy p tree n t.trial all counted new) (LeavesAnyhow n t.trial all counted new)
-    (SolvesNode p s m n new)
+    (SolvesOn p s m b.desk.fits.flying w n new)
     (λ e k g y l a. record {
       task = t;
       is_task = task;
       fits = problem;
       all = all;
       told = exact;
-      ends = solve_ends p counted m n i frame b (EndsBy 0 t.trial all) new e;
+      ends = ends_before (EndsBy 0 t.trial all) p s counts m b.desk.fits.flying w n new (ends_on p counted m w n i frame b new t.trial all e);
       points = k stand;
       reasons = subst (λ (c : Counts). GainsReasons (IsOfSolve c.all s.budget.solves all
           (node_halts p s n t.trial all)) (record s { counts = c }) new) raised

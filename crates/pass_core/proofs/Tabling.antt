@@ -1,13 +1,10 @@
 -- What the parts of a step leave of the table, the run and the pools.
-use Rattle.std.proofs.Common.{◌≡◌, ℕ, suc, ◌+◌, ◌<◌, ◌≤◌, ◌⊎◌, inl, inr, ◌^◌, Bool, true, false, not, List, [], ◌∷◌, Option, Some, None, length, get_or, slice_index, arith, refl, sym, ap, subst, ◌∙◌}
+use Rattle.std.proofs.Common.{◌≡◌, ℕ, ◌+◌, ◌<◌, ◌⊎◌, inl, inr, ◌^◌, Bool, true, false, not, List, Option, Some, None, length, get_or, slice_index, arith, refl, sym, ap, subst, ◌∙◌}
 use Rattle.std.specs.Option.{option_map}
-use Rattle.std.specs.List.{Contains}
 use Rattle.std.proofs.lemmas.Bool.{cases_eq}
 use Rattle.std.proofs.lemmas.List.{length-map}
 use Rattle.rationals.specs.Sparse.{Entry}
-use Rattle.scen_defs.specs.Lists.{Each}
-use Rattle.scen_defs.specs.Program.{Program, is_live}
-use Rattle.scen_defs.specs.Valid.{IsProgram, Lives}
+use Rattle.scen_defs.specs.Program.{Program}
 use Rattle.scen_defs.specs.declared.report.Kind.{Kind}
 use Rattle.scen_defs.specs.declared.report.Kind.TheVariants as run_kind
 use Rattle.cut_defs.specs.Stored.{Stored, source_of}
@@ -17,34 +14,30 @@ use Rattle.cut_pool.specs.declared.offer.Offer.{Offer}
 use Rattle.cut_pool.specs.declared.offer.Offer.TheVariants as offer
 use Rattle.cut_banks.specs.declared.banks.Banks.{Banks}
 use Rattle.cut_banks.specs.Banks.{pools_of, with_pools}
-use Rattle.cut_banks.specs.Pools.{numbers_of, numbers_read, may_take, may_put, pool_if, with_pool}
+use Rattle.cut_banks.specs.Pools.{numbers_of, may_take, may_put, pool_if, with_pool}
 use Rattle.cut_banks.proofs.Places.{change_length}
-use Rattle.edit_defs.proofs.Lists.{passes-within}
-use Rattle.node_data.specs.Frames.{Frame, parent_of, frame_of, children_in}
+use Rattle.node_data.specs.Frames.{Frame}
 use Rattle.node_lp.specs.declared.solved.Solved.{Solved}
 use Rattle.node_lp.specs.declared.solved.Solved.TheVariants as solved
 use Rattle.pass_table.specs.declared.table.Reading.{Reading}
 use Rattle.pass_table.specs.declared.table.Table.{Table}
-use Rattle.pass_table.specs.Machine.{Flight, Machine, IsLive, IsChild, IsClosed, IsFlown, IsNext, MayBegin, IsValid, with_at, begun, dropped, committed, raised, opened}
+use Rattle.pass_table.specs.Machine.{Flight, Machine, IsLive, IsClosed, IsFlown, MayBegin, IsValid, with_at, dropped, committed, raised, opened}
 use Rattle.pass_table.specs.Fits.{Fits, IsStart, HasRead}
 use Rattle.pass_table.specs.Readings.{reading_at, AreWithin}
 use Rattle.pass_table.proofs.Stale.{same_at, other_at}
 use Rattle.pass_table.proofs.Valid.{valid_committed, valid_opened}
-use Rattle.crew_turns.specs.Turn.{AreChildren, first_flight, read_by_each, read_each, EndsTurn, drops, commits, adds, TakesTurn}
-use Rattle.crew_turns.proofs.Turning.{AreReads, node_read, readings_of, has_read, turn_reads, turn_flown, turn_keeps}
+use Rattle.crew_turns.specs.Turn.{EndsTurn, drops, commits, adds}
 use Rattle.proved_report.specs.declared.open.Open.{Open}
 use Rattle.found_ends.specs.declared.ends.Ends.{Ends}
 use Rattle.found_ends.specs.declared.last.Lasts.{Lasts}
-use Rattle.pass_core.specs.declared.state.Counts.{Counts}
 use Rattle.pass_core.specs.declared.state.State.{State}
 use Rattle.pass_core.specs.Counting.{is_added, after_answer, after_report}
-use Rattle.pass_core.specs.Turns.{EndsAnyhow, EndsBy}
-use Rattle.pass_core.specs.Tabled.{pool_number, HasPools, IsTabledBy, KeepsRun, KeepsTable, KeepsPools, RaisesPool, Drops, IsSolving, committed_by, EndsSolve, IsBegunBy, EndsBegun, Opens, HasRoom, StepsTo, GoesBySteps}
-use Rattle.pass_core.specs.Tabled.TakesStep.{rests, waits, opens, turns}
+use Rattle.pass_core.specs.Turns.{EndsBy}
+use Rattle.pass_core.specs.Tabled.{pool_number, HasPools, IsTabledBy, KeepsRun, KeepsTable, KeepsPools, RaisesPool, Drops, IsSolving, committed_by, EndsSolve, Opens, HasRoom, StepsTo, GoesBySteps}
+use Rattle.pass_core.specs.Tabled.TakesStep.{rests, waits, opens}
 use Rattle.pass_core.specs.Tabled.TakesSteps.{stays, goes}
 use Rattle.pass_core.specs.Tabled.Opens.{not_opened, is_opened}
-use Rattle.pass_core.proofs.Pooling.{tells, offered_risen, offered_others, all_numbers}
-use Rattle.pass_core.proofs.Parentage.{children_are}
+use Rattle.pass_core.proofs.Pooling.{tells, offered_risen, offered_others}
 
 -- ---- one change behind another
 pub run_then : (a b c : State) → KeepsRun a b → KeepsRun b c → KeepsRun a c
@@ -297,122 +290,15 @@ ends_then w Way old mid new m f e k = record {
 }
 
 -- how many pools there are
-pools_kept : (old new : State) → KeepsRun old new → HasPools (length old.frame.parents) old.banks → HasPools (length new.frame.parents) new.banks
+pub pools_kept : (old new : State) → KeepsRun old new → HasPools (length old.frame.parents) old.banks → HasPools (length new.frame.parents) new.banks
 pools_kept old new k h =
     let same : length new.frame.parents ≡ length old.frame.parents = ap (λ (g : Frame). length g.parents) k.frame in
     record { plain = omega (arith, same, k.plain, h.plain); cone = omega (arith, same, k.cone, h.cone) }
 
-ends_keep : (w : ℕ) (m : Machine) (f : Flight) (told : Bool) (k : Machine) → EndsTurn w m f told k → (k.live ≡ m.live) × (k.parent ≡ m.parent)
+pub ends_keep : (w : ℕ) (m : Machine) (f : Flight) (told : Bool) (k : Machine) → EndsTurn w m f told k → (k.live ≡ m.live) × (k.parent ≡ m.parent)
 ends_keep w m f told k drops = (refl, refl)
 ends_keep w m f told k (commits point) = (refl, refl)
 ends_keep w m f told k (adds point low) = (refl, refl)
-
--- ---- a whole turn
-module _ (p : Program) (s : State) (m : Machine) (n : ℕ) (i : IsProgram p) (frame : s.frame ≡ frame_of p) (b : IsBegunBy p s m n) where
-  abbrev pub begun_flight : Flight
-  begun_flight = read_by_each m.number (first_flight m n) (children_in s.frame n)
-
-  abbrev pub read_machine : Machine
-  read_machine = read_each (begun m 0 n) (first_flight m n) (children_in s.frame n)
-
-  pub reads : AreReads (begun m 0 n) (first_flight m n) (children_in s.frame n) read_machine
-  reads = turn_reads m n (children_in s.frame n) b.valid b.idle b.may
-
-  pub are_children : AreChildren m n (children_in s.frame n)
-  are_children = subst (λ (g : Frame). AreChildren m n (children_in g n)) (sym frame)
-      (children_are p m i b.machine.live (λ k. ap (λ (g : ℕ → ℕ). g k) b.machine.parent ∙ ap (λ (g : Frame). get_or g.parents k 0) frame) n
-      (sym (b.machine.live n) ∙ b.may.live))
-
-  pub at_node : begun_flight.node ≡ n
-  at_node = node_read m.number (first_flight m n) (children_in s.frame n)
-
-  -- the numbers of the pools are the machine's
-  pub reads_number : (k : ℕ) → read_machine.number k ≡ pool_number s k
-  reads_number k = ap (λ (g : ℕ → ℕ). g k) reads.number ∙ b.machine.number k
-
-  pools_long : (kind : Kind) → length s.frame.parents ≤ length (pools_of kind s.banks)
-  pools_long run_kind.Feasible = b.pools.plain
-  pools_long run_kind.Recession = b.pools.cone
-  pools_long run_kind.Cost = b.pools.plain
-
-  child_within : (c : ℕ) → IsChild m n c → c < length (pools_of s.kind s.banks)
-  child_within c child =
-      let place : c < length p.nodes = passes-within is_live c p.nodes (sym (b.machine.live c) ∙ child.live) in
-      let long : length s.frame.parents ≡ length p.nodes = ap (λ (g : Frame). length g.parents) frame ∙ length-map p.nodes parent_of in
-      omega (arith, pools_long s.kind, place, long)
-
-  pub lives : Lives p n
-  lives = sym (b.machine.live n) ∙ b.may.live
-
-  -- each child has a pool
-  pub within_pools : Each (λ (c : ℕ). c < length (pools_of s.kind s.banks)) (children_in s.frame n)
-  within_pools = within (children_in s.frame n) (λ c k. child_within c ((are_children c).1 k))
-    where
-      within : (cs : List ℕ) → ((c : ℕ) → Contains cs c → c < length (pools_of s.kind s.banks)) → Each (λ (c : ℕ). c < length (pools_of s.kind s.banks)) cs
-      within [] h = tt
-      within (c ∷ cs) h = (h c (0, omega arith, refl), within cs (λ d k. h d (suc k.0, omega (arith, k.1), k.2)))
-
-  begun_children : AreChildren (begun m 0 n) n (children_in s.frame n)
-  begun_children c = (
-    λ h. (are_children c).0 (record { live = h.live; lower = h.lower; parent = h.parent }),
-    λ h. let k = (are_children c).1 h in record { live = k.live; lower = k.lower; parent = k.parent },
-  )
-
-  -- the solve that was begun and has read is in flight
-  pub begun_solving : (rs : List Reading) → rs ≡ numbers_read (pools_of s.kind s.banks) (children_in s.frame n) → IsSolving s 0 read_machine begun_flight rs
-  begun_solving rs e = subst (IsSolving s 0 read_machine begun_flight) (sym all) (record {
-    valid = reads.valid;
-    fits = reads.fits s.table b.fits;
-    flown = turn_flown m n (children_in s.frame n) read_machine reads;
-    read = given;
-    within = λ j less.
-        let k = given.child j less in
-        let c : IsChild m n (reading_at (readings_of m.number (children_in s.frame n)) j).child = record {
-          live = ap (λ (l : ℕ → Bool). l (reading_at (readings_of m.number (children_in s.frame n)) j).child) (sym reads.live) ∙ k.live;
-          lower = k.lower;
-          parent = ap (λ (g : ℕ → ℕ). g (reading_at (readings_of m.number (children_in s.frame n)) j).child) (sym reads.parent) ∙ k.parent ∙ at_node;
-        } in
-        omega (arith, child_within _ c, length-map (pools_of s.kind s.banks) (λ (h : Held). h.number));
-    room = omega (arith, reads.commits, b.room);
-  })
-    where
-      all : rs ≡ readings_of m.number (children_in s.frame n)
-      all = e ∙ all_numbers (pools_of s.kind s.banks) m.number (children_in s.frame n)
-          within_pools (λ c. sym (b.machine.number c))
-
-      given : HasRead read_machine begun_flight (numbers_of (pools_of s.kind s.banks)) (readings_of m.number (children_in s.frame n))
-      given = has_read (begun m 0 n) read_machine (first_flight m n) (children_in s.frame n) (numbers_of (pools_of s.kind s.banks))
-          begun_children reads (λ j less. sym (b.machine.number (get_or (children_in s.frame n) j 0)))
-
-  -- and where it ends, the worker took its turn
-  pub solve_ends : (Way : Machine → Flight → Bool → Machine → Type 0) (new : State) → EndsSolve 0 Way s new read_machine begun_flight → EndsBegun Way p m n new
-  solve_ends Way new e =
-      let turn : TakesTurn m e.machine = record {
-        node = n;
-        may = b.may;
-        children = children_in s.frame n;
-        are_children = are_children;
-        added = e.added;
-        ends = e.ends;
-      } in
-      record {
-        machine = e.machine;
-        turn = turn;
-        node = refl;
-        way = e.way;
-        tabled = record {
-          valid = (turn_keeps m e.machine b.valid b.idle turn).0;
-          fits = e.fits;
-          idle = (turn_keeps m e.machine b.valid b.idle turn).1;
-          machine = record {
-            live = λ k. ap (λ (l : ℕ → Bool). l k) ((ends_keep 0 _ _ _ _ e.ends).0 ∙ reads.live) ∙ b.machine.live k;
-            parent = (ends_keep 0 _ _ _ _ e.ends).1 ∙ reads.parent ∙ b.machine.parent ∙ ap (λ (g : Frame). slice_index g.parents) (sym e.run.frame);
-            number = e.number;
-          };
-          pools = pools_kept s new e.run b.pools;
-          unused = λ z. let no : false ≡ true = sym z ∙ e.run.is_begun ∙ b.is_begun in absurd (cc);
-        };
-      }
 
 -- ---- a step
 -- nothing of the run changes
@@ -476,20 +362,6 @@ room_of m table fits room = (omega (arith, fits.agrees.commits, room.0), omega (
 pub room_in : (m : Machine) (table : Table) → Fits table m → HasRoom m → (table.commits + 1 < 2 ^ 64) × (table.run + 1 < 2 ^ 64)
 room_in m table fits room = (omega (arith, fits.agrees.commits, room.0), omega (arith, fits.agrees.run, room.1))
 
--- a node was begun
-pub begun_by : (p : Program) (m : Machine) (s : State) (table : Table) (n : ℕ) → IsTabledBy p s m → s.is_begun ≡ true → HasRoom m → MayBegin m n
-    → Fits table (begun m 0 n) → IsBegunBy p (record s { table = table }) m n
-begun_by p m s table n t z room may fits = record {
-  valid = t.valid;
-  idle = t.idle;
-  may = may;
-  fits = fits;
-  machine = record { live = t.machine.live; parent = t.machine.parent; number = t.machine.number };
-  pools = t.pools;
-  is_begun = z;
-  room = room.0;
-}
-
 -- nothing may be begun, or there is no room for it
 pub rested : (p : Program) (m : Machine) (s : State) → (HasRoom m → (n : ℕ) → MayBegin m n → ⊥) → IsTabledBy p s m → StepsTo p m false s
 rested p m s none t = record { machine = m; step = rests none; tabled = t }
@@ -498,10 +370,6 @@ rested p m s none t = record { machine = m; step = rests none; tabled = t }
 pub opening : (p : Program) (m : Machine) (s : State) → IsClosed m → Opens p m s → StepsTo p m true s
 opening p m s closed (not_opened stops t) = record { machine = m; step = waits closed; tabled = t }
 opening p m s closed (is_opened number t) = record { machine = opened m number; step = opens closed number; tabled = t }
-
--- a node was solved
-pub turned : (Way : Machine → Flight → Bool → Machine → Type 0) (p : Program) (m : Machine) (n : ℕ) (s : State) → IsNext m n → EndsBegun Way p m n s → StepsTo p m true s
-turned Way p m n s next e = record { machine = e.machine; step = turns e.machine e.turn (subst (IsNext m) (sym e.node) next); tabled = e.tabled }
 
 -- the next run opened
 pub run_opened : (p : Program) (m : Machine) (old mid new : State) → IsTabledBy p old m → old.is_begun ≡ true → KeepsTable old mid
@@ -549,19 +417,6 @@ put_keeps old kind cut banks b = subst (λ (x : Banks). KeepsTable old (record o
     (change_length (may_put cut) (λ p. with_cut p cut) (source_of cut).node (pools_of kind old.banks)))
 
 -- ---- how a solve ends
--- a node was begun, and solves are counted since
-pub begun_counted : (p : Program) (s : State) (m : Machine) (n : ℕ) (counts : Counts) → IsBegunBy p s m n → IsBegunBy p (record s { counts = counts }) m n
-begun_counted p s m n counts b = record {
-  valid = b.valid;
-  idle = b.idle;
-  may = b.may;
-  fits = b.fits;
-  machine = record { live = b.machine.live; parent = b.machine.parent; number = b.machine.number };
-  pools = b.pools;
-  is_begun = b.is_begun;
-  room = b.room;
-}
-
 -- one that leaves no last solve
 pub left_ends : (w : ℕ) (Way : Machine → Flight → Bool → Machine → Type 0) (s new : State) (m : Machine) (f : Flight) (rs : List Reading) (why : Option Open) (table : Table) → IsSolving s w m f rs
     → ((k : ℕ) → m.number k ≡ pool_number s k) → Drops w s.table new.table → new ≡ record s { stop = why; table = table } → Way m f false (dropped m w) → EndsSolve w Way s new m f
@@ -585,14 +440,6 @@ pub not_false : (b : Bool) → not b ≡ false → b ≡ true
 not_false true e = refl
 not_false false e = absurd (let no : true ≡ false = e in cc)
 
--- where the node has no program
-pub stuck_ends : (p : Program) (s : State) (m : Machine) (n : ℕ) (i : IsProgram p) (frame : s.frame ≡ frame_of p) (b : IsBegunBy p s m n)
-    (new : State) (why : Option Open) (table : Table) → Drops 0 s.table new.table → new ≡ record s { stop = why; table = table } → EndsBegun EndsAnyhow p m n new
-stuck_ends p s m n i frame b new why table drop e =
-    solve_ends p s m n i frame b EndsAnyhow new
-    (left_ends 0 EndsAnyhow s new (read_machine p s m n i frame b) (begun_flight p s m n i frame b) (numbers_read (pools_of s.kind s.banks) (children_in s.frame n)) why table
-    (begun_solving p s m n i frame b (numbers_read (pools_of s.kind s.banks) (children_in s.frame n)) refl) (reads_number p s m n i frame b) drop e tt)
-
 -- by what is told of the solve
 pub told_ends : (w : ℕ) (trial : List Entry) (a b : Solved) (old new : State) (m : Machine) (f : Flight) → a ≡ b → EndsSolve w (EndsBy w trial b) old new m f
     → EndsSolve w (EndsBy w trial a) old new m f
@@ -606,10 +453,6 @@ neither_ends w trial a s new m f rs why table solving number drop e (inl q) =
     told_ends w trial a solved.Loose s new m f q (left_ends w (EndsBy w trial solved.Loose) s new m f rs why table solving number drop e (refl, refl))
 neither_ends w trial a s new m f rs why table solving number drop e (inr q) =
     told_ends w trial a solved.NotGood s new m f q (left_ends w (EndsBy w trial solved.NotGood) s new m f rs why table solving number drop e (refl, refl))
-
--- in whatever way
-pub anyhow : (Way : Machine → Flight → Bool → Machine → Type 0) (p : Program) (m : Machine) (n : ℕ) (s : State) → EndsBegun Way p m n s → EndsBegun EndsAnyhow p m n s
-anyhow Way p m n s e = record { machine = e.machine; turn = e.turn; node = e.node; way = tt; tabled = e.tabled }
 
 -- one more step
 pub goes_further : (p : Program) (m : Machine) (old new : State) (told : Bool) → GoesBySteps p m old

@@ -3,6 +3,7 @@ pub mod Counting
 pub mod Versions
 pub mod Explained
 pub mod Tabled
+pub mod Desks
 pub mod Reasons
 pub mod Left
 pub mod Grounds

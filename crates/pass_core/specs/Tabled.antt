@@ -38,14 +38,18 @@ pub record IsMachineOf (p : Program) (s : State) (m : Machine) : Type 0 where
 abbrev pub IsUnused : State → Type 0
 IsUnused s = (m : Machine) → IsStart s.frame.parents m → Fits s.table m
 
--- the table fits this machine, in which no solve is in flight
-pub record IsTabledBy (p : Program) (s : State) (m : Machine) : Type 0 where
+-- the table answers in this way for this machine, in which no solve is in flight
+pub record IsTabledIn (Answers : Table → Machine → Type 0) (p : Program) (s : State) (m : Machine) : Type 0 where
   pub valid : IsValid m
-  pub fits : Fits s.table m
+  pub fits : Answers s.table m
   pub idle : IsIdle m
   pub machine : IsMachineOf p s m
   pub pools : HasPools (length s.frame.parents) s.banks
   pub unused : s.is_begun ≡ false → IsUnused s
+
+-- the table fits this machine, in which no solve is in flight
+abbrev pub IsTabledBy : Program → State → Machine → Type 0
+IsTabledBy p s m = IsTabledIn Fits p s m
 
 -- the table fits a machine of the program, in which no solve is in flight
 abbrev pub IsTabled : Program → State → Type 0
@@ -139,18 +143,7 @@ pub record EndsSolve (worker : ℕ) (Way : Machine → Flight → Bool → Machi
   pub number : (n : ℕ) → machine.number n ≡ pool_number new n
   pub run : KeepsRun old new
 
--- a node that may be begun was begun in this machine
-pub record IsBegunBy (p : Program) (s : State) (m : Machine) (n : ℕ) : Type 0 where
-  pub valid : IsValid m
-  pub idle : IsIdle m
-  pub may : MayBegin m n
-  pub fits : Fits s.table (begun m 0 n)
-  pub machine : IsMachineOf p s m
-  pub pools : HasPools (length s.frame.parents) s.banks
-  pub is_begun : s.is_begun ≡ true
-  pub room : m.commits + 1 < 2 ^ 64
-
--- and the worker took its turn, in which the node's solve ended in this way
+-- the worker took its turn at node n, in which the node's solve ended in this way
 pub record EndsBegun (Way : Machine → Flight → Bool → Machine → Type 0) (p : Program) (m : Machine) (n : ℕ) (s : State) : Type 0 where
   pub machine : Machine
   pub turn : TakesTurn m machine

@@ -42,6 +42,7 @@ use Rattle.pass_core.specs.Counting.{with_commit}
 use Rattle.pass_core.specs.Explained.{IsTask}
 use Rattle.pass_core.specs.Reasons.{PassesInJoin, PassesAtCost, Halts, solve_halts, IsOfSolve, IsOfOpening, GainsReasons}
 use Rattle.pass_core.specs.Tabled.{HasRoom, IsTabledBy, committed_by, EndsBegun, Opens}
+use Rattle.pass_core.specs.Desks.{EndsOn}
 use Rattle.pass_core.specs.Left.{StaysInRun, LeavesBy, IsOpenOrStuck, LeavesAnyhow, places_in, next_kind, OpensRun}
 use Rattle.pass_core.specs.Grounds.{OpeningDual, PassesInDual, put_cuts, CanPutCuts, OneIsNotPut}
 use Rattle.pass_core.specs.Made.{cuts_there}
@@ -187,17 +188,18 @@ abbrev pub node_halts : Program → State → ℕ → List Entry → Solved → 
 node_halts p s n trial all =
     solve_halts s.kind s.banks n trial all (λ o. ByTree p (λ tree. PassesAtCost p tree s.lasts.nodes.items n trial all o))
 
--- the worker's turn was the solve of the program of node n, and ended by what is told of it, which is an answer of that program; the run
--- and the versions stay, the points go on standing, and one more solve is counted, of which each reason is told that the state gains;
--- where nothing stops the method then, what the solve leaves is known
-pub record SolvesNode (p : Program) (old : State) (m : Machine) (n : ℕ) (new : State) : Type 0 where
+-- the program of node n was solved, and the solve ended so by what is told of it, which is an answer of that program; the run and the
+-- versions stay, the points go on standing, and one more solve is counted, of which each reason is told that the state gains; where
+-- nothing stops the method then, what the solve leaves is known
+pub record SolvesProgram (Ends : (Machine → Flight → Bool → Machine → Type 0) → Type 0) (p : Program) (old : State) (n : ℕ) (new : State)
+    : Type 0 where
   pub task : Task
   pub is_task : IsTaskOf p old n task
   pub fits : IsProblem (problem_of task)
   -- what is told of it
   pub all : Solved
   pub told : IsToldOf task all
-  pub ends : EndsBegun (EndsBy 0 task.trial all) p m n new
+  pub ends : Ends (EndsBy 0 task.trial all)
   pub points : PointsStand p new.lasts.nodes.items
   pub reasons : let counts : Counts = with_commit old.counts in
       GainsReasons (IsOfSolve counts.all old.budget.solves all (node_halts p old n task.trial all))
@@ -206,6 +208,14 @@ pub record SolvesNode (p : Program) (old : State) (m : Machine) (n : ℕ) (new :
   pub answer : IsAnswer task all
   pub leaves : (tree : Tree) → tree_walk p ≡ Ok tree → new.stop ≡ None → LeavesBy p tree n task.trial all old new
   pub anyhow : LeavesAnyhow n task.trial all old new
+
+-- that was the worker's turn
+abbrev pub SolvesNode : Program → State → Machine → ℕ → State → Type 0
+SolvesNode p old m n new = SolvesProgram (λ Way. EndsBegun Way p m n new) p old n new
+
+-- a solve in flight ended so at a desk
+abbrev pub SolvesOn : Program → State → Machine → Machine → ℕ → ℕ → State → Type 0
+SolvesOn p old m flying worker n new = SolvesProgram (λ Way. EndsOn Way p old m flying worker n new) p old n new
 
 -- ---- steps
 -- the last solves of a run, for which there are places once something was done

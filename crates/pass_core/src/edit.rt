@@ -14,7 +14,7 @@ ghost use Rattle.pass_core.specs.Explained.{IsUnstopped};
 ghost use Rattle.pass_core.specs.Made.{BankBooks, PoolsAreMade, CutsAreMade, HasShiftOf};
 ghost use Rattle.pass_core.specs.Tabled.{IsTabled, IsUnused};
 
-use crate::state::{State, WORKERS};
+use crate::state::State;
 use crew_table::Crew;
 use cut_defs::{Due, Part, Touch};
 use edit_defs::Touched;
@@ -216,7 +216,8 @@ impl State {
         ensures unused { AreParents self.old.frame.parents → OnOk result (IsUnused self.new) }
         ensures stop { AreParents self.old.frame.parents → OnOk result (self.new.stop ≡ self.old.stop) }
     {
-        let Some(table) = Crew::start(alloc, self.frame.parents(), WORKERS)? else {
+        let workers = self.table.workers();
+        let Some(table) = Crew::start(alloc, self.frame.parents(), workers)? else {
             self.stuck();
             return Ok(());
         };

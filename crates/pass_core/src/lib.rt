@@ -13,4 +13,4 @@ mod state;
 pub use budget::Budget;
 pub use found_ends::{Closed, Settled};
 pub use laws::{made_ends_assemble_well, roots_assemble_well};
-pub use state::State;
+pub use state::{Begun, State};

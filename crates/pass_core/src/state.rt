@@ -1,8 +1,8 @@
 //! What is known of a program, and the next step.
-ghost use Rattle.std.specs.Prelude.{◌≡◌, ◌⊎◌, ◌<◌, ℕ, Ok, [], length, replicate, true, false, IfOk, IfSome, IsSome, IsSomeAnd, OnOk};
+ghost use Rattle.std.specs.Prelude.{◌≡◌, ◌⊎◌, ◌<◌, ℕ, Ok, None, [], length, replicate, true, false, IfOk, IfSome, IsSome, IsSomeAnd, OnOk};
 ghost use Rattle.scen_defs.specs.Program.{content, Program as ProgramOf};
 ghost use Rattle.scen_tree.specs.Trees.{Tree as TreeOf, tree_walk};
-ghost use Rattle.scen_defs.specs.Valid.{Lives};
+ghost use Rattle.scen_defs.specs.Valid.{IsProgram, Lives};
 ghost use Rattle.node_data.specs.Counts.{untouched, version_of};
 ghost use Rattle.node_data.specs.Frames.{frame_of, children_in};
 ghost use Rattle.cut_banks.specs.Banks.{empty_banks, pools_of};
@@ -15,8 +15,9 @@ ghost use Rattle.pass_core.specs.Counting.{no_commits, with_commit, first_stop, 
 ghost use Rattle.pass_core.specs.Beginning.{IsBeginning, StartsOver};
 ghost use Rattle.pass_core.specs.Explained.{IsDatumOf, KeepsExplained};
 ghost use Rattle.pass_core.specs.Made.{BankBooks, AreBooksOf, CutsAreMade};
-ghost use Rattle.pass_core.specs.Tabled.{IsTabled, IsTabledBy, StepsTo, IsBegunBy, EndsBegun};
-ghost use Rattle.pass_core.specs.Turns.{PointsStand, KeepsPoints, IsTaskOf, IsSetOut, EndsAnyhow, SolvesNode, AreReady, MakesStep};
+ghost use Rattle.pass_core.specs.Tabled.{IsTabled, IsTabledBy, StepsTo};
+ghost use Rattle.pass_core.specs.Desks.{IsDesk, BeginsOn, IsBegunBy, EndsOn};
+ghost use Rattle.pass_core.specs.Turns.{PointsStand, KeepsPoints, IsTaskOf, IsSetOut, EndsAnyhow, SolvesOn, AreReady, MakesStep};
 ghost use Rattle.pass_core.specs.Turns.{Progresses, Rests};
 
 use crate::budget::Budget;
@@ -33,10 +34,7 @@ use scen_defs::{Kind, Program};
 use scen_tree::Tree;
 use std::alloc::Global;
 
-/// How many workers there are.
-pub(crate) const WORKERS: u32 = 1;
-
-/// The worker that solves.
+/// The worker that solves where there is one alone.
 const WORKER: u32 = 0;
 
 /// What the nested method knows of a program.
@@ -117,7 +115,7 @@ fn nothing_found(alloc: Global, nodes: u32) -> Result<(Banks, Lasts, Versions), 
 
 /// A solve as it was begun: the program of its node, and what was read of the pools of its children.
 #[derive(Drop)]
-pub(crate) struct Begun {
+pub struct Begun {
     pub(crate) node: u32,
     pub(crate) task: Task,
     pub(crate) readings: Vec<Reading>,
@@ -126,18 +124,24 @@ pub(crate) struct Begun {
 }
 
 impl State {
-    /// The state before any solve. None where the program's nodes aren't numbered from the root on.
-    pub fn start(alloc: Global, program: &Program, budget: Budget) -> Result<Option<State>, Memory>
+    /// The state before any solve, of so many workers. None where the program's nodes aren't numbered from the root on, or there is no
+    /// worker.
+    pub fn start(
+        alloc: Global,
+        program: &Program,
+        budget: Budget,
+        workers: u32,
+    ) -> Result<Option<State>, Memory>
         ensures beginning { IfOk result (λ all. IfSome all (IsBeginning (content program.now) budget)) }
-        ensures counts { IfOk result (λ all. IfSome all (λ s. s.counts ≡ no_commits)) }
+        ensures counts { IfOk result (λ all. IfSome all (λ s. (s.counts ≡ no_commits) × (length s.table.flights.items ≡ workers))) }
         ensures tabled { IfOk result (λ all. IfSome all (IsTabled (content program.now))) }
-        ensures some { length (content program.now).nodes < nothing → IfOk result (λ all. IsSome all) }
+        ensures some { 0 < workers → length (content program.now).nodes < nothing → IfOk result (λ all. IsSome all) }
         // there are no cuts, which are made for every book, and no edit touched a node
         ensures made { (b : BankBooks) → IfOk result (λ all. IfSome all (CutsAreMade b)) }
         ensures untouched { (n : ℕ) → IfOk result (λ all. IfSome all (λ s. version_of s.versions n ≡ untouched)) }
     {
         let frame = Frame::of(alloc, program)?;
-        let Some(table) = Crew::start(alloc, frame.parents(), WORKERS)? else {
+        let Some(table) = Crew::start(alloc, frame.parents(), workers)? else {
             return Ok(None);
         };
         let (banks, lasts, versions) = nothing_found(alloc, frame.nodes())?;
@@ -168,7 +172,8 @@ impl State {
         ensures tabled { let p = content program.now in length p.nodes < nothing → OnOk result (IsTabled p self.new) }
     {
         let counts = self.counts;
-        if let Some(state) = State::start(alloc, program, self.budget)? {
+        let workers = self.table.workers();
+        if let Some(state) = State::start(alloc, program, self.budget, workers)? {
             *self = State { counts, ..state };
         }
         Ok(())
@@ -203,13 +208,25 @@ impl State {
             return Ok(true);
         }
         self.table.has_workers();
-        match self.table.begin(WORKER) {
+        match self.begin(WORKER) {
             Some(node) => {
                 self.solve(alloc, program, tree, node)?;
                 Ok(true)
             }
             None => Ok(false),
         }
+    }
+
+    /// Begins the node that is next, as the worker's solve, and answers it. None where no node is next, and where the worker has a
+    /// solve in flight or no place.
+    pub fn begin(&mut self, worker: u32) -> Option<u32>
+        ensures begins { (p : ProgramOf) (m : Machine) → IsProgram p → self.old.frame ≡ frame_of p → self.old.is_begun ≡ true
+            → (d : IsDesk p self.old m) → d.fits.flying.flight worker ≡ None → worker < length self.old.table.flights.items
+            → BeginsOn p m d.fits.flying worker result self.new }
+        ensures others { self.new ≡ record self.old { table = self.new.table } }
+        ensures workers { length self.new.table.flights.items ≡ length self.old.table.flights.items }
+    {
+        self.table.begin(worker)
     }
 
     /// Where nothing was done yet, there are places for the last solves of all nodes.
@@ -228,7 +245,7 @@ impl State {
         Ok(())
     }
 
-    /// Solves a node that was begun, and commits.
+    /// Solves a node that was begun, and ends the solve.
     fn solve(
         &mut self,
         alloc: Global,
@@ -238,11 +255,11 @@ impl State {
     ) -> Result<(), Memory>
         ensures explained { OnOk result (KeepsExplained (content program.now) tree.now self.old self.new) }
         ensures tabled { let p = content program.now in (m : Machine) → self.old.frame ≡ frame_of p
-            → IsBegunBy p self.old m node → OnOk result (EndsBegun EndsAnyhow p m node self.new) }
+            → (b : IsBegunBy p self.old m 0 node) → OnOk result (EndsOn EndsAnyhow p self.old m b.desk.fits.flying 0 node self.new) }
         // the node's program is solved
         ensures solves { let p = content program.now in (m : Machine) → tree_walk p ≡ Ok tree.now
-            → self.old.frame ≡ frame_of p → IsBegunBy p self.old m node → PointsStand p self.old.lasts.nodes.items
-            → OnOk result (SolvesNode p self.old m node self.new) }
+            → self.old.frame ≡ frame_of p → (b : IsBegunBy p self.old m 0 node) → PointsStand p self.old.lasts.nodes.items
+            → OnOk result (SolvesOn p self.old m b.desk.fits.flying 0 node self.new) }
         // a solve is counted, or something stops the method
         ensures progress { OnOk result (Progresses self.old self.new) }
         ensures made { let p = content program.now in (b : BankBooks) → tree_walk p ≡ Ok tree.now
@@ -255,12 +272,12 @@ impl State {
         };
         begun.hint = self.hints.lend(alloc, &begun.task)?;
         let solved = solved_node(alloc, &begun.task, &mut begun.hint)?;
-        self.end(alloc, program, tree, &mut begun, solved)
+        self.end(alloc, program, tree, WORKER, &mut begun, solved)
     }
 
     /// The solve of a node that was begun, with what is read of its children's pools. None where the node has no program, which never
     /// comes.
-    fn set_out(
+    pub fn set_out(
         &self,
         alloc: Global,
         program: &Program,
@@ -269,9 +286,9 @@ impl State {
     ) -> Result<Option<Begun>, Memory>
         ensures task { IfOk result (λ all. IfSome all (IsSetOut (content program.now) tree.now self.now)) }
         ensures node { IfOk result (λ all. IfSome all (λ b. b.node ≡ node)) }
-        // where the node was begun in this state, and the points stand, it has one
-        ensures some { let p = content program.now in (m : Machine) → tree_walk p ≡ Ok tree.now → self.now.frame ≡ frame_of p
-            → IsBegunBy p self.now m node → PointsStand p self.now.lasts.nodes.items → IfOk result (λ all. IsSome all) }
+        // where a worker's solve of the node is in flight, and the points stand, it has one
+        ensures some { let p = content program.now in (m : Machine) (worker : ℕ) → tree_walk p ≡ Ok tree.now → self.now.frame ≡ frame_of p
+            → IsBegunBy p self.now m worker node → PointsStand p self.now.lasts.nodes.items → IfOk result (λ all. IsSome all) }
     {
         self.banks.keeps_nodes();
         let Some(begun) = self.begun(alloc, program, tree, node)? else {
@@ -283,12 +300,13 @@ impl State {
         Ok(Some(begun))
     }
 
-    /// Ends a solve that was begun, with what is told of its program: it is counted, and commits.
-    fn end(
+    /// Ends the worker's solve, with what is told of its program: it is counted, and commits.
+    pub fn end(
         &mut self,
         alloc: Global,
         program: &Program,
         tree: &Tree,
+        worker: u32,
         begun: &mut Begun,
         solved: Solved,
     ) -> Result<(), Memory>
@@ -296,13 +314,15 @@ impl State {
         requires answer { IsAnswer begun.old.task solved }
         ensures explained { let p = content program.now in IsSetOut p tree.now self.old begun.old
             → OnOk result (KeepsExplained p tree.now self.old self.new) }
+        // at a desk at which the program and the numbers with which it was begun are still those of its node, it ends as a whole turn
         ensures tabled { let p = content program.now in (m : Machine) → self.old.frame ≡ frame_of p
-            → IsSetOut p tree.now self.old begun.old → IsBegunBy p self.old m begun.old.node
-            → OnOk result (EndsBegun EndsAnyhow p m begun.old.node self.new) }
-        // where it was begun in this state the program of its node is solved
-        ensures solves { let p = content program.now in (m : Machine) → tree_walk p ≡ Ok tree.now
-            → self.old.frame ≡ frame_of p → IsSetOut p tree.now self.old begun.old → IsBegunBy p self.old m begun.old.node
-            → PointsStand p self.old.lasts.nodes.items → OnOk result (SolvesNode p self.old m begun.old.node self.new) }
+            → IsSetOut p tree.now self.old begun.old → (b : IsBegunBy p self.old m worker begun.old.node)
+            → OnOk result (EndsOn EndsAnyhow p self.old m b.desk.fits.flying worker begun.old.node self.new) }
+        // in which the program of the node is solved
+        ensures solves { let p = content program.now in (m : Machine) → tree_walk p ≡ Ok tree.now → self.old.frame ≡ frame_of p
+            → IsSetOut p tree.now self.old begun.old → (b : IsBegunBy p self.old m worker begun.old.node)
+            → PointsStand p self.old.lasts.nodes.items
+            → OnOk result (SolvesOn p self.old m b.desk.fits.flying worker begun.old.node self.new) }
         ensures progress { OnOk result (Progresses self.old self.new) }
         ensures made { let p = content program.now in (b : BankBooks) → tree_walk p ≡ Ok tree.now → self.old.frame ≡ frame_of p
             → IsSetOut p tree.now self.old begun.old → AreBooksOf p self.old.versions b → CutsAreMade b self.old
@@ -310,7 +330,7 @@ impl State {
     {
         self.hints.take_back(&begun.task, &mut begun.hint)?;
         self.counts.raise();
-        self.commit(alloc, program, tree, WORKER, begun.node, begun, solved)
+        self.commit(alloc, program, tree, worker, begun.node, begun, solved)
     }
 
     /// The task of a node. None where the node has no data.

@@ -1,4 +1,4 @@
-use Rattle.std.proofs.Common.{◌≡◌, Option, IfSome, refl, subst, arith}
+use Rattle.std.proofs.Common.{◌≡◌, Option, IfSome, length, refl, subst, arith}
 use Rattle.scen_defs.specs.Program.{content}
 use Rattle.scen_defs.proofs.Contents.{nodes_length}
 use Rattle.pass_core.specs.declared.state.State.{State}
@@ -34,7 +34,8 @@ returns-in-Some-clause-stands c =
     let beginning : IsBeginning p c.args.budget c.in-Some.state =
     subst (λ (o : Option State). IfSome o (IsBeginning p c.args.budget)) c.in-Some.is c.in_ok-state.ensures.beginning in
     let counts : c.in-Some.state.counts ≡ no_commits =
-    subst (λ (o : Option State). IfSome o (λ s. s.counts ≡ no_commits)) c.in-Some.is c.in_ok-state.ensures.counts in
+    (subst (λ (o : Option State). IfSome o (λ s. (s.counts ≡ no_commits) × (length s.table.flights.items ≡ 1))) c.in-Some.is
+    c.in_ok-state.ensures.counts).0 in
     begins_on p c.args.budget (record { state = c.in-Some.state; tree = c.in-Ok.tree }) beginning c.in-Ok.ensures
     (λ i few. subst (λ (o : Option State). IfSome o (IsTabled p)) c.in-Some.is c.in_ok-state.ensures.tabled)
     (λ i few. none_counted c.in-Some.state counts)
@@ -50,5 +51,6 @@ returns-in-Some-clause-begins c = λ few.
     let p = content c.args.program.now in (
       c.in-Ok.ensures,
       subst (λ (o : Option State). IfSome o (IsBeginning p c.args.budget)) c.in-Some.is c.in_ok-state.ensures.beginning,
-      subst (λ (o : Option State). IfSome o (λ s. s.counts ≡ no_commits)) c.in-Some.is c.in_ok-state.ensures.counts,
+      (subst (λ (o : Option State). IfSome o (λ s. (s.counts ≡ no_commits) × (length s.table.flights.items ≡ 1))) c.in-Some.is
+          c.in_ok-state.ensures.counts).0,
     )

@@ -3,21 +3,21 @@ use Rattle.scen_defs.specs.Program.{content}
 use Rattle.proved_report.specs.declared.open.Open.TheVariants.{Solves}
 use Rattle.pass_core.specs.declared.state.Begun.{Begun}
 use Rattle.pass_core.specs.declared.state.State.{State}
-use Rattle.pass_core.specs.Tabled.{IsBegunBy, EndsBegun}
-use Rattle.pass_core.specs.Turns.{IsSetOut, EndsAnyhow, SolvesNode}
+use Rattle.pass_core.specs.Desks.{IsBegunBy, EndsOn}
+use Rattle.pass_core.specs.Turns.{IsSetOut, EndsAnyhow, SolvesOn}
 use Rattle.pass_core.proofs.Making.{same_made}
 use Rattle.pass_core.proofs.Progressing.{stuck_progresses}
-use Rattle.pass_core.proofs.Tabling.{stuck_ends}
+use Rattle.pass_core.proofs.Desks.{stuck_ends}
 use Rattle.pass_core.proofs.state.State.solve.Goals as goal
 
 -- ---- where the node has no program
 pub returns-in_default-clause-tabled : goal.returns-in_default-clause-tabled
 returns-in_default-clause-tabled c = λ m frame b.
-    stuck_ends (content c.args.program.now) c.args.self.now m c.args.node c.args.program.now.keeps frame b c.left_stuck.new.self _ _ c.left_stuck.ensures.drops c.left_stuck.ensures.others
+    stuck_ends (content c.args.program.now) c.args.self.now m 0 c.args.node c.args.program.now.keeps frame b c.left_stuck.new.self _ _ c.left_stuck.ensures.drops c.left_stuck.ensures.others
 
 pub returns-in_default-clause-solves : goal.returns-in_default-clause-solves
 returns-in_default-clause-solves c = λ m walk frame b stand.
-    absurd (let no = subst (λ (o : Option Begun). IsSome o) c.in_default.is (c.in_ok-begun.ensures.some m walk frame b stand) in cc)
+    absurd (let no = subst (λ (o : Option Begun). IsSome o) c.in_default.is (c.in_ok-begun.ensures.some m 0 walk frame b stand) in cc)
 
 pub returns-in_default-clause-made : goal.returns-in_default-clause-made
 returns-in_default-clause-made c = λ b walk frame right h.
@@ -48,7 +48,7 @@ returns-clause-tabled c = λ m frame b.
     subst (λ (o : Option Begun). IfSome o (IsSetOut p tree s)) c.in-Some.is c.in_ok-begun.ensures.task in
     let node : c.in-Some.begun.node ≡ c.args.node =
     subst (λ (o : Option Begun). IfSome o (λ (x : Begun). x.node ≡ c.args.node)) c.in-Some.is c.in_ok-begun.ensures.node in
-    subst (λ k. IsBegunBy p s m k → OnOk c.end.result (EndsBegun EndsAnyhow p m k c.end.new.self)) node
+    subst (λ k. (b : IsBegunBy p s m 0 k) → OnOk c.end.result (EndsOn EndsAnyhow p s m b.desk.fits.flying 0 k c.end.new.self)) node
     (c.end.ensures.tabled m frame (record { node = out.node; task = out.task; stated = out.stated; readings = out.readings })) b
 
 pub returns-clause-solves : goal.returns-clause-solves
@@ -60,7 +60,7 @@ returns-clause-solves c = λ m walk frame b stand.
     subst (λ (o : Option Begun). IfSome o (IsSetOut p tree s)) c.in-Some.is c.in_ok-begun.ensures.task in
     let node : c.in-Some.begun.node ≡ c.args.node =
     subst (λ (o : Option Begun). IfSome o (λ (x : Begun). x.node ≡ c.args.node)) c.in-Some.is c.in_ok-begun.ensures.node in
-    subst (λ k. IsBegunBy p s m k → OnOk c.end.result (SolvesNode p s m k c.end.new.self)) node
+    subst (λ k. (b : IsBegunBy p s m 0 k) → OnOk c.end.result (SolvesOn p s m b.desk.fits.flying 0 k c.end.new.self)) node
     (λ b. c.end.ensures.solves m walk frame (record { node = out.node; task = out.task; stated = out.stated; readings = out.readings }) b stand) b
 
 pub returns-clause-made : goal.returns-clause-made

@@ -1,4 +1,4 @@
-use Rattle.std.proofs.Common.{ℕ, List, replicate, arith, ap, refl, ◌∙◌}
+use Rattle.std.proofs.Common.{ℕ, List, replicate, ap, refl, ◌∙◌}
 use Rattle.scen_defs.specs.Program.{content}
 use Rattle.node_data.specs.Frames.{Frame}
 use Rattle.cut_banks.specs.Banks.{empty_banks}
@@ -35,9 +35,9 @@ returns-clause-beginning c =
     }
 
 pub returns-in_default-clause-some : goal.returns-in_default-clause-some
-returns-in_default-clause-some c = λ few.
+returns-in_default-clause-some c = λ workers few.
     let i = c.args.program.now.keeps in
-    made_one c.in_ok-table.field-0 c.parents.result.now _ (c.in_ok-table.ensures.some (omega arith))
+    made_one c.in_ok-table.field-0 c.parents.result.now _ (c.in_ok-table.ensures.some workers)
     (c.parents.ensures ∙ ap (λ (f : Frame). f.parents) c.in_ok-frame.ensures) c.in_default.is (are_parents (content c.args.program.now) i few)
 
 pub returns-clause-made : goal.returns-clause-made
