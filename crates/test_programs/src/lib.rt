@@ -7,4 +7,4 @@ mod samples;
 
 pub use notes::{nodes_text, stated_text};
 pub use reading::read_source;
-pub use samples::{COVER, Source};
+pub use samples::{COVER, FARMER, Source};
