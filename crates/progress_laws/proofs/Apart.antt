@@ -1,32 +1,38 @@
 -- A solve that was begun stays as it was, where a node apart from its own is solved.
-use Rattle.std.proofs.Common.{◌≡◌, ℕ, suc, inl, inr, List, [], ◌∷◌, ◌++◌, Option, Some, None, get_or, slice_get, refl, sym, ap, ap₂, subst, ◌∙◌, arith}
+use Rattle.std.proofs.Common.{◌≡◌, ℕ, suc, inl, inr, Bool, List, [], ◌∷◌, ◌++◌, Option, Some, None, Ok, get_or, slice_get, refl, sym, ap, ap₂, subst, ◌∙◌, arith}
 use Rattle.std.specs.List.{Contains}
 use Rattle.std.specs.Option.{option_map, option_to_list}
 use Rattle.rationals.specs.Sparse.{Entry}
 use Rattle.scen_defs.specs.Program.{Program}
 use Rattle.scen_defs.specs.declared.report.Kind.{Kind}
-use Rattle.scen_tree.specs.Trees.{Tree}
+use Rattle.scen_defs.specs.Valid.{IsProgram, Lives}
+use Rattle.scen_tree.specs.Trees.{Tree, tree_walk}
 use Rattle.cut_defs.specs.Data.{Datum}
 use Rattle.cut_pool.specs.Held.{Held}
 use Rattle.cut_banks.specs.Banks.{pools_of}
 use Rattle.cut_banks.specs.Pools.{reading, cuts_read, numbers_read}
 use Rattle.node_lp.specs.declared.solved.Solved.{Solved}
 use Rattle.node_lp.specs.declared.solved.Solved.TheVariants as solved
-use Rattle.pass_table.specs.Machine.{next, IsChild}
+use Rattle.pass_table.specs.declared.table.Table.{Table}
+use Rattle.pass_table.specs.Machine.{next, Flight, Machine, IsChild}
+use Rattle.pass_table.specs.Fits.{Fits}
 use Rattle.crew_turns.specs.Turn.{AreChildren}
+use Rattle.crew_turns.specs.Clear.{SharePath}
+use Rattle.crew_turns.specs.Besides.{FitsBesides}
 use Rattle.node_data.specs.declared.versions.Version.{Version}
 use Rattle.node_data.specs.Counts.{version_of}
-use Rattle.node_data.specs.Frames.{Frame, parent_in, children_in}
+use Rattle.node_data.specs.Frames.{Frame, frame_of, parent_in, children_in}
 use Rattle.found_ends.specs.declared.last.Last.{Last}
 use Rattle.found_ends.specs.Lasts.{last_at, trial_of}
 use Rattle.pass_core.specs.declared.budget.Budget.{Budget}
 use Rattle.pass_core.specs.declared.state.State.{State}
-use Rattle.pass_core.specs.Tabled.{IsAbout}
-use Rattle.pass_core.specs.Turns.{datum_in}
+use Rattle.pass_core.specs.Tabled.{IsAbout, IsTabledIn, EndsBegun}
+use Rattle.pass_core.specs.Desks.{EndsOn}
+use Rattle.pass_core.specs.Turns.{datum_in, IsTaskOf, SolvesProgram}
 use Rattle.pass_core.specs.Left.{LeavesBy}
 use Rattle.pass_core.proofs.CutNodes.{answer_about}
 use Rattle.pass_core.proofs.Parentage.{children_are}
-use Rattle.progress_laws.specs.Apart.{SolvesApartStay}
+use Rattle.progress_laws.specs.Apart.{StaysAsBegun, SolvesApartStay}
 use Rattle.progress_laws.proofs.Places.{last_other, trial_same, PoolsGo, reads_same}
 use Rattle.progress_laws.proofs.Offered.{pools_go}
 use Rattle.progress_laws.proofs.Solved.{kept_is}
@@ -61,8 +67,11 @@ pools_stay p tree n trial solved.PivotsEnded old new about l = absurd l
 pools_stay p tree n trial (solved.Passed in_cut o) old new about l = absurd l
 pools_stay p tree n trial solved.NotGood old new about l = absurd l
 
-pub stay_begun : SolvesApartStay
-stay_begun p tree old new m n k i walk frame table lives solve none apart = record {
+-- whatever the table answers, and however the solve ends
+stay_begun : (Answers : Table → Machine → Type 0) (Ends : (Machine → Flight → Bool → Machine → Type 0) → Type 0) (p : Program) (tree : Tree)
+    (old new : State) (m : Machine) (n k : ℕ) → IsProgram p → tree_walk p ≡ Ok tree → old.frame ≡ frame_of p → IsTabledIn Answers p old m → Lives p k
+    → SolvesProgram Ends p old n new → new.stop ≡ None → (SharePath m n k → ⊥) → StaysAsBegun p old new k
+stay_begun Answers Ends p tree old new m n k i walk frame table lives solve none apart = record {
   task = λ t s. record {
     kind = s.kind ∙ sym solve.stays.kind;
     datum = s.datum ∙ ap (λ (z : Kind). datum_in z p k (version_of old.versions k)) (sym solve.stays.kind)
@@ -108,3 +117,11 @@ stay_begun p tree old new m n k i walk frame table lives solve none apart = reco
         → look (pools_of new.kind new.banks) (children_in new.frame k) ≡ look before (children_in old.frame k)
     read look e = ap (λ (f : Frame). look (pools_of new.kind new.banks) (children_in f k)) solve.stays.frame
         ∙ ap (λ (z : Kind). look (pools_of z new.banks) (children_in old.frame k)) solve.stays.kind ∙ e
+
+pub stays_begun : SolvesApartStay
+stays_begun = record {
+  turn = λ p tree old new m n k i walk frame table lives solve.
+      stay_begun Fits (λ Way. EndsBegun Way p m n new) p tree old new m n k i walk frame table lives solve;
+  end = λ p tree old new m flying w n k i walk frame table lives solve.
+      stay_begun FitsBesides (λ Way. EndsOn Way p old m flying w n new) p tree old new m n k i walk frame table lives solve;
+}

@@ -11,7 +11,8 @@ use Rattle.pass_table.specs.Machine.{Machine}
 use Rattle.crew_turns.specs.Clear.{SharePath}
 use Rattle.pass_core.specs.declared.state.State.{State}
 use Rattle.pass_core.specs.Tabled.{IsTabledBy}
-use Rattle.pass_core.specs.Turns.{IsTaskOf, SolvesNode}
+use Rattle.pass_core.specs.Desks.{IsDesk}
+use Rattle.pass_core.specs.Turns.{IsTaskOf, SolvesNode, SolvesOn}
 
 -- what a solve of node k was begun with stays so: its program is still that of the node, and the pools of the node's children still have
 -- the numbers that it read
@@ -21,7 +22,11 @@ pub record StaysAsBegun (p : Program) (old new : State) (k : ℕ) : Type 0 where
       ≡ numbers_read (pools_of old.kind old.banks) (children_in old.frame k)
 
 -- so it does where a node is solved that is neither node k nor above it or below it, and nothing stops the method then
-abbrev pub SolvesApartStay : Type 0
-SolvesApartStay = (p : Program) (tree : Tree) (old new : State) (m : Machine) (n k : ℕ) → IsProgram p → tree_walk p ≡ Ok tree
-    → old.frame ≡ frame_of p → IsTabledBy p old m → Lives p k → SolvesNode p old m n new → new.stop ≡ None → (SharePath m n k → ⊥)
-    → StaysAsBegun p old new k
+pub record SolvesApartStay : Type 0 where
+  pub turn : (p : Program) (tree : Tree) (old new : State) (m : Machine) (n k : ℕ) → IsProgram p → tree_walk p ≡ Ok tree
+      → old.frame ≡ frame_of p → IsTabledBy p old m → Lives p k → SolvesNode p old m n new → new.stop ≡ None → (SharePath m n k → ⊥)
+      → StaysAsBegun p old new k
+  -- and so at a desk, where a solve in flight ends
+  pub end : (p : Program) (tree : Tree) (old new : State) (m flying : Machine) (worker n k : ℕ) → IsProgram p → tree_walk p ≡ Ok tree
+      → old.frame ≡ frame_of p → IsDesk p old m → Lives p k → SolvesOn p old m flying worker n new → new.stop ≡ None
+      → (SharePath m n k → ⊥) → StaysAsBegun p old new k
