@@ -72,8 +72,7 @@ impl<'a, R: Clock + Eprint> Watch for Watcher<'a, R> {
     }
 
     fn see_whole(&mut self) {
-        self.look();
-        if self.seconds >= SECONDS {
+        if self.is_due() {
             self.say(whole_line(self.alloc, self.seconds));
         }
     }
