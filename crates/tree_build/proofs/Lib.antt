@@ -7,6 +7,7 @@ pub mod RangeLemmas
 pub mod WheelLemmas
 pub mod ChoiceLemmas
 pub mod NodeLemmas
+pub mod LeastLemmas
 pub mod DigitLemmas
 pub mod FinishLemmas
 pub mod BuildLemmas

@@ -55,7 +55,7 @@ more_nodes f core p base branches paths all (debut ∷ debuts) =
     let later = more_nodes f core p base branches paths (all ++ d ∷ []) debuts in
     omega (arith, push, later)
 
-first_over : (a b c : Bool) → (a ≡ true) ⊎ ((b ≡ true) ⊎ (c ≡ true)) → (a || (b || c)) ≡ true
+pub first_over : (a b c : Bool) → (a ≡ true) ⊎ ((b ≡ true) ⊎ (c ≡ true)) → (a || (b || c)) ≡ true
 first_over true b c over = refl
 first_over false true c over = refl
 first_over false false true over = refl
@@ -63,7 +63,7 @@ first_over false false false (inl h) = h
 first_over false false false (inr (inl h)) = h
 first_over false false false (inr (inr h)) = h
 
-much : (n m : ℕ) → n < m → nat_lt n m ≡ true
+pub much : (n m : ℕ) → n < m → nat_lt n m ≡ true
 much n m h = grind (arith, nat_tests)
 
 -- what is too much with one more node is too much over all nodes

@@ -6,6 +6,7 @@ mod branches;
 mod choices;
 mod finish;
 mod laws;
+mod least;
 mod limits;
 mod names;
 mod nodes;

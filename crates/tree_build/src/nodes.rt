@@ -10,6 +10,7 @@ ghost use Rattle.tree_build.specs.Nodes.{no_values, digits_at, block_node, branc
 ghost use Rattle.tree_build.specs.Nodes.{IsFullOf};
 
 use crate::choices::set_choices;
+use crate::least::{blocks_take_none, is_core_over};
 use crate::limits::{Counts, with_node};
 use crate::numbering::{Debut, Path};
 use crate::parts::Values;
@@ -83,7 +84,8 @@ fn block_node(
     Ok(values)
 }
 
-/// What the nodes have of the blocks.
+/// What the nodes have of the blocks. Where no case takes a cost or an entry away and the core alone has too much for the nodes, none is
+/// made.
 pub(crate) fn block_values(
     alloc: Global,
     core: &Core,
@@ -101,6 +103,9 @@ pub(crate) fn block_values(
     ensures err { IfErr result (IsFullOf
         (map (block_node core.now (stages periods.now) (all_content base.now) (map block_content blocks.now) wheels.now) debuts.now)) }
 {
+    if blocks_take_none(blocks) && is_core_over(base, debuts) {
+        return Err(BuildFault::Limit);
+    }
     let mut all = Vec::with_capacity(alloc, debuts.len())?;
     let mut counts = Counts {
         entries: 0,

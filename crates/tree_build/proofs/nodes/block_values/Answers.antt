@@ -8,6 +8,7 @@ use Rattle.tree_build.specs.Limits.{entries_in, rows_in, costs_in}
 use Rattle.tree_build.specs.Nodes.{block_node}
 use Rattle.tree_build.proofs.BaseLemmas.{content_push}
 use Rattle.tree_build.proofs.NodeLemmas.{no_debut, counted, over_whole, block_more}
+use Rattle.tree_build.proofs.LeastLemmas.{blocks_over_core}
 use Rattle.tree_build.proofs.nodes.block_values.Goals as goal
 
 pub returns-in-None-clause-err : goal.returns-in-None-clause-err
@@ -44,3 +45,8 @@ loop-debut-preserved c =
       costs = counted costs_in old _ (values_content c.in_ok-next.next) c.loop-debut.counts.costs _ made c.loop-debut.invariant.costs (ap (λ (s : Counts). s.costs) c.in-Some.ensures.0);
       small = c.in-Some.ensures.1;
     }
+
+pub returns-then-is_core_over-clause-err : goal.returns-then-is_core_over-clause-err
+returns-then-is_core_over-clause-err c =
+    blocks_over_core c.args.core.now (stages c.args.periods.now) (all_content c.args.base.now) (map block_content c.args.blocks.now) c.args.wheels.now c.args.debuts.now
+    (c.blocks_take_none.ensures c.if-blocks_take_none.true) (c.is_core_over.ensures c.if-is_core_over.true)
