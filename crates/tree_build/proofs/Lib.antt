@@ -1,5 +1,6 @@
 pub mod TermLemmas
 pub mod RowLemmas
+pub mod TurnLemmas
 pub mod ValueLemmas
 pub mod BaseLemmas
 pub mod NumberLemmas

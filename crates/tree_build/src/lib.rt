@@ -17,6 +17,7 @@ mod rows;
 mod scenarios;
 mod seen;
 mod terms;
+mod turns;
 mod values;
 mod wheels;
 

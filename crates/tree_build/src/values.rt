@@ -7,6 +7,7 @@ ghost use Rattle.tree_build.specs.Values.{put_at, with_entry, with_rhs, at_row, 
 
 use crate::parts::{RowValues, Values};
 use crate::terms::with_value;
+use crate::turns::{falling, set_backwards};
 use core_defs::Core;
 use frac128::{Form, Frac, Memory};
 use smps_words::Entry;
@@ -102,7 +103,7 @@ fn set_cost(alloc: Global, values: &mut Values, column: u64, value: Frac) -> Res
 }
 
 /// Sets an entry of a node of that stage. An entry of another stage changes nothing.
-fn set(
+pub(crate) fn set(
     alloc: Global,
     core: &Core,
     periods: &Periods,
@@ -146,9 +147,12 @@ pub(crate) fn set_all(
     ensures { OnOk result (values_content values.new
         ≡ with_sets core.now (stages periods.now) stage (values_content values.old) sets.now) }
 {
-    for pair in sets {
-        let (entry, value) = *pair;
-        set(alloc, core, periods, stage, values, entry, value)?;
+    let mut rest = sets;
+    'runs: while !rest.is_empty() {
+        let count = falling(rest);
+        let (front, behind) = rest.split_at(count);
+        set_backwards(alloc, core, periods, stage, values, front)?;
+        rest = behind;
     }
     Ok(())
 }
