@@ -1,7 +1,7 @@
 -- Nodes have at least what the values of the core have.
-use Rattle.std.proofs.Common.{◌≡◌, ◌∙◌, ap, refl, ℕ, suc, ◌+◌, ◌<◌, ◌≤◌, Bool, true, false, ◌&&◌, ◌||◌, ◌⊎◌, inl, inr, List, [], ◌∷◌, ◌++◌, length, get_or, map, drop, sum_by, nat_eq, nat_lt, arith, if◌then◌else◌}
-use Rattle.std.proofs.lemmas.List.{drop_more}
-use Rattle.std.proofs.lemmas.List.Sums.{sum_by-append}
+use Rattle.std.proofs.Common.{◌≡◌, ◌∙◌, ap, sym, refl, subst, ℕ, zero, suc, ◌+◌, ◌<◌, ◌≤◌, Bool, true, false, ◌&&◌, ◌||◌, ◌⊎◌, inl, inr, List, [], ◌∷◌, ◌++◌, length, get_or, map, drop, sum_by, nat_eq, nat_lt, arith, Option, Some, None, if◌then◌else◌}
+use Rattle.std.proofs.lemmas.List.{drop_more, map-append}
+use Rattle.std.proofs.lemmas.List.Sums.{sum_by-cons, sum_by_push}
 use Rattle.std.proofs.lemmas.Bool.Decides.{nat_tests}
 use Rattle.rationals.specs.Rational.{ℚ, zero_ℚ}
 use Rattle.rationals.specs.Sparse.{Entry as Term}
@@ -11,8 +11,9 @@ use Rattle.smps_words.specs.declared.entry.Entry.{Entry}
 use Rattle.smps_words.specs.declared.entry.Entry.TheVariants.{Cost, Matrix, Rhs}
 use Rattle.core_defs.specs.declared.program.Core.{Core}
 use Rattle.time_defs.specs.Means.{Stages}
-use Rattle.stoch_defs.specs.Random.{Sets, Case, Block}
+use Rattle.stoch_defs.specs.Random.{Sets, Case, Block, Branch}
 use Rattle.build_defs.specs.Built.{most_node_parts}
+use Rattle.build_defs.specs.Scenarios.{no_branch}
 use Rattle.tree_build.specs.declared.parts.RowValues.{RowValues}
 use Rattle.tree_build.specs.declared.limits.Counts.{Counts}
 use Rattle.tree_build.specs.declared.wheels.Wheel.{Wheel}
@@ -21,8 +22,8 @@ use Rattle.tree_build.specs.Values.{put_at, Values, at_row, with_entry, with_rhs
 use Rattle.tree_build.specs.Wheels.{sizes_of}
 use Rattle.tree_build.specs.Choices.{no_block, no_case, case_at, sets_of}
 use Rattle.tree_build.specs.Limits.{entry_count, entries_in, rows_in, costs_in, counts_with, IsOverWith, are_over}
-use Rattle.tree_build.specs.Nodes.{no_values, digits_at, block_node}
-use Rattle.tree_build.specs.Least.{TakesNone, SetsTakeNone, CasesTakeNone, BlocksTakeNone, core_node, core_nodes}
+use Rattle.tree_build.specs.Nodes.{no_values, digits_at, block_node, node_in, source_of, branch_node, branch_nodes}
+use Rattle.tree_build.specs.Least.{TakesNone, SetsTakeNone, CasesTakeNone, BlocksTakeNone, core_node, core_nodes, source_rows, branch_count, branch_counts}
 use Rattle.tree_build.proofs.Lists.{each_get}
 use Rattle.tree_build.proofs.TermLemmas.{put_apart}
 use Rattle.tree_build.proofs.NodeLemmas.{no_debut, first_over, much}
@@ -41,17 +42,14 @@ put_long j v (e ∷ f) some = go (nat_lt e.column j) (nat_eq e.column j) (put_lo
     go false true rest = let full = put_full j v f some in omega (arith, full)
     go false false rest = let full = put_full j v (e ∷ f) some in omega (arith, full)
 
-sum_first : {X : Type 0} (f : X → ℕ) (x : X) (xs : List X) → sum_by f (x ∷ xs) ≡ f x + sum_by f xs
-sum_first f x xs = let cons = sum_by-append f (x ∷ []) xs in let last : sum_by f (x ∷ []) ≡ f x = omega arith in omega (arith, cons, last)
-
 entry_long : (i j : ℕ) (v : ℚ) (rows : List RowValues) → (v ≡ zero_ℚ → ⊥) → sum_by entry_count rows ≤ sum_by entry_count (at_row i (with_entry j v) rows)
 entry_long i j v [] some = omega arith
 entry_long i j v (r ∷ rows) some =
     let one = go (nat_eq r.row i) in
     let rest = entry_long i j v rows some in
-    let here = sum_first entry_count r rows in
+    let here = sum_by-cons entry_count r rows in
     let there : sum_by entry_count (at_row i (with_entry j v) (r ∷ rows)) ≡ entry_count (if nat_eq r.row i then with_entry j v r else r) + sum_by entry_count (at_row i (with_entry j v) rows) =
-    sum_first entry_count (if nat_eq r.row i then with_entry j v r else r) (at_row i (with_entry j v) rows) in
+    sum_by-cons entry_count (if nat_eq r.row i then with_entry j v r else r) (at_row i (with_entry j v) rows) in
     omega (arith, one, rest, here, there)
   where
     go : (b : Bool) → entry_count r ≤ entry_count (if b then with_entry j v r else r)
@@ -63,9 +61,9 @@ rhs_long i v [] = omega arith
 rhs_long i v (r ∷ rows) =
     let one = go (nat_eq r.row i) in
     let rest = rhs_long i v rows in
-    let here = sum_first entry_count r rows in
+    let here = sum_by-cons entry_count r rows in
     let there : sum_by entry_count (at_row i (with_rhs v) (r ∷ rows)) ≡ entry_count (if nat_eq r.row i then with_rhs v r else r) + sum_by entry_count (at_row i (with_rhs v) rows) =
-    sum_first entry_count (if nat_eq r.row i then with_rhs v r else r) (at_row i (with_rhs v) rows) in
+    sum_by-cons entry_count (if nat_eq r.row i then with_rhs v r else r) (at_row i (with_rhs v) rows) in
     omega (arith, one, rest, here, there)
   where
     go : (b : Bool) → entry_count r ≤ entry_count (if b then with_rhs v r else r)
@@ -151,8 +149,8 @@ sum_more f g h [] each = omega arith
 sum_more f g h (d ∷ debuts) each =
     let one = each d in
     let rest = sum_more f g h debuts each in
-    let here : sum_by f (map g (d ∷ debuts)) ≡ f (g d) + sum_by f (map g debuts) = sum_first f (g d) (map g debuts) in
-    let there : sum_by f (map h (d ∷ debuts)) ≡ f (h d) + sum_by f (map h debuts) = sum_first f (h d) (map h debuts) in
+    let here : sum_by f (map g (d ∷ debuts)) ≡ f (g d) + sum_by f (map g debuts) = sum_by-cons f (g d) (map g debuts) in
+    let there : sum_by f (map h (d ∷ debuts)) ≡ f (h d) + sum_by f (map h debuts) = sum_by-cons f (h d) (map h debuts) in
     omega (arith, one, rest, here, there)
 
 is_much : (n m : ℕ) → nat_lt n m ≡ true → n < m
@@ -200,7 +198,7 @@ pub core_step : (f : Values → ℕ) (base : List Values) (debuts : List Debut) 
     count + sum_by f (core_nodes base (drop i debuts)) ≡ whole → sum + sum_by f (core_nodes base (drop (i + 1) debuts)) ≡ whole
 core_step f base debuts i count sum whole below is kept =
     let next : sum_by f (core_nodes base (drop i debuts)) ≡ f (core_node base (get_or debuts i no_debut)) + sum_by f (core_nodes base (drop (i + 1) debuts)) =
-    ap (λ ds. sum_by f (core_nodes base ds)) (drop_more debuts i no_debut below) ∙ sum_first f (core_node base (get_or debuts i no_debut)) (core_nodes base (drop (i + 1) debuts)) in
+    ap (λ ds. sum_by f (core_nodes base ds)) (drop_more debuts i no_debut below) ∙ sum_by-cons f (core_node base (get_or debuts i no_debut)) (core_nodes base (drop (i + 1) debuts)) in
     omega (arith, is, kept, next)
 
 pub core_over : (counts : Counts) (base : List Values) (debuts : List Debut) (i : ℕ) → i < length debuts → IsOverWith counts (core_node base (get_or debuts i no_debut)) →
@@ -217,9 +215,108 @@ core_over counts base debuts i below over entries rows costs =
     d = core_node base (get_or debuts i no_debut)
 
     next : (f : Values → ℕ) → sum_by f (core_nodes base (drop i debuts)) ≡ f d + sum_by f (core_nodes base (drop (i + 1) debuts))
-    next f = ap (λ ds. sum_by f (core_nodes base ds)) (drop_more debuts i no_debut below) ∙ sum_first f d (core_nodes base (drop (i + 1) debuts))
+    next f = ap (λ ds. sum_by f (core_nodes base ds)) (drop_more debuts i no_debut below) ∙ sum_by-cons f d (core_nodes base (drop (i + 1) debuts))
 
     go : IsOverWith counts d → (nat_lt most_node_parts (sum_by entries_in whole) ≡ true) ⊎ ((nat_lt most_node_parts (sum_by rows_in whole) ≡ true) ⊎ (nat_lt most_node_parts (sum_by costs_in whole) ≡ true))
     go (inl h) = let n = next entries_in in inl (much most_node_parts (sum_by entries_in whole) (omega (arith, h, entries, n)))
     go (inr (inl h)) = let n = next rows_in in inr (inl (much most_node_parts (sum_by rows_in whole) (omega (arith, h, rows, n))))
     go (inr (inr h)) = let n = next costs_in in inr (inr (much most_node_parts (sum_by costs_in whole) (omega (arith, h, costs, n))))
+
+-- ---- the rows of nodes of scenarios that are stated
+
+abbrev pub total : List ℕ → ℕ
+total counts = sum_by (λ n. n) counts
+
+pub count_push : (counts : List ℕ) (n : ℕ) → total (counts ++ n ∷ []) ≡ total counts + n
+count_push counts n = sum_by_push (λ n. n) counts n
+
+total_map : (f : Values → ℕ) (all : List Values) → total (map f all) ≡ sum_by f all
+total_map f [] = refl
+total_map f (d ∷ all) = sum_by-cons (λ n. n) (f d) (map f all) ∙ ap (λ rest. f d + rest) (total_map f all) ∙ sym (sum_by-cons f d all)
+
+sets_rows : (core : Core) (p : Stages) (stage : ℕ) (d : Values) (sets : Sets) → rows_in (with_sets core p stage d sets) ≡ rows_in d
+sets_rows core p stage d [] = refl
+sets_rows core p stage d (pair ∷ sets) = sets_rows core p stage (with_set core p stage d pair.0 pair.1) sets ∙ one pair.0 pair.1
+  where
+    one : (e : Entry) (v : ℚ) → rows_in (with_set core p stage d e v) ≡ rows_in d
+    one (Cost j) v = go (nat_lt j (length p.columns) && nat_eq (get_or p.columns j 0) stage)
+      where
+        go : (b : Bool) → rows_in (if b then record { cost = put_at j v d.cost; rows = d.rows } else d) ≡ rows_in d
+        go true = refl
+        go false = refl
+    one (Matrix i j) v = go (nat_lt j (length core.columns.items))
+      where
+        go : (b : Bool) → rows_in (if b then record { cost = d.cost; rows = at_row i (with_entry j v) d.rows } else d) ≡ rows_in d
+        go true = same_rows i (with_entry j v) d.rows
+        go false = refl
+    one (Rhs i) v = same_rows i (with_rhs v) d.rows
+
+rows_read : (all : List Values) (n : ℕ) → rows_in (get_or all n no_values) ≡ get_or (map rows_in all) n 0
+rows_read [] n = refl
+rows_read (d ∷ all) zero = refl
+rows_read (d ∷ all) (suc n) = rows_read all n
+
+branch_rows_are : (core : Core) (p : Stages) (base : List Values) (branches : List Branch) (paths : List (List ℕ)) (all : List Values) (debut : Debut) →
+    rows_in (branch_node core p base branches paths all debut) ≡ branch_count base branches paths (map rows_in all) debut
+branch_rows_are core p base branches paths all debut = own (nat_lt debut.stage branch.stage) ∙ source branch.parent
+  where
+    branch : Branch
+    branch = get_or branches debut.scenario no_branch
+
+    from : Values
+    from = source_of base paths all branch.parent debut.stage
+
+    own : (b : Bool) → rows_in (if b then from else with_sets core p debut.stage from branch.sets) ≡ rows_in from
+    own true = refl
+    own false = sets_rows core p debut.stage from branch.sets
+
+    source : (parent : Option ℕ) → rows_in (source_of base paths all parent debut.stage) ≡ source_rows base paths (map rows_in all) parent debut.stage
+    source None = refl
+    source (Some parent) = rows_read all (node_in paths parent debut.stage)
+
+branch_rows_all : (core : Core) (p : Stages) (base : List Values) (branches : List Branch) (paths : List (List ℕ)) (all : List Values) (debuts : List Debut) →
+    map rows_in (branch_nodes core p base branches paths all debuts) ≡ branch_counts base branches paths (map rows_in all) debuts
+branch_rows_all core p base branches paths all [] = refl
+branch_rows_all core p base branches paths all (debut ∷ debuts) =
+    let d = branch_node core p base branches paths all debut in
+    branch_rows_all core p base branches paths (all ++ d ∷ []) debuts
+    ∙ ap (λ counts. branch_counts base branches paths counts debuts)
+    (map-append rows_in all (d ∷ []) ∙ ap (λ n. map rows_in all ++ n ∷ []) (branch_rows_are core p base branches paths all debut))
+
+more_counts : (base : List Values) (branches : List Branch) (paths : List (List ℕ)) (counts : List ℕ) (debuts : List Debut) → total counts ≤ total (branch_counts base branches paths counts debuts)
+more_counts base branches paths counts [] = omega arith
+more_counts base branches paths counts (debut ∷ debuts) =
+    let n = branch_count base branches paths counts debut in
+    let push = count_push counts n in
+    let later = more_counts base branches paths (counts ++ n ∷ []) debuts in
+    omega (arith, push, later)
+
+pub count_next : (base : List Values) (branches : List Branch) (paths : List (List ℕ)) (counts more : List ℕ) (debuts : List Debut) (i own : ℕ) (whole : List ℕ) → i < length debuts →
+    own ≡ branch_count base branches paths counts (get_or debuts i no_debut) → more ≡ counts ++ own ∷ [] →
+    branch_counts base branches paths counts (drop i debuts) ≡ whole → branch_counts base branches paths more (drop (i + 1) debuts) ≡ whole
+count_next base branches paths counts more debuts i own whole below is made kept =
+    ap (λ all. branch_counts base branches paths all (drop (i + 1) debuts)) (made ∙ ap (λ n. counts ++ n ∷ []) is)
+    ∙ sym (ap (branch_counts base branches paths counts) (drop_more debuts i no_debut below)) ∙ kept
+
+pub rows_over : (base : List Values) (branches : List Branch) (paths : List (List ℕ)) (counts : List ℕ) (debuts : List Debut) (i own rows : ℕ) → i < length debuts →
+    own ≡ branch_count base branches paths counts (get_or debuts i no_debut) → rows ≡ total counts → most_node_parts < rows + own →
+    branch_counts base branches paths counts (drop i debuts) ≡ branch_counts base branches paths [] debuts →
+    (core : Core) (p : Stages) → are_over (branch_nodes core p base branches paths [] debuts) ≡ true
+rows_over base branches paths counts debuts i own rows below is counted over kept core p =
+    first_over (nat_lt most_node_parts (sum_by entries_in whole)) (nat_lt most_node_parts (sum_by rows_in whole)) (nat_lt most_node_parts (sum_by costs_in whole))
+    (inr (inl (much most_node_parts (sum_by rows_in whole) (omega (arith, over, counted, push, later, all)))))
+  where
+    whole : List Values
+    whole = branch_nodes core p base branches paths [] debuts
+
+    push : total (counts ++ own ∷ []) ≡ total counts + own
+    push = count_push counts own
+
+    kept_next : branch_counts base branches paths (counts ++ own ∷ []) (drop (i + 1) debuts) ≡ branch_counts base branches paths [] debuts
+    kept_next = count_next base branches paths counts (counts ++ own ∷ []) debuts i own (branch_counts base branches paths [] debuts) below is refl kept
+
+    later : total (counts ++ own ∷ []) ≤ total (branch_counts base branches paths [] debuts)
+    later = subst (λ l. total (counts ++ own ∷ []) ≤ total l) kept_next (more_counts base branches paths (counts ++ own ∷ []) (drop (i + 1) debuts))
+
+    all : total (branch_counts base branches paths [] debuts) ≡ sum_by rows_in whole
+    all = ap total (sym (branch_rows_all core p base branches paths [] debuts)) ∙ total_map rows_in whole

@@ -18,7 +18,7 @@ pub struct Counts {
 }
 
 /// A count and more, where that isn't too much.
-fn added(count: usize, more: usize) -> Option<usize>
+pub(crate) fn added(count: usize, more: usize) -> Option<usize>
     requires { count ≤ most_node_parts }
     ensures { MatchOption result (most_node_parts < count + more) (IsSum (count + more)) }
 {

@@ -10,7 +10,7 @@ ghost use Rattle.tree_build.specs.Nodes.{no_values, digits_at, block_node, branc
 ghost use Rattle.tree_build.specs.Nodes.{IsFullOf};
 
 use crate::choices::set_choices;
-use crate::least::{blocks_take_none, is_core_over};
+use crate::least::{are_rows_over, blocks_take_none, is_core_over};
 use crate::limits::{Counts, with_node};
 use crate::numbering::{Debut, Path};
 use crate::parts::Values;
@@ -198,7 +198,7 @@ fn branch_node(
     }
 }
 
-/// What the nodes have where scenarios are stated.
+/// What the nodes have where scenarios are stated. Where they have too many rows, none is made.
 pub(crate) fn branch_values(
     alloc: Global,
     core: &Core,
@@ -215,6 +215,9 @@ pub(crate) fn branch_values(
     ensures err { IfErr result (IsFullOf (branch_nodes core.now (stages periods.now) (all_content base.now)
         (map branch_content branches.now) (paths_content paths.now) [] debuts.now)) }
 {
+    if are_rows_over(alloc, base, branches, paths, debuts)? {
+        return Err(BuildFault::Limit);
+    }
     let mut all = Vec::with_capacity(alloc, debuts.len())?;
     let mut counts = Counts {
         entries: 0,
