@@ -64,8 +64,9 @@ pub fn program_of<R: Files, H: Shelf>(
     let Some(plain) = PlainWords::read(alloc, words)? else {
         return Ok(None);
     };
-    match plain.command(alloc)? {
-        Command::OnFiles { sources, task: _ } => of_files(rt, alloc, shelf, &sources),
-        Command::Make(_) => Ok(None),
+    match plain.command(alloc) {
+        Ok(Command::OnFiles { sources, task: _ }) => of_files(rt, alloc, shelf, &sources),
+        Ok(Command::Make(_)) => Ok(None),
+        Err(_) => Err(Memory),
     }
 }

@@ -1,3 +1,4 @@
 pub mod WordLemmas
 pub mod PlainLemmas
 pub mod ReaderLemmas
+mod RangeLemmas

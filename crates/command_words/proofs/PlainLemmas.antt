@@ -8,7 +8,7 @@ use Rattle.std.proofs.lemmas.Slice.Eq.{bytes_eq-Decides}
 use Rattle.clap.proofs.WalkLemmas.{both}
 use Rattle.command_words.specs.declared.flag.Flag.{Flag}
 use Rattle.command_words.specs.declared.flag.Flag.TheVariants.{Core, Time, Stoch, Edits, Report, Whole, Number, Form, Solves, Pivots, Workers, Quiet}
-use Rattle.command_words.specs.declared.flag.Flag.TheVariants.{Start, Stages, Branches, Size, Text}
+use Rattle.command_words.specs.declared.flag.Flag.TheVariants.{Start, Stages, Branches, Size, Text, Tail, Weight}
 use Rattle.command_words.specs.declared.command.Verb.{Verb}
 use Rattle.command_words.specs.Table.{flag_text}
 use Rattle.command_words.specs.declared.table.ValueKind.{ValueKind}
@@ -39,6 +39,8 @@ named Stages = refl
 named Branches = refl
 named Size = refl
 named Text = refl
+named Tail = refl
+named Weight = refl
 
 lacks_equals : (flag : Flag) → list_any is_equals (45 ∷ 45 ∷ flag_text flag) ≡ false
 lacks_equals Core = refl
@@ -58,6 +60,8 @@ lacks_equals Stages = refl
 lacks_equals Branches = refl
 lacks_equals Size = refl
 lacks_equals Text = refl
+lacks_equals Tail = refl
+lacks_equals Weight = refl
 
 -- options of one name are one
 pub same_is : (one other : Flag) → same_flag one other ≡ true → one ≡ other
@@ -126,6 +130,8 @@ switch_kind_has flag kind.File g e = cc
 switch_kind_has flag (kind.Number least most) g e = cc
 switch_kind_has flag kind.Page g e = cc
 switch_kind_has flag kind.Form g e = cc
+switch_kind_has flag kind.Level g e = cc
+switch_kind_has flag kind.Weight g e = cc
 switch_kind_has flag kind.Yes g e = let same : made flag (codes "yes") ≡ g = cc in ap (λ (x : Given). is_value x.value) (sym same)
 
 switch_has : (flag : Option Flag) (g : Given) → switch_among flag ≡ Some g → is_value g.value ≡ true

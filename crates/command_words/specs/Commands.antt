@@ -1,10 +1,16 @@
 -- The command that words are.
-use Rattle.std.specs.Prelude.{ℕ, Bool, true, List, [], ◌∷◌, Option, Some, None, is_some, if◌then◌else◌, ◌&&◌, ◌||◌, codes}
+use Rattle.std.specs.Prelude.{ℕ, Bool, true, not, List, [], ◌∷◌, Option, Some, None, Result, Ok, Err, is_some, is_none}
+use Rattle.std.specs.Prelude.{if◌then◌else◌, ◌&&◌, ◌||◌, codes}
+use Rattle.rationals.specs.Rational.{ℚ, zero_ℚ, one_ℚ, at_most}
+use Rattle.frac128.specs.Numbers.{read_number}
+use Rattle.frac128.specs.declared.text.NumFault.{NumFault}
 use Rattle.command_words.specs.declared.flag.Flag.{Flag}
 use Rattle.command_words.specs.declared.flag.Flag.TheVariants.{Core, Time, Stoch, Edits, Report, Whole, Number, Form}
-use Rattle.command_words.specs.declared.flag.Flag.TheVariants.{Quiet, Start, Stages, Branches, Size, Text}
+use Rattle.command_words.specs.declared.flag.Flag.TheVariants.{Quiet, Start, Stages, Branches, Size, Text, Tail, Weight}
 use Rattle.command_words.specs.declared.command.Verb.{Verb}
 use Rattle.command_words.specs.declared.command.Verb.TheVariants.{Solve, Check, Table, Show, Flat, Value, Make}
+use Rattle.command_words.specs.declared.command.Budget.{Budget}
+use Rattle.command_words.specs.declared.command.RiskMeasure.{RiskMeasure}
 use Rattle.command_words.specs.declared.command.Task.{Task}
 use Rattle.command_words.specs.declared.command.Task.TheVariants as task
 use Rattle.command_words.specs.declared.command.Sheet.{Sheet}
@@ -15,7 +21,7 @@ use Rattle.command_words.specs.declared.command.Extent.TheVariants as extent
 use Rattle.command_words.specs.declared.command.Page.{Page}
 use Rattle.command_words.specs.declared.command.Page.TheVariants as page
 use Rattle.command_words.specs.declared.command.Plan.{Plan}
-use Rattle.command_words.specs.Table.{further_flags, goes_with, needed_flags, value_kind}
+use Rattle.command_words.specs.Table.{excludes, further_flags, goes_with, needed_flags, value_kind}
 use Rattle.command_words.specs.Words.{Given, Values, same_text, then_some, settings_of, value_with, are_once}
 use Rattle.command_words.specs.Words.{has_flag, verb_named, number_for, number_given, is_set, budget_of}
 
@@ -39,12 +45,21 @@ abbrev pub is_there_if : List Given → Option Flag → Bool
 is_there_if settings None = true
 is_there_if settings (Some flag) = is_some (value_with flag settings)
 
+-- the option beside which one isn't taken isn't there, where there is one
+abbrev pub is_absent_if : List Given → Option Flag → Bool
+is_absent_if settings None = true
+is_absent_if settings (Some flag) = is_none (value_with flag settings)
+
+abbrev pub goes_with_all : List Given → Flag → Bool
+goes_with_all settings flag = is_there_if settings (goes_with flag) && is_absent_if settings (excludes flag)
+
 -- so for each of some options
 abbrev pub go_together : List Given → List Given → Bool
 go_together settings [] = true
-go_together settings (s ∷ others) = is_there_if settings (goes_with s.flag) && go_together settings others
+go_together settings (s ∷ others) = goes_with_all settings s.flag && go_together settings others
 
--- each is taken, and stands once; all are there that are needed, and those without which others aren't taken
+-- each is taken, and stands once; all are there that are needed, and those without which others aren't taken, and none beside which another
+-- isn't taken
 abbrev pub are_options : Verb → List Given → Bool
 are_options verb settings =
     (all_allowed verb settings && are_once settings) && (are_there settings (needed_flags verb) && go_together settings settings)
@@ -102,10 +117,54 @@ extent_by (Some word) = extent_named word
 abbrev pub extent_of : Values → Option Extent
 extent_of value = extent_by (value Whole)
 
+-- the number that a word is, as in files
+abbrev pub number_kept : Result ℚ NumFault → Option ℚ
+number_kept (Ok number) = Some number
+number_kept (Err fault) = None
+
+abbrev pub number_read : List ℕ → Option ℚ
+number_read word = number_kept (read_number word)
+
+-- from 0 and below 1
+abbrev pub kept_level : ℚ → Option ℚ
+kept_level a = if at_most zero_ℚ a && not (at_most one_ℚ a) then Some a else None
+
+abbrev pub level_of : List ℕ → Option ℚ
+level_of word = then_some (number_read word) kept_level
+
+-- from 0 to 1
+abbrev pub kept_weight : ℚ → Option ℚ
+kept_weight w = if at_most zero_ℚ w && at_most w one_ℚ then Some w else None
+
+abbrev pub weight_of : List ℕ → Option ℚ
+weight_of word = then_some (number_read word) kept_weight
+
+abbrev pub measure_named : List ℕ → List ℕ → Option RiskMeasure
+measure_named level weight =
+    then_some (level_of level) (λ a. then_some (weight_of weight) (λ w. Some (record { level = a; weight = w })))
+
+-- the risk measure, where the words have a level and a weight
+abbrev pub measure_by : Option (List ℕ) → Option (List ℕ) → Option (Option RiskMeasure)
+measure_by None None = Some None
+measure_by (Some level) (Some weight) = then_some (measure_named level weight) (λ m. Some (Some m))
+measure_by (Some level) None = None
+measure_by None (Some weight) = None
+
+abbrev pub measure_of : Values → Option (Option RiskMeasure)
+measure_of value = measure_by (value Tail) (value Weight)
+
+abbrev pub solve_by : Option RiskMeasure → Budget → Task
+solve_by None budget = task.Solve budget
+solve_by (Some m) budget = task.SolveRisk m budget
+
+abbrev pub check_by : Option RiskMeasure → Task
+check_by None = task.Check
+check_by (Some m) = task.CheckRisk m
+
 -- `make` is no task on files
 abbrev pub task_of : Verb → Values → Option Task
-task_of Solve value = then_some (budget_of value) (λ budget. Some (task.Solve budget))
-task_of Check value = Some task.Check
+task_of Solve value = then_some (measure_of value) (λ m. then_some (budget_of value) (λ budget. Some (solve_by m budget)))
+task_of Check value = then_some (measure_of value) (λ m. Some (check_by m))
 task_of Table value = then_some (sheet_of value) (λ sheet. Some (task.Table sheet))
 task_of Show value = Some task.Show
 task_of Flat value = then_some (extent_of value) (λ size. Some (task.Flat size))

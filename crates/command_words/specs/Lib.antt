@@ -4,3 +4,4 @@ pub mod Commands
 pub mod Views
 pub mod Options
 pub mod Plain
+pub mod Ranges

@@ -9,7 +9,7 @@ use Rattle.frac128.specs.Numbers.{is_digit, number_from}
 use Rattle.command_words.specs.declared.flag.Flag.{Flag}
 use Rattle.command_words.specs.declared.flag.Flag.TheVariants.{Solves, Pivots, Workers, Quiet}
 use Rattle.command_words.specs.declared.table.ValueKind.{ValueKind}
-use Rattle.command_words.specs.declared.table.ValueKind.TheVariants.{File, Number, Page, Form, Yes}
+use Rattle.command_words.specs.declared.table.ValueKind.TheVariants.{File, Number, Page, Form, Yes, Level, Weight}
 use Rattle.command_words.specs.declared.command.Verb.{Verb}
 use Rattle.command_words.specs.declared.command.Budget.{Budget}
 use Rattle.command_words.specs.Table.{all_flags, all_verbs, flag_text, value_kind, verb_text}
@@ -70,6 +70,8 @@ switch_by_kind flag (Number least most) = None
 switch_by_kind flag Page = None
 switch_by_kind flag Form = None
 switch_by_kind flag Yes = Some (record { flag = flag; value = codes "yes" })
+switch_by_kind flag Level = None
+switch_by_kind flag Weight = None
 
 abbrev pub switch_by : Flag → Option Given
 switch_by flag = switch_by_kind flag (value_kind flag)
@@ -166,6 +168,8 @@ number_for (Number least most) word = number_within word least most
 number_for Page word = None
 number_for Form word = None
 number_for Yes word = None
+number_for Level word = None
+number_for Weight word = None
 
 -- the number of an option, or the number that stands for an absent one
 abbrev pub number_or : ℕ → Flag → Option (List ℕ) → Option ℕ

@@ -1,11 +1,15 @@
 //! The commands.
 ghost use Rattle.std.specs.Prelude.{◌≡◌, ◌<◌, ◌^◌, IfSome, is_some};
 ghost use Rattle.std.specs.Option.{option_map};
+ghost use Rattle.rationals.specs.Rational.{at_most};
 ghost use Rattle.command_words.specs.Table.{value_kind};
 ghost use Rattle.command_words.specs.Words.{verb_among, verb_named, number_for, number_or, number_given, is_set, budget_of};
-ghost use Rattle.command_words.specs.Commands.{allows, all_allowed, are_there, is_there_if, go_together, are_options};
+ghost use Rattle.command_words.specs.Commands.{allows, all_allowed, are_there, is_there_if, is_absent_if};
+ghost use Rattle.command_words.specs.Commands.{goes_with_all, go_together, are_options};
 ghost use Rattle.command_words.specs.Commands.{sources_of, extent_named, extent_of, task_of, page_named, page_of, plan_of};
 ghost use Rattle.command_words.specs.Commands.{form_named, form_of, report_number_of, sheet_of};
+ghost use Rattle.command_words.specs.Commands.{kept_level, kept_weight, number_read, level_of, weight_of};
+ghost use Rattle.command_words.specs.Commands.{measure_named, measure_of, solve_by, check_by};
 ghost use Rattle.command_words.specs.Commands.{on_files, asked_with, command_with};
 ghost use Rattle.command_words.specs.Views.{asked, all_given, sources_view};
 
@@ -14,6 +18,7 @@ use crate::settings::{Setting, are_once, value_with};
 use crate::table::{VERBS, ValueKind};
 use crate::value::number_within;
 use crate::values::Values;
+use frac128::{Frac, parse};
 
 /// The first word of a command.
 #[derive(Clone, Copy, Debug, PartialEq, Eq)]
@@ -84,6 +89,16 @@ pub enum Extent {
     Whole,
 }
 
+/// What is made as small as it can be in place of the mean cost: the mean, weighted by `1 - weight`, and the conditional value at risk of
+/// this level, weighted by `weight`.
+#[derive(Clone, Copy, Debug, PartialEq, Eq)]
+pub struct RiskMeasure {
+    /// From 0 and below 1.
+    pub level: Frac,
+    /// From 0 to 1.
+    pub weight: Frac,
+}
+
 /// What is done with the program that files state.
 #[derive(Clone, Copy, Debug, PartialEq, Eq)]
 pub enum Task {
@@ -99,6 +114,10 @@ pub enum Task {
     Flat(Extent),
     /// Measure what information and the stochastic model are worth, with a budget for each report.
     Value(Budget),
+    /// Solve the program whose cost is a risk measure within a budget, and print the report.
+    SolveRisk(RiskMeasure, Budget),
+    /// Check reports of that program.
+    CheckRisk(RiskMeasure),
 }
 
 /// The texts of a workload.
@@ -195,12 +214,30 @@ fn is_there_if(settings: &[Setting<'_>], flag: Option<Flag>) -> bool
     }
 }
 
+/// Whether the option isn't there beside which one isn't taken, where there is one.
+fn is_absent_if(settings: &[Setting<'_>], flag: Option<Flag>) -> bool
+    ensures { result ≡ is_absent_if (all_given settings.now) flag }
+{
+    match flag {
+        None => true,
+        Some(flag) => value_with(settings, flag).is_none(),
+    }
+}
+
+/// Whether an option is there with the one that it needs, and without the one beside which it isn't taken.
+fn goes_with_all(settings: &[Setting<'_>], flag: Flag) -> bool
+    ensures { result ≡ goes_with_all (all_given settings.now) flag }
+{
+    let row = flag.row();
+    is_there_if(settings, row.with) && is_absent_if(settings, row.without)
+}
+
 /// Whether that is so for each of the options.
 fn go_together(settings: &[Setting<'_>]) -> bool
     ensures { result ≡ go_together (all_given settings.now) (all_given settings.now) }
 {
     for setting in settings {
-        if !is_there_if(settings, setting.flag.row().with) {
+        if !goes_with_all(settings, setting.flag) {
             return false;
         }
     }
@@ -241,6 +278,7 @@ fn number_for(flag: Flag, value: &str) -> Option<u64>
             number_within(value.as_bytes(), least as u64, most as u64)
         }
         ValueKind::File | ValueKind::Page | ValueKind::Form | ValueKind::Yes => None,
+        ValueKind::Level | ValueKind::Weight => None,
     }
 }
 
@@ -354,16 +392,114 @@ fn extent_given<'a, V: Values<'a>>(values: &V) -> Option<Extent>
     }
 }
 
+/// The number that a word is, as numbers of files are read; none of any other word.
+fn number_read(word: &str) -> Option<Frac>
+    ensures { result ≡ number_read word.now }
+{
+    match parse(word.as_bytes()) {
+        Ok(number) => Some(number),
+        Err(_) => None,
+    }
+}
+
+fn is_at_most(one: Frac, other: Frac) -> bool
+    ensures { result ≡ at_most one other }
+{
+    one <= other
+}
+
+/// A number that is from 0 and below 1.
+fn kept_level(number: Frac) -> Option<Frac>
+    ensures { result ≡ kept_level number }
+{
+    if is_at_most(Frac::zero(), number) && !is_at_most(Frac::one(), number) {
+        Some(number)
+    } else {
+        None
+    }
+}
+
+/// The level that a word is.
+fn level_of(word: &str) -> Option<Frac>
+    ensures { result ≡ level_of word.now }
+{
+    let number = number_read(word)?;
+    kept_level(number)
+}
+
+/// A number that is from 0 to 1.
+fn kept_weight(number: Frac) -> Option<Frac>
+    ensures { result ≡ kept_weight number }
+{
+    if is_at_most(Frac::zero(), number) && is_at_most(number, Frac::one()) {
+        Some(number)
+    } else {
+        None
+    }
+}
+
+/// The weight that a word is.
+fn weight_of(word: &str) -> Option<Frac>
+    ensures { result ≡ weight_of word.now }
+{
+    let number = number_read(word)?;
+    kept_weight(number)
+}
+
+fn measure_named(level: &str, weight: &str) -> Option<RiskMeasure>
+    ensures { result ≡ measure_named level.now weight.now }
+{
+    let level = level_of(level)?;
+    let weight = weight_of(weight)?;
+    Some(RiskMeasure { level, weight })
+}
+
+/// The risk measure that is asked for, if one is; none where the words are no level and no weight.
+fn measure_given<'a, V: Values<'a>>(values: &V) -> Option<Option<RiskMeasure>>
+    ensures { result ≡ measure_of (V.values values.now) }
+{
+    match (values.value(Flag::Tail), values.value(Flag::Weight)) {
+        (None, None) => Some(None),
+        (Some(level), Some(weight)) => {
+            let measure = measure_named(level, weight)?;
+            Some(Some(measure))
+        }
+        (Some(_), None) | (None, Some(_)) => None,
+    }
+}
+
+fn solve_by(measure: Option<RiskMeasure>, budget: Budget) -> Task
+    ensures { result ≡ solve_by measure budget }
+{
+    match measure {
+        None => Task::Solve(budget),
+        Some(measure) => Task::SolveRisk(measure, budget),
+    }
+}
+
+fn check_by(measure: Option<RiskMeasure>) -> Task
+    ensures { result ≡ check_by measure }
+{
+    match measure {
+        None => Task::Check,
+        Some(measure) => Task::CheckRisk(measure),
+    }
+}
+
 /// The task of a verb; none of `make`.
 fn task_given<'a, V: Values<'a>>(verb: Verb, values: &V) -> Option<Task>
     ensures { result ≡ task_of verb (V.values values.now) }
 {
     match verb {
         Verb::Solve => {
+            let measure = measure_given(values)?;
             let budget = budget_given(values)?;
-            Some(Task::Solve(budget))
+            Some(solve_by(measure, budget))
         }
-        Verb::Check => Some(Task::Check),
+        Verb::Check => {
+            let measure = measure_given(values)?;
+            Some(check_by(measure))
+        }
         Verb::Table => {
             let sheet = sheet_given(values)?;
             Some(Task::Table(sheet))

@@ -41,6 +41,10 @@ pub enum Flag {
     Size,
     /// Which text of a workload is printed.
     Text,
+    /// The level of a conditional value at risk.
+    Tail,
+    /// How much that counts beside the mean.
+    Weight,
 }
 
 /// Whether a word is two minuses and this name.

@@ -11,7 +11,9 @@ mod table;
 mod value;
 mod values;
 
-pub use command::{Budget, Command, Extent, Page, Plan, Sheet, SheetForm, Sources, Task, Verb};
+pub use command::{
+    Budget, Command, Extent, Page, Plan, RiskMeasure, Sheet, SheetForm, Sources, Task, Verb,
+};
 pub use flag::Flag;
 pub use plain::PlainWords;
 pub use settings::Setting;

@@ -7,6 +7,7 @@ ghost use Rattle.command_words.specs.declared.flag.Flag.{Flag};
 ghost use Rattle.command_words.specs.Table.{flag_text};
 ghost use Rattle.command_words.specs.Words.{ArePlain, ArePlain-prop, Given, plain_word, settings_of, value_with};
 ghost use Rattle.command_words.specs.Commands.{command_by, command_of};
+ghost use Rattle.command_words.specs.Ranges.{AsksInRange};
 ghost use Rattle.command_words.specs.Views.{asked, given, all_given};
 
 use crate::command::{Command, Verb, asked_with, is_command, verb_named};
@@ -106,10 +107,14 @@ impl PlainWords {
 
     /// The command that the words are, of what the library finds in them.
     pub fn command(&self, alloc: Global) -> Result<Command<'_>, AllocError>
-        ensures { IfOk result (λ command. Some (asked command) ≡ plain_view self.now) }
+        ensures asks { IfOk result (λ command. Some (asked command) ≡ plain_view self.now) }
+        ensures range { IfOk result (λ command. AsksInRange (asked command)) }
     {
         match self.matches(alloc) {
-            Ok(matches) => Ok(asked_with(self.verb, &matches).unwrap()),
+            Ok(matches) => match asked_with(self.verb, &matches) {
+                Some(command) => Ok(command),
+                None => unreachable!(),
+            },
             Err(_) => Err(AllocError),
         }
     }

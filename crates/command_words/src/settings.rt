@@ -37,6 +37,7 @@ fn switch_with<'a>(flag: Flag) -> Option<Setting<'a>>
     match flag.row().kind {
         ValueKind::Yes => Some(Setting { flag, value: YES }),
         ValueKind::File | ValueKind::Number(_, _) | ValueKind::Page | ValueKind::Form => None,
+        ValueKind::Level | ValueKind::Weight => None,
     }
 }
 

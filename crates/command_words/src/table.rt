@@ -1,6 +1,6 @@
 //! The commands and their options, as a table. The exact reader reads by it; the library for command lines is told by it, and so is help.
 ghost use Rattle.std.specs.Prelude.{◌≡◌};
-ghost use Rattle.command_words.specs.Table.{flag_text, further_flags, goes_with, value_kind, needed_flags, verb_text};
+ghost use Rattle.command_words.specs.Table.{excludes, flag_text, further_flags, goes_with, value_kind, needed_flags, verb_text};
 
 use crate::command::Verb;
 use crate::flag::Flag;
@@ -30,6 +30,10 @@ pub enum ValueKind {
     Form,
     /// `YES`, which need not be written: the option stands alone.
     Yes,
+    /// A number from 0 and below 1, written as numbers in files are.
+    Level,
+    /// A number from 0 to 1, written so.
+    Weight,
 }
 
 impl ValueKind {
@@ -41,6 +45,8 @@ impl ValueKind {
             ValueKind::Page => "TEXT",
             ValueKind::Form => "FORM",
             ValueKind::Yes => "",
+            ValueKind::Level => "A",
+            ValueKind::Weight => "W",
         }
     }
 }
@@ -53,6 +59,8 @@ pub struct OptionRow {
     pub kind: ValueKind,
     /// The option without which it isn't taken, if there is one.
     pub with: Option<Flag>,
+    /// The option beside which it isn't taken, if there is one.
+    pub without: Option<Flag>,
     /// What its value says.
     pub help: &'static str,
 }
@@ -81,7 +89,7 @@ pub const VERBS: [Verb; 7] = [
 ];
 
 /// All options.
-pub const FLAGS: [Flag; 17] = [
+pub const FLAGS: [Flag; 19] = [
     Flag::Core,
     Flag::Time,
     Flag::Stoch,
@@ -99,28 +107,32 @@ pub const FLAGS: [Flag; 17] = [
     Flag::Branches,
     Flag::Size,
     Flag::Text,
+    Flag::Tail,
+    Flag::Weight,
 ];
 
 /// An option whose value is the name of a file.
 fn file(name: &'static str, help: &'static str) -> OptionRow
-    ensures { (result.name ≡ name.entry) × (result.kind ≡ ValueKind.File) × (result.with ≡ None) }
+    ensures { (result.name ≡ name.entry) × (result.kind ≡ ValueKind.File) × (result.with ≡ None) × (result.without ≡ None) }
 {
     OptionRow {
         name,
         kind: ValueKind::File,
         with: None,
+        without: None,
         help,
     }
 }
 
 /// An option whose value is a whole number.
 fn number(name: &'static str, least: u32, most: u32, help: &'static str) -> OptionRow
-    ensures { (result.name ≡ name.entry) × (result.kind ≡ ValueKind.Number least most) × (result.with ≡ None) }
+    ensures { (result.name ≡ name.entry) × (result.kind ≡ ValueKind.Number least most) × (result.with ≡ None) × (result.without ≡ None) }
 {
     OptionRow {
         name,
         kind: ValueKind::Number(least, most),
         with: None,
+        without: None,
         help,
     }
 }
@@ -131,6 +143,7 @@ impl Flag {
         ensures name { result.name.now ≡ flag_text self }
         ensures kind { result.kind ≡ value_kind self }
         ensures with { result.with ≡ goes_with self }
+        ensures without { result.without ≡ excludes self }
     {
         match self {
             Flag::Core => file("core", "the program, as of one period and one scenario"),
@@ -139,6 +152,7 @@ impl Flag {
                 name: "stoch",
                 kind: ValueKind::File,
                 with: Some(Flag::Time),
+                without: None,
                 help: "what is random; without one nothing is",
             },
             Flag::Edits => file("edits", "edits of the data, and where a report is wanted"),
@@ -147,6 +161,7 @@ impl Flag {
                 name: "whole",
                 kind: ValueKind::Yes,
                 with: None,
+                without: None,
                 help: "also beyond the limits of a core file, up to 10000000 entries",
             },
             Flag::Number => number(
@@ -159,6 +174,7 @@ impl Flag {
                 name: "form",
                 kind: ValueKind::Form,
                 with: None,
+                without: None,
                 help: "what is printed; else text",
             },
             Flag::Solves => number(
@@ -183,6 +199,7 @@ impl Flag {
                 name: "quiet",
                 kind: ValueKind::Yes,
                 with: None,
+                without: None,
                 help: "say nothing on standard error while it is solved",
             },
             Flag::Start => number("start", 0, 65_536, "what the program is drawn from"),
@@ -198,7 +215,22 @@ impl Flag {
                 name: "text",
                 kind: ValueKind::Page,
                 with: None,
+                without: None,
                 help: "the one of its three texts that is printed, in place of a summary",
+            },
+            Flag::Tail => OptionRow {
+                name: "tail",
+                kind: ValueKind::Level,
+                with: Some(Flag::Weight),
+                without: Some(Flag::Edits),
+                help: "the level of a conditional value at risk that counts beside the mean",
+            },
+            Flag::Weight => OptionRow {
+                name: "weight",
+                kind: ValueKind::Weight,
+                with: Some(Flag::Tail),
+                without: None,
+                help: "how much it counts; the mean counts for the rest",
             },
         }
     }
@@ -220,6 +252,8 @@ impl Verb {
                     Flag::Time,
                     Flag::Stoch,
                     Flag::Edits,
+                    Flag::Tail,
+                    Flag::Weight,
                     Flag::Solves,
                     Flag::Pivots,
                     Flag::Workers,
@@ -230,7 +264,13 @@ impl Verb {
                 name: "check",
                 about: "test the reports of a file, whoever made them, and print for each whether it holds",
                 needs: &[Flag::Core, Flag::Report],
-                takes: &[Flag::Time, Flag::Stoch, Flag::Edits],
+                takes: &[
+                    Flag::Time,
+                    Flag::Stoch,
+                    Flag::Edits,
+                    Flag::Tail,
+                    Flag::Weight,
+                ],
             },
             Verb::Table => CommandRow {
                 name: "table",

@@ -74,7 +74,9 @@ also where a column has that name",
         Cause::FlatLimit =>
             "all nodes together have more than 4,000 constraints, 4,000 columns or 100,000 entries, the most of a core file that is \
 read here; with --whole, for other solvers, more than 10,000,000 entries",
-        Cause::TraceBad | Cause::TailName => "no command has that cause",
+        Cause::TailName =>
+            "a column is named TAIL_H or TAIL_U, or a row TAIL_R: names that --tail adds itself",
+        Cause::TraceBad => "no command has that cause",
     }
 }
 

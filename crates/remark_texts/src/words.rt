@@ -17,6 +17,9 @@ value --core F --quiet --time T
 value --workers 1 --pivots=7 --stoch S --solves 3 --time=T --core=F
 check --core F --report=R
 check --report R --edits E --stoch S --time T --core F
+solve --core F --tail 1/2 --weight 1
+solve --weight=0.25 --core F --tail=0 --time T
+check --core F --report R --tail=0.95 --weight 1/4
 table --core F --report=R
 table --report R --edits E --stoch S --time T --core=F --number 1 --form text
 table --report R --core F --number=10001 --form=csv
@@ -31,7 +34,8 @@ make --start 1 --stages 3 --branches 3 --size 2 --text stoch
 
 /// What is said where the library for command lines finds nothing wrong with words.
 const NOTHING_WRONG: &str =
-    "each word is an option or its value, a file name isn't empty and doesn't begin with '-', and a number has digits alone, at most ten";
+    "each word is an option or its value, a file name isn't empty and doesn't begin with '-', and a number has digits alone, at most ten; \
+A of --tail is a number from 0 and below 1, W of --weight one from 0 to 1";
 
 /// What is said first of the words of a line.
 fn word_fault(alloc: Global, line: &str) -> Result<String, Fail> {

@@ -7,7 +7,7 @@ const ABOUT: &str =
     "Tidzgheba solves multistage stochastic linear programs exactly and proves each report that it prints.\n\n";
 
 const FORM: &str = "
-An option is --name VALUE or --name=VALUE, in any order, each at most once; numbers are whole.
+An option is --name VALUE or --name=VALUE, in any order, each at most once; N is a whole number.
 docs/FORMATS.md says what the files and the numbers are, docs/CAUSES.md how to mend a file that
 is refused.
 ";
@@ -83,6 +83,10 @@ fn put_option(text: &mut String, flag: Flag, needed: &str) -> Result<(), AllocEr
         let other = other.row().name;
         write!(text, "only with --{other}: ")?;
     }
+    if let Some(other) = row.without {
+        let other = other.row().name;
+        write!(text, "not with --{other}: ")?;
+    }
     put_values(text, row.kind)?;
     writeln!(text, "{help}")
 }
@@ -95,6 +99,8 @@ fn put_values(text: &mut String, kind: ValueKind) -> Result<(), AllocError> {
         ValueKind::Page => put_names(text, PAGES.as_slice()),
         ValueKind::Form => put_names(text, FORMS.as_slice()),
         ValueKind::Yes => Ok(()),
+        ValueKind::Level => text.push_str("from 0 and below 1, "),
+        ValueKind::Weight => text.push_str("from 0 to 1, "),
     }
 }
 

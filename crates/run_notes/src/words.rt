@@ -8,7 +8,8 @@ use visible_text::push_line;
 
 /// Said of words that the library takes and `command_words` doesn't, as `--solves +3`.
 const TOO_LOOSE: &str =
-    "each word is an option or its value, a file name isn't empty and doesn't begin with '-', and a number has digits alone, at most ten\n";
+    "each word is an option or its value, a file name isn't empty and doesn't begin with '-', and a number has digits alone, at most ten; \
+A of --tail is a number from 0 and below 1, W of --weight one from 0 to 1\n";
 
 /// An option whose value is a file's name.
 fn file<'a>(alloc: Global, name: &'static str, help: &'static str) -> Arg<'a> {
@@ -45,6 +46,38 @@ fn text<'a>(alloc: Global) -> Arg<'a> {
         .value_name("TEXT")
         .value_parser(ValueParser::Names(["core", "time", "stoch"].as_slice()))
         .help("print this one of its texts alone")
+}
+
+/// An option whose value is a number as files have them.
+fn fraction<'a>(
+    alloc: Global,
+    name: &'static str,
+    value: &'static str,
+    help: &'static str,
+) -> Arg<'a> {
+    Arg::new(alloc, name)
+        .long(name)
+        .value_name(value)
+        .help(help)
+}
+
+/// The level of a risk measure, which goes with a weight and not with an edit list.
+fn tail<'a>(alloc: Global) -> Result<Arg<'a>, AllocError> {
+    let level = "the level of a conditional value at risk, from 0 and below 1";
+    let option = fraction(alloc, "tail", "A", level).requires_arg("weight")?;
+    option.conflicts_with("edits")
+}
+
+/// Its weight.
+fn weight<'a>(alloc: Global) -> Result<Arg<'a>, AllocError> {
+    let weight = "how much it counts beside the mean, from 0 to 1";
+    fraction(alloc, "weight", "W", weight).requires_arg("tail")
+}
+
+/// A command with the options of a risk measure.
+fn with_measure<'a>(alloc: Global, command: Command<'a>) -> Result<Command<'a>, AllocError> {
+    let command = with_option(command, tail(alloc))?;
+    with_option(command, weight(alloc))
 }
 
 /// A command with one more option.
@@ -105,6 +138,7 @@ fn solve<'a>(alloc: Global) -> Result<Command<'a>, AllocError> {
         "solve",
         "solve the program that the files mean, and print the report",
     )?;
+    let command = with_measure(alloc, command)?;
     with_budget(alloc, command)
 }
 
@@ -115,6 +149,7 @@ fn check<'a>(alloc: Global) -> Result<Command<'a>, AllocError> {
         "check",
         "test the reports of a file, and print for each whether it holds",
     )?;
+    let command = with_measure(alloc, command)?;
     command.arg(file(alloc, "report", "the reports").required(true))
 }
 

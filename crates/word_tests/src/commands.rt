@@ -1,14 +1,14 @@
 //! Lists of words, and what they ask for. The table is a text, since each member of an array is a step of the proof.
 use command_words::{
-    Budget, Command, Extent, Page, PlainWords, Plan, Sheet, SheetForm, Sources, Task,
+    Budget, Command, Extent, Page, PlainWords, Plan, RiskMeasure, Sheet, SheetForm, Sources, Task,
 };
 use std::alloc::{AllocError, Global};
 use std::process::Abort;
 use std::test::Fail;
 
 /// In each line the words, and after the bar what they ask for: the command; of a task on files the names of the files, and of
-/// `solve` and `value` the solves and the pivots, in brackets where the words don't state them; of `make` its numbers and the text that is
-/// printed. Nothing where they are refused.
+/// `solve` and `value` the solves and the pivots, in brackets where the words don't state them, and before them the level and the weight,
+/// where there are some; of `make` its numbers and the text that is printed. Nothing where they are refused.
 const WORDS: &str = "\
 solve --core F|solve F - - - - (100000) (100000)
 solve --core F --solves 100000|solve F - - - - 100000 (100000)
@@ -101,6 +101,29 @@ check --report=R --edits=E --stoch=S --time=T --core=F|check F T S E R
 check --core F|
 check --report R|
 check --core F --report R --solves 3|
+solve --core F --tail 1/2 --weight 1|solve F - - - - 1/2 1/1 (100000) (100000)
+solve --weight=0.25 --tail=.95 --core F --time T --pivots 7|solve F T - - - 19/20 1/4 (100000) 7
+solve --core F --tail 0 --weight 0|solve F - - - - 0/1 0/1 (100000) (100000)
+solve --core F --tail 5E-1 --weight 2/2 --quiet|solve F - - - - 1/2 1/1 (100000) (100000)
+solve --core F --tail 1 --weight 1|
+solve --core F --tail 1.5 --weight 1|
+solve --core F --tail 1/2 --weight 1.01|
+solve --core F --tail -0 --weight 1|
+solve --core F --tail=-0.5 --weight 1|
+solve --core F --tail 1/0 --weight 1|
+solve --core F --tail half --weight 1|
+solve --core F --tail 1E-39 --weight 1|
+solve --core F --tail 1/2|
+solve --core F --weight 1|
+solve --core F --tail 1/2 --weight|
+solve --core F --tail 1/2 --tail 1/2 --weight 1|
+solve --core F --tail 1/2 --weight 1 --edits E|
+check --core F --report R --tail 1/2 --weight 1/4|check F - - - R 1/2 1/4
+check --core F --report R --tail 1/2|
+check --core F --report R --tail 1/2 --weight 1 --edits E|
+show --core F --tail 1/2 --weight 1|
+value --core F --time T --tail 1/2 --weight 1|
+table --core F --report R --tail 1/2 --weight 1|
 check --core F --report R --stoch S|
 table --core F --report R|table F - - - R - text
 table --form=csv --report=R --edits=E --stoch=S --time=T --core=F --number 1|table F T S E R 1 csv
@@ -162,7 +185,23 @@ fn told_on_files(alloc: Global, sources: Sources<'_>, task: Task) -> Result<Stri
         Task::Flat(Extent::Core) => format!(in alloc; "flat {files}"),
         Task::Flat(Extent::Whole) => format!(in alloc; "flat {files} whole"),
         Task::Value(budget) => told_budget(alloc, "value", files.as_str(), budget),
+        Task::SolveRisk(measure, budget) => {
+            let risky = told_measure(alloc, files.as_str(), measure)?;
+            told_budget(alloc, "solve", risky.as_str(), budget)
+        }
+        Task::CheckRisk(measure) => {
+            let risky = told_measure(alloc, files.as_str(), measure)?;
+            format!(in alloc; "check {risky}")
+        }
     }
+}
+
+fn told_measure(alloc: Global, files: &str, measure: RiskMeasure) -> Result<String, AllocError> {
+    let level_num = measure.level.num();
+    let level_den = measure.level.den();
+    let weight_num = measure.weight.num();
+    let weight_den = measure.weight.den();
+    format!(in alloc; "{files} {level_num}/{level_den} {weight_num}/{weight_den}")
 }
 
 fn told_sheet(alloc: Global, files: &str, sheet: Sheet) -> Result<String, AllocError> {
@@ -243,7 +282,10 @@ fn words_of(alloc: Global, line: &str) -> Result<Vec<String>, AllocError> {
 /// What words ask for, as the table says it; nothing where they are refused.
 fn asked(alloc: Global, words: &[String]) -> Result<String, AllocError> {
     match PlainWords::read(alloc, words)? {
-        Some(plain) => told(alloc, plain.command(alloc)?),
+        Some(plain) => match plain.command(alloc) {
+            Ok(command) => told(alloc, command),
+            Err(error) => Err(error),
+        },
         None => Ok(String::new(alloc)),
     }
 }
