@@ -1,9 +1,8 @@
 -- How `flat` ends.
-use Rattle.std.proofs.Common.{◌≡◌, ℕ, List, Result, Ok, Err, inl, inr, sym, subst}
+use Rattle.std.proofs.Common.{ℕ, List, Result, Ok, Err, inl, inr, sym, subst}
 use Rattle.refusals.specs.declared.cause.Cause.{Cause}
 use Rattle.refusals.specs.declared.cause.Cause.TheVariants.{FlatLimit, Passes}
 use Rattle.command_words.specs.declared.command.Extent.{Extent}
-use Rattle.input_files.specs.declared.kind.FileKind.TheVariants.{Core}
 use Rattle.input_files.specs.Fetched.{Texts}
 use Rattle.edit_script.specs.Allowed.{program_after}
 use Rattle.flat_write.specs.declared.fault.FlatFault.{FlatFault}
@@ -11,7 +10,6 @@ use Rattle.flat_write.specs.declared.fault.FlatFault.TheVariants.{Limit, Passed,
 use Rattle.program_files.specs.declared.reading.Unread.{Unread}
 use Rattle.program_files.specs.declared.reading.Unread.TheVariants as unread
 use Rattle.exit_status.specs.declared.status.Status.{Status}
-use Rattle.exit_status.specs.declared.status.Status.TheVariants.{Done, Refused}
 use Rattle.smps_cli.specs.Ends.{AnswersUnread, RefusesUnread}
 use Rattle.smps_cli.specs.Flat.{FlatComes, IsFlat, MayBeFlat, RefusesCore, flat_end, limits_of}
 

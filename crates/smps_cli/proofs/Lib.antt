@@ -8,3 +8,5 @@ pub mod TableLemmas
 pub mod Few
 pub mod OnTrees
 pub mod WriteLemmas
+pub mod RiskPrograms
+pub mod RiskLemmas

@@ -5,8 +5,10 @@ use Rattle.refusals.specs.declared.cause.Cause.{Cause}
 use Rattle.refusals.specs.declared.cause.Refusal.{Refusal}
 use Rattle.core_defs.specs.declared.program.Core.{Core}
 use Rattle.command_words.specs.declared.command.Extent.{Extent}
+use Rattle.command_words.specs.declared.command.Budget.{Budget}
 use Rattle.command_words.specs.declared.command.Page.{Page}
 use Rattle.command_words.specs.declared.command.Plan.{Plan}
+use Rattle.command_words.specs.declared.command.RiskMeasure.{RiskMeasure}
 use Rattle.command_words.specs.declared.command.Sheet.{Sheet}
 use Rattle.command_words.specs.declared.command.Task.{Task}
 use Rattle.command_words.specs.declared.command.Task.TheVariants as task
@@ -29,13 +31,15 @@ use Rattle.exit_status.specs.declared.status.Status.TheVariants.{Done, SomeOpen,
 use Rattle.smps_cli.specs.Answers.{MayAnswer, MayAnswerFor, MayCome}
 use Rattle.smps_cli.specs.Checks.{PrintsChecks}
 use Rattle.smps_cli.specs.Ends.{MayEnd, RefusesTexts}
-use Rattle.smps_cli.specs.Flat.{FlatComes, IsFlat, MayBeFlat, RefusesFlat, flat_end, limits_of}
-use Rattle.smps_cli.specs.Tables.{IsTable, MayBeTable, RefusesTable, TableComes, line_after}
+use Rattle.smps_cli.specs.Flat.{FlatComes, MayBeFlat, RefusesFlat, flat_end, limits_of}
+use Rattle.smps_cli.specs.Tables.{MayBeTable, RefusesTable, TableComes, line_after}
 use Rattle.smps_cli.specs.Measured.{PrintsMeasures}
+use Rattle.smps_cli.specs.Risks.{MayBeRiskSolved, MayBeRiskChecked, RefusesRiskSolve, RefusesRiskCheck}
 use Rattle.smps_cli.specs.Makes.{PrintsSummary, MayMake, workload, texts_of}
 use Rattle.smps_cli.specs.Shown.{PrintsProgram}
 use Rattle.smps_cli.specs.Solved.{PrintsReports}
 use Rattle.smps_cli.specs.Completes.{AsksOfProgram, EndsTask, IsPageOrMeant, AsksForWorkload, AnswersOrWantsMemory}
+use Rattle.smps_cli.proofs.RiskLemmas.{solve_ends, check_ends}
 
 -- ---- what the shelf gives
 
@@ -146,6 +150,41 @@ module _ (texts : Texts) (sound : IsUnrefused texts) where
   by_table sheet WriteFault output may = absurd may
   by_table sheet Memory output may = absurd may
 
+  -- there is a report, or there is no program of the risk measure
+  by_unsolved : (m : RiskMeasure) (budget : Budget) (file : FileKind) (line : ℕ) (cause : Cause) (output : List ℕ)
+      → RefusesRiskSolve m budget texts file line cause output → EndsTask (task.SolveRisk m budget) (Refused file line cause)
+  unfolding IsUnrefused
+  by_unsolved m budget file line cause output (inl may) = absurd (sound file (record { line = line; cause = cause }) may.known may.refused)
+  by_unsolved m budget file line cause output (inr is) = solve_ends m budget texts (Refused file line cause) output is
+
+  by_risk : (m : RiskMeasure) (budget : Budget) (status : Status) (output : List ℕ) → MayBeRiskSolved m budget texts status output
+      → EndsTask (task.SolveRisk m budget) status
+  by_risk m budget Done output may = inl (inl refl)
+  by_risk m budget SomeOpen output may = inl (inr (inl refl))
+  by_risk m budget Words output may = absurd may
+  by_risk m budget (Refused file line cause) output may = by_unsolved m budget file line cause output may
+  by_risk m budget (TooLong file) output may = absurd may
+  by_risk m budget (ReadFault file) output may = absurd may
+  by_risk m budget WriteFault output may = absurd may
+  by_risk m budget Memory output may = absurd may
+
+  -- there are checks, or there is no such program, or the report file isn't one of its names
+  by_unchecked : (m : RiskMeasure) (file : FileKind) (line : ℕ) (cause : Cause) (output : List ℕ)
+      → RefusesRiskCheck m texts file line cause output → EndsTask (task.CheckRisk m) (Refused file line cause)
+  unfolding IsUnrefused
+  by_unchecked m file line cause output (inl may) = absurd (sound file (record { line = line; cause = cause }) may.known may.refused)
+  by_unchecked m file line cause output (inr is) = check_ends m texts (Refused file line cause) output is
+
+  by_checks : (m : RiskMeasure) (status : Status) (output : List ℕ) → MayBeRiskChecked m texts status output → EndsTask (task.CheckRisk m) status
+  by_checks m Done output may = inl (inl refl)
+  by_checks m SomeOpen output may = inl (inr (inl refl))
+  by_checks m Words output may = absurd may
+  by_checks m (Refused file line cause) output may = by_unchecked m file line cause output may
+  by_checks m (TooLong file) output may = absurd may
+  by_checks m (ReadFault file) output may = absurd may
+  by_checks m WriteFault output may = absurd may
+  by_checks m Memory output may = absurd may
+
   by_task : (asked : Task) (status : Status) (output : List ℕ) → MayCome asked texts status output → EndsTask asked status
   by_task (task.Solve budget) status output may = by_end (PrintsReports budget texts) status output may
   by_task task.Check status output may = by_end (PrintsChecks texts) status output may
@@ -153,6 +192,8 @@ module _ (texts : Texts) (sound : IsUnrefused texts) where
   by_task task.Show status output may = by_end (PrintsProgram texts) status output may
   by_task (task.Flat size) status output may = by_flat size status output may
   by_task (task.Value budget) status output may = by_end (PrintsMeasures budget texts) status output may
+  by_task (task.SolveRisk m budget) status output may = by_risk m budget status output may
+  by_task (task.CheckRisk m) status output may = by_checks m status output may
 
 meant_unrefused : (texts : Texts) → AreMeant texts → IsUnrefused texts
 unfolding IsUnrefused
@@ -198,3 +239,5 @@ memory_ends (task.Table sheet) = inl (inr (inr refl))
 memory_ends task.Show = inr (inr refl)
 memory_ends (task.Flat size) = inl (inr (inr refl))
 memory_ends (task.Value budget) = inr (inr refl)
+memory_ends (task.SolveRisk m budget) = inl (inr (inr refl))
+memory_ends (task.CheckRisk m) = inl (inr (inr refl))

@@ -1,6 +1,5 @@
 -- How `table` ends.
-use Rattle.std.proofs.Common.{◌≡◌, ℕ, List, Option, Result, Ok, Err, inl, inr, sym, subst}
-use Rattle.refusals.specs.declared.cause.Cause.TheVariants.{ReportBad}
+use Rattle.std.proofs.Common.{ℕ, List, Option, Result, Ok, Err, inl, inr, sym, subst}
 use Rattle.input_files.specs.Fetched.{Texts}
 use Rattle.program_files.specs.Edited.{or_empty}
 use Rattle.program_files.specs.declared.reading.Unread.{Unread}
@@ -8,7 +7,6 @@ use Rattle.program_files.specs.declared.reading.Unread.TheVariants as unread
 use Rattle.report_sheets.specs.declared.sheet.NoSheet.{NoSheet}
 use Rattle.report_sheets.specs.declared.sheet.NoSheet.TheVariants.{Missing, Unproved, Memory}
 use Rattle.exit_status.specs.declared.status.Status.{Status}
-use Rattle.exit_status.specs.declared.status.Status.TheVariants.{Done, Refused}
 use Rattle.smps_cli.specs.Ends.{AnswersUnread, RefusesUnread}
 use Rattle.smps_cli.specs.Tables.{IsTable, MayBeTable, TableComes, line_after}
 

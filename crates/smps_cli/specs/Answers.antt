@@ -4,7 +4,7 @@ use Rattle.smps_io.specs.Faults.{RoseBy}
 use Rattle.smps_io.specs.Files.{Files}
 use Rattle.smps_io.specs.Puts.{Appends, AppendsPrefix}
 use Rattle.command_words.specs.declared.command.Task.{Task}
-use Rattle.command_words.specs.declared.command.Task.TheVariants.{Solve, Check, Table, Show, Flat, Value}
+use Rattle.command_words.specs.declared.command.Task.TheVariants.{Solve, Check, Table, Show, Flat, Value, SolveRisk, CheckRisk}
 use Rattle.command_words.specs.Commands.{FileNames, Asked, command_of}
 use Rattle.command_words.specs.Commands.Asked.{OnFiles, MakeThis}
 use Rattle.input_files.specs.declared.kind.FileKind.{FileKind}
@@ -15,6 +15,7 @@ use Rattle.exit_status.specs.Lines.{status_line}
 use Rattle.smps_cli.specs.Shown.{MayBeShown}
 use Rattle.smps_cli.specs.Flat.{MayBeFlat}
 use Rattle.smps_cli.specs.Measured.{MayBeMeasured}
+use Rattle.smps_cli.specs.Risks.{MayBeRiskSolved, MayBeRiskChecked}
 use Rattle.smps_cli.specs.Solved.{MayBeSolved}
 use Rattle.smps_cli.specs.Checks.{MayBeChecked}
 use Rattle.smps_cli.specs.Tables.{MayBeTable}
@@ -28,6 +29,8 @@ MayCome (Table sheet) texts status output = MayBeTable sheet.number texts status
 MayCome Show texts status output = MayBeShown texts status output
 MayCome (Flat extent) texts status output = MayBeFlat extent texts status output
 MayCome (Value budget) texts status output = MayBeMeasured budget texts status output
+MayCome (SolveRisk m budget) texts status output = MayBeRiskSolved m budget texts status output
+MayCome (CheckRisk m) texts status output = MayBeRiskChecked m texts status output
 
 -- A file is too long, and the line says so.
 abbrev pub SaysTooLong : Option Files → FileNames → Status → List ℕ → Type 0

@@ -2,13 +2,14 @@
 use Rattle.std.specs.Prelude.{◌≡◌, ◌≤◌, ◌⊎◌, ⊤, ℕ, List, length, Option, Some, None}
 use Rattle.smps_words.specs.Line.{reading_of}
 use Rattle.smps_io.specs.Files.{Files, bytes_of}
-use Rattle.refusals.specs.declared.cause.Cause.TheVariants.{FlatLimit, Passes, ReportBad}
+use Rattle.refusals.specs.declared.cause.Cause.{Cause}
+use Rattle.refusals.specs.declared.cause.Cause.TheVariants.{FlatLimit, Passes, ReportBad, ScenarioLimit, TailName}
 use Rattle.core_defs.specs.Fault.{IsCoreFile}
 use Rattle.command_words.specs.declared.command.Budget.{Budget}
 use Rattle.command_words.specs.declared.command.Page.{Page}
 use Rattle.command_words.specs.declared.command.Plan.{Plan}
 use Rattle.command_words.specs.declared.command.Task.{Task}
-use Rattle.command_words.specs.declared.command.Task.TheVariants.{Solve, Check, Table, Show, Flat, Value}
+use Rattle.command_words.specs.declared.command.Task.TheVariants.{Solve, Check, Table, Show, Flat, Value, SolveRisk, CheckRisk}
 use Rattle.command_words.specs.Commands.{FileNames, command_of}
 use Rattle.command_words.specs.Commands.Asked.{OnFiles, MakeThis}
 use Rattle.input_files.specs.Fetched.{Texts, AreGiven, file_limit}
@@ -73,8 +74,15 @@ pub record AsksForWorkload (words : List (List ℕ)) : Type 0 where
 abbrev pub AnswersOrWantsMemory : Status → Type 0
 AnswersOrWantsMemory status = (status ≡ Done) ⊎ (status ≡ SomeOpen) ⊎ (status ≡ Memory)
 
+-- or the core file is refused as a whole: there is no program whose cost is the risk measure
+abbrev pub HasNoRisk : Status → Type 0
+HasNoRisk status =
+    (status ≡ Refused Core 0 TailName) ⊎ (status ≡ Refused Core 0 ScenarioLimit)
+    ⊎ ((p : Operation) × (status ≡ Refused Core 0 (Passes p)))
+
 -- So does each task; but `table` refuses a report file that has no report of the number that is asked for, and `flat` the core file where
--- the program of all nodes exceeds a limit of core files, or an operation passes.
+-- the program of all nodes exceeds a limit of core files, or an operation passes. With a risk measure `solve` and `check` refuse the core
+-- file where a name is taken, the program would be too large, or an operation passes; and `check` a report file with other names.
 abbrev pub EndsTask : Task → Status → Type 0
 EndsTask (Solve budget) status = AnswersOrWantsMemory status
 EndsTask Check status = AnswersOrWantsMemory status
@@ -83,3 +91,6 @@ EndsTask Show status = AnswersOrWantsMemory status
 EndsTask (Flat extent) status =
     AnswersOrWantsMemory status ⊎ (status ≡ Refused Core 0 FlatLimit) ⊎ ((p : Operation) × (status ≡ Refused Core 0 (Passes p)))
 EndsTask (Value budget) status = AnswersOrWantsMemory status
+EndsTask (SolveRisk m budget) status = AnswersOrWantsMemory status ⊎ HasNoRisk status
+EndsTask (CheckRisk m) status =
+    AnswersOrWantsMemory status ⊎ HasNoRisk status ⊎ ((line : ℕ) × (cause : Cause) × (status ≡ Refused Report line cause))

@@ -6,6 +6,7 @@ pub mod Checks
 pub mod Shown
 pub mod Flat
 pub mod Measured
+pub mod Risks
 pub mod Tables
 pub mod Makes
 pub mod Found

@@ -4,6 +4,7 @@ ghost use Rattle.smps_io.specs.Faults.{Rose};
 ghost use Rattle.smps_io.specs.Fetches.{FetchesPrefix};
 ghost use Rattle.command_words.specs.Commands.{command_of};
 ghost use Rattle.command_words.specs.Commands.Asked.{OnFiles};
+ghost use Rattle.command_words.specs.Ranges.{HasRange};
 ghost use Rattle.command_words.specs.Views.{asked, sources_view};
 ghost use Rattle.input_files.specs.Fetched.{AreGiven, names_in_order};
 ghost use Rattle.input_files.specs.Unfetched.{texts_view};
@@ -20,6 +21,7 @@ use crate::fetched::{Fetched, FileNames};
 use crate::flat::flattened;
 use crate::found::Found;
 use crate::make::made;
+use crate::risk::{checked_risk, solved_risk};
 use crate::show::shown;
 use crate::solve::solved;
 use crate::table::tabled;
@@ -76,7 +78,8 @@ impl Ran {
 
 /// What a task comes to on its texts.
 fn come<W: Watch>(alloc: Global, task: Task, texts: &Texts, watch: &mut W) -> Result<Answer, Memory>
-    requires { AreWithin (texts_view texts.now) }
+    requires within { AreWithin (texts_view texts.now) }
+    requires range { HasRange task }
     ensures may { IfOk result (λ answer. MayCome task (texts_view texts.now) answer.status (found_text answer.found)) }
     ensures has { IfOk result (λ answer. HasTexts answer.status) }
 {
@@ -87,6 +90,8 @@ fn come<W: Watch>(alloc: Global, task: Task, texts: &Texts, watch: &mut W) -> Re
         Task::Show => shown(alloc, texts),
         Task::Flat(extent) => flattened(alloc, texts, extent),
         Task::Value(budget) => valued(alloc, texts, budget, watch),
+        Task::SolveRisk(measure, budget) => solved_risk(alloc, texts, measure, budget, watch),
+        Task::CheckRisk(measure) => checked_risk(alloc, texts, measure),
     }
 }
 
@@ -98,7 +103,8 @@ fn on_texts<W: Watch>(
     texts: Texts,
     watch: &mut W,
 ) -> Result<Ran, Memory>
-    requires { AreWithin (texts_view texts) }
+    requires within { AreWithin (texts_view texts) }
+    requires range { HasRange task }
     ensures may { IfOk result (λ ran. MayCome task (texts_view texts) ran.status (found_text ran.found)) }
     ensures has { IfOk result (λ ran. HasTexts ran.status) }
 {
@@ -127,6 +133,7 @@ fn on_files<R: Files, H: Shelf, W: Watch>(
     shelf: &mut H,
     watch: &mut W,
 ) -> Result<Ran, Memory>
+    requires { HasRange task }
     ensures may { IfOk result (λ ran.
         MayAnswerTask (H.content shelf.old) (sources_view sources.now) task ran.status (found_text ran.found)) }
     ensures words { IfOk result (λ ran. ran.status ≢ Status.Words) }
@@ -199,9 +206,10 @@ pub(crate) fn answered<R: Files, H: Shelf, W: Watch>(
         return refused(alloc);
     };
     heed(&plain, watch);
-    match plain.command(alloc)? {
-        Command::OnFiles { sources, task } => on_files(rt, alloc, &sources, task, shelf, watch),
-        Command::Make(plan) => making(alloc, plan, watch),
+    match plain.command(alloc) {
+        Ok(Command::OnFiles { sources, task }) => on_files(rt, alloc, &sources, task, shelf, watch),
+        Ok(Command::Make(plan)) => making(alloc, plan, watch),
+        Err(_) => Err(Memory),
     }
 }
 

@@ -9,6 +9,7 @@ mod found;
 mod input;
 mod make;
 mod refuse;
+mod risk;
 mod show;
 mod solve;
 mod table;

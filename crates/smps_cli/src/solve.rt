@@ -65,7 +65,7 @@ fn solved_input<W: Watch>(
 }
 
 /// The answer of reports.
-fn told(tolds: Vec<Told>) -> Answer
+pub(crate) fn told(tolds: Vec<Told>) -> Answer
     ensures text { found_text result.found ≡ flat_map told_text tolds.items }
     ensures ends { result.status ≡ open_status (any_open tolds.items) }
 {

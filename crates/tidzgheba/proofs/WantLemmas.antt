@@ -7,7 +7,7 @@ use Rattle.std.specs.declared.vec.IntoIter.{IntoIter}
 use Rattle.std.specs.Vec.Iter.{into_iter_items}
 use Rattle.smps_io.specs.Files.{Files}
 use Rattle.command_words.specs.declared.command.Task.{Task}
-use Rattle.command_words.specs.declared.command.Task.TheVariants.{Solve, Check, Table, Show, Flat, Value}
+use Rattle.command_words.specs.declared.command.Task.TheVariants.{Solve, Check, Table, Show, Flat, Value, SolveRisk, CheckRisk}
 use Rattle.command_words.specs.Commands.{Asked, command_of}
 use Rattle.command_words.specs.Commands.Asked.{OnFiles, MakeThis}
 use Rattle.exit_status.specs.declared.status.Status.TheVariants.{Memory}
@@ -30,6 +30,8 @@ ends_so (Table sheet) = inl (inr (inr refl))
 ends_so Show = inr (inr refl)
 ends_so (Flat extent) = inl (inr (inr refl))
 ends_so (Value budget) = inr (inr refl)
+ends_so (SolveRisk measure budget) = inl (inr (inr refl))
+ends_so (CheckRisk measure) = inl (inr (inr refl))
 
 module _ (content : Option Files) (shelf : ShelfState) (sink : SinkState) where
   nothing_ran : (words : List (List ℕ)) → IsRun words content shelf shelf sink sink Memory
