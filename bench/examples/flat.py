@@ -61,6 +61,19 @@ class Flat:
                 total[key] = total.get(key, 0) + number(factor) * value
         self.rows.append((total, sign, number(right)))
 
+    def at_risk(self, level, weight):
+        """The same where the mean counts by 1 less the weight, and the conditional value at risk of the level by the weight."""
+        level, weight = number(level), number(weight)
+        made = Flat(self.tree)
+        made.cost = {key: cost * (1 - weight) for key, cost in self.cost.items()}
+        made.bounds, made.rows = dict(self.bounds), list(self.rows)
+        border = made.column((), "TAIL_H", weight, low=-10 ** 9)
+        for _, _, nodes in self.tree.scenarios:
+            above = made.column(nodes[-1], "TAIL_U", weight / (1 - level))
+            costs = {key: cost for key, cost in self.cost.items() if key[0] in nodes}
+            made.row([(1, border), (1, above), (-1, costs)], ">=", 0)
+        return made
+
     def expected(self):
         """The expected cost, as a factor for each column."""
         return {key: self.tree.chance[key[0]] * cost for key, cost in self.cost.items()}
