@@ -1,5 +1,5 @@
 -- Each reason that stops the method is told of a solve, with its number.
-use Rattle.std.proofs.Common.{◌≡◌, ◌⊎◌, inl, inr, ℕ, Bool, true, false, Option, Some, None, IfSome, refl, sym, ap, subst, ◌∙◌}
+use Rattle.std.proofs.Common.{◌≡◌, ◌⊎◌, inl, inr, ℕ, true, false, Option, Some, None, IfSome, refl, sym, ap, subst, ◌∙◌}
 use Rattle.rationals.specs.Passes.{Operation}
 use Rattle.scen_defs.specs.Program.{Program}
 use Rattle.scen_defs.specs.declared.report.Place.{Place}
@@ -18,7 +18,9 @@ use Rattle.pass_core.specs.Counting.{with_commit, after_report}
 use Rattle.pass_core.specs.Explained.{IsUnstopped}
 use Rattle.pass_core.specs.Reasons.{HasReason, IsAtSolve, IsOfSolve, IsLasting, GainsReasons}
 use Rattle.pass_core.specs.Tabled.{IsTabledBy}
-use Rattle.pass_core.specs.Turns.{node_halts, IsBeforeRun, SolvesNode, AreReady, MakesStep, begins_none, opens_run, solves}
+use Rattle.pass_core.specs.Desks.{DropsOn}
+use Rattle.pass_core.specs.Turns.{node_halts, IsBeforeRun, SolvesAtDesk, AreReady, MakesStep}
+use Rattle.pass_core.proofs.Moving.{StepsAtDesk, no_solve, new_run, one_turn, step_moves, work_moves}
 use Rattle.edit_defs.specs.declared.edit.Edit.{Edit}
 use Rattle.edit_defs.specs.After.{after}
 use Rattle.found_ends.specs.Settled.{why_open}
@@ -26,7 +28,7 @@ use Rattle.found_ends.specs.Claims.{IsReason, EndsAssembly}
 use Rattle.found_ends.proofs.Reasons.{closed_reason}
 use Rattle.nested_method.specs.declared.method.Method.{Method}
 use Rattle.nested_method.specs.declared.method.Method.TheVariants.{Working as AtWork, Idle}
-use Rattle.nested_method.specs.Stands.{HasFewNodes, IsCleared, Begins, settled_in, closing, SolvesNodes, none, more, anew, HasSolve}
+use Rattle.nested_method.specs.Stands.{HasFewNodes, IsCleared, Begins, settled_in, closing, SolvesNodes, none, more, beside, forgets, anew, HasSolve}
 use Rattle.nested_method.specs.Stands.{CutPasses, CostPasses, OpeningPasses, StandsCleared, GoesOn}
 use Rattle.nested_method.proofs.StandLemmas.{solves_behind}
 
@@ -119,7 +121,7 @@ module _ (p : Program) (old : State) where
 
   -- the last solve
   module _ (mid : State) (m : Machine) (lasts : Lasts) (n : ℕ) (new : State) (before : SolvesNodes p old mid) (ready : AreReady mid lasts)
-      (node : SolvesNode p (record mid { lasts = lasts }) m n new) where
+      (node : SolvesAtDesk p (record mid { lasts = lasts }) m n new) where
     abbrev here : (k : ℕ) (all : Solved) → k ≡ (with_commit mid.counts).all → node.all ≡ all → HasSolve p k all old new
     here k all e c = record {
       mid = mid;
@@ -150,55 +152,70 @@ module _ (p : Program) (old : State) where
     at_solve (Pivots k) h = here k solved.PivotsEnded h.0 h.1
     at_solve (Passed place o) h = place_here o place h
 
-  step_arises : (why : Open) (mid new : State) (m : Machine) (told : Bool) → SolvesNodes p old mid → SolvesNodes p mid new
-      → IsTabledBy p mid m → MakesStep p mid m new told
+  step_arises : (why : Open) (mid new : State) (m : Machine) → SolvesNodes p old mid → SolvesNodes p mid new → StepsAtDesk p mid m new
       → (HasReason mid why → HasReason old why ⊎ Arises p old mid why) → HasReason new why → HasReason old why ⊎ Arises p old new why
-  step_arises why mid new m told before tail tabled step rest h = go told step
+  step_arises why mid new m before tail step rest h = go step
     where
       kept : HasReason old why ⊎ Arises p old mid why → HasReason old why ⊎ Arises p old new why
       kept (inl x) = inl x
       kept (inr a) = inr (longer why mid new tail a)
 
-      go : (b : Bool) → MakesStep p mid m new b → HasReason old why ⊎ Arises p old new why
-      go b (begins_none rests points reasons ready) =
-          elim (gained (λ w. ⊥) mid new why reasons h) [ inl x ↦ kept (rest x) | inr n ↦ absurd n ]
-      go b (opens_run closed earlier opens points reasons run first left) =
+      go : StepsAtDesk p mid m new → HasReason old why ⊎ Arises p old new why
+      go (no_solve reasons ready) = elim (gained (λ w. ⊥) mid new why reasons h) [ inl x ↦ kept (rest x) | inr n ↦ absurd n ]
+      go (new_run tabled made closed earlier opened reasons run first left) =
           elim (gained (IsBeforeRun p mid) mid new why reasons h) [
             | inl x ↦ kept (rest x)
-            | inr i ↦
-                inr (at_opening why mid new m before tabled closed (opens_run closed earlier opens points reasons run first left) i)
+            | inr i ↦ inr (at_opening why mid new m before tabled closed made i)
           ]
-      go b (solves lasts n ready is_next node) =
+      go (one_turn lasts n ready node) =
           elim (gained (IsOfThis mid lasts n node.task node.all) (record mid { lasts = lasts; counts = with_commit mid.counts }) new why node.reasons h) [
             | inl x ↦ kept (rest x)
             | inr i ↦ inr (at_solve mid m lasts n new before ready node why i)
           ]
 
+  -- a solve that isn't wanted any more gives no reason
+  dropped_reason : (mid new : State) (m flying : Machine) (w : ℕ) (why : Open) → DropsOn p mid m flying w new → HasReason new why
+      → HasReason mid why
+  dropped_reason mid new m flying w why drop (inl e) = inl (sym (ap (λ (s : State). s.stop) drop.others) ∙ e)
+  dropped_reason mid new m flying w why drop (inr e) = inr (sym (ap (λ (s : State). s.lasting) drop.others) ∙ e)
+
   arises : (new : State) (why : Open) → SolvesNodes p old new → HasReason new why → HasReason old why ⊎ Arises p old new why
   arises new why none h = inl h
   arises new why (more mid k m told y left t step keeps) h =
-      step_arises why mid k m told y (more mid k m told none left t step keeps) t step (arises mid why y) h
+      step_arises why mid k m y (more mid k m told none left t step keeps) (step_moves p mid m k told t step) (arises mid why y) h
+  arises new why (beside mid k m y left d step keeps) h =
+      step_arises why mid k m y (beside mid k m none left d step keeps) (work_moves p mid m k step) (arises mid why y) h
+  arises new why (forgets mid k m w n y b drop) h =
+      go (arises mid why y (dropped_reason mid k m b.desk.fits.flying w why drop h))
+    where
+      go : HasReason old why ⊎ Arises p old mid why → HasReason old why ⊎ Arises p old k why
+      go (inl x) = inl x
+      go (inr a) = inr (longer why mid k (forgets mid k m w n none b drop) a)
   arises new why (anew mid k y ends over) (inl e) = absurd (no_reason k.stop why over.beginning.stop e)
   arises new why (anew mid k y ends over) (inr e) = absurd (no_reason k.lasting why over.beginning.lasting e)
 
-  step_lasts : (mid new : State) (m : Machine) (told : Bool) → MakesStep p mid m new told → ((why : Open) → mid.lasting ≡ Some why → IsLasting why)
+  step_lasts : (mid new : State) (m : Machine) → StepsAtDesk p mid m new → ((why : Open) → mid.lasting ≡ Some why → IsLasting why)
       → (why : Open) → new.lasting ≡ Some why → IsLasting why
-  step_lasts mid new m told step h why e = go told step
+  step_lasts mid new m step h why e = go step
     where
       by : (Is : Open → Type 0) → (mid.lasting ≡ Some why) ⊎ (Is why × IsLasting why) → IsLasting why
       by Is (inl l) = h why l
       by Is (inr i) = i.1
 
-      go : (b : Bool) → MakesStep p mid m new b → IsLasting why
-      go b (begins_none rests points reasons ready) = by (λ w. ⊥) (reasons.lasting why e)
-      go b (opens_run closed earlier opens points reasons run first left) = by (IsBeforeRun p mid) (reasons.lasting why e)
-      go b (solves lasts n ready is_next node) = by (IsOfThis mid lasts n node.task node.all) (node.reasons.lasting why e)
+      go : StepsAtDesk p mid m new → IsLasting why
+      go (no_solve reasons ready) = by (λ w. ⊥) (reasons.lasting why e)
+      go (new_run tabled made closed earlier opened reasons run first left) = by (IsBeforeRun p mid) (reasons.lasting why e)
+      go (one_turn lasts n ready node) = by (IsOfThis mid lasts n node.task node.all) (node.reasons.lasting why e)
 
   -- what lasts for a run is told of a cut or of a cost
   still_lasts : (new : State) → SolvesNodes p old new → ((why : Open) → old.lasting ≡ Some why → IsLasting why) → (why : Open) → new.lasting ≡ Some why
       → IsLasting why
   still_lasts new none h why e = h why e
-  still_lasts new (more mid k m told y left t step keeps) h why e = step_lasts mid k m told step (still_lasts mid y h) why e
+  still_lasts new (more mid k m told y left t step keeps) h why e =
+      step_lasts mid k m (step_moves p mid m k told t step) (still_lasts mid y h) why e
+  still_lasts new (beside mid k m y left d step keeps) h why e = step_lasts mid k m (work_moves p mid m k step) (still_lasts mid y h) why e
+  still_lasts new (forgets mid k m w n y b drop) h why e =
+      still_lasts mid y h why (sym (ap (λ (s : State). s.lasting) drop.others) ∙ e)
   still_lasts new (anew mid k y ends over) h why e = absurd (no_reason k.lasting why over.beginning.lasting e)
 
 -- ---- where solves are counted from 0

@@ -43,7 +43,9 @@ use Rattle.pass_core.proofs.Beginning.{first_counted}
 use Rattle.pass_core.specs.Explained.{ComesOfSolve, PassesInRun, IsExplained, AreExplained, KeepsExplained, IsUnstopped}
 use Rattle.pass_core.specs.declared.state.State.{State}
 use Rattle.pass_core.specs.Tabled.{IsTabled, IsTabledBy, StepsTo}
-use Rattle.pass_core.specs.Turns.{PointsStand, MakesStep, begins_none, opens_run, solves}
+use Rattle.pass_core.specs.Desks.{IsDesk, IsBegunBy, DropsOn}
+use Rattle.pass_core.specs.Turns.{PointsStand, MakesStep, begins_none, opens_run, solves, WorksAtDesk}
+use Rattle.pass_core.proofs.Moving.{StepsAtDesk, no_solve, new_run, one_turn, step_moves, work_moves, closed_same}
 use Rattle.pass_core.proofs.Standing.{empty_stand}
 use Rattle.pass_core.proofs.Explaining.{unstopped_is_explained}
 use Rattle.nested_method.specs.declared.found.Found.{Found}
@@ -53,7 +55,7 @@ use Rattle.nested_method.specs.declared.method.Method.TheVariants.{Working as At
 use Rattle.nested_method.specs.Edited.{is_grown, KeepsTabled, ClearsStop, IsEdited, HasNoTree}
 use Rattle.nested_method.specs.Laws.{TouchesCarry}
 use Rattle.nested_method.specs.Stands.{LeavesOpen, TellsWhy, IsInBudget, WorksOn, StandsOn, settled_in}
-use Rattle.nested_method.specs.Stands.{IsAtEnd, SolvesNodes, SolvesOnce, none, more, anew, SolvesAnew}
+use Rattle.nested_method.specs.Stands.{IsAtEnd, SolvesNodes, SolvesOnce, none, more, beside, forgets, anew, SolvesAnew}
 use Rattle.nested_method.proofs.Standing.{touches_stand, versions_behind}
 
 -- ---- the frame
@@ -143,8 +145,8 @@ step_tabled p old new told step h = let s = step h.0 h.1 in (s.machine, s.tabled
 
 -- and the points standing
 step_points : (p : Program) (old new : State) (m : Machine) (told : Bool) → MakesStep p old m new told → PointsStand p new.lasts.nodes.items
-step_points p old new m told (begins_none rests points reasons ready) = points
-step_points p old new m told (opens_run closed earlier opens points reasons run first left) = points
+step_points p old new m told (begins_none rest points reasons ready) = points
+step_points p old new m told (opens_run closed earlier opened points reasons run first left) = points
 step_points p old new m told (solves lasts n ready is_next node) = node.points
 
 pub steps_points : (p : Program) (old new : State) (told : Bool)
@@ -153,11 +155,10 @@ pub steps_points : (p : Program) (old new : State) (told : Bool)
 steps_points p old new told step h points = step_points p old new h.0 told (step h.0 h.1 points)
 
 -- a step counts one more solve, or none
-step_counts : (p : Program) (old new : State) (m : Machine) (told : Bool) → MakesStep p old m new told
-    → (new.counts ≡ old.counts) ⊎ (new.counts ≡ with_commit old.counts)
-step_counts p old new m told (begins_none rests points reasons ready) = inl reasons.counts
-step_counts p old new m told (opens_run closed earlier opens points reasons run first left) = inl reasons.counts
-step_counts p old new m told (solves lasts n ready is_next node) = inr node.reasons.counts
+step_counts : (p : Program) (old new : State) (m : Machine) → StepsAtDesk p old m new → (new.counts ≡ old.counts) ⊎ (new.counts ≡ with_commit old.counts)
+step_counts p old new m (no_solve reasons ready) = inl reasons.counts
+step_counts p old new m (new_run tabled made closed earlier opened reasons run first left) = inl reasons.counts
+step_counts p old new m (one_turn lasts n ready node) = inr node.reasons.counts
 
 -- where something is left to find, so many solves aren't counted yet as are allowed
 not_spent : (stop : Option Open) (counted allowed : ℕ) → ended stop counted allowed ≡ None → counted < allowed
@@ -189,6 +190,14 @@ one_more_within a b h = omega (arith, h)
 
 one_more_at_most : (a b : ℕ) → a < b → one_solve_more a ≤ b
 one_more_at_most a b h = omega (arith, h)
+
+-- so it is behind a Begin
+pub still_left : (p : Program) (old new : State) (m : Machine) → IsDesk p old m → IsDesk p new m
+    → new ≡ record old { lasts = new.lasts; is_begun = new.is_begun; table = new.table } → settled_in old ≡ None → settled_in new ≡ None
+still_left p old new m before behind e left =
+    ap settled_in e
+    ∙ ap (λ (closed : Bool). settled old.kind closed old.ends old.stop old.counts.since_report old.budget.solves)
+    (closed_same p old new m before behind) ∙ left
 
 -- where an edit may not come yet, something is left to find
 pub not_ripe : (work counted : ℕ) (case : Option Settled) → (leb work counted || is_some case) ≡ false → case ≡ None
@@ -225,11 +234,16 @@ in_budget old new b (inr e) less h = record {
   );
 }
 
+-- behind a step at a desk
+pub desk_in_budget : (p : Program) (old new : State) (m : Machine) → new.budget ≡ old.budget → old.counts.since_report < old.budget.solves
+    → StepsAtDesk p old m new → IsInBudget old → IsInBudget new
+desk_in_budget p old new m b less step within = in_budget old new b (step_counts p old new m step) less within
+
 pub step_in_budget : (p : Program) (old new : State) (told : Bool) → new.budget ≡ old.budget → old.counts.since_report < old.budget.solves
     → ((m : Machine) → IsTabledBy p old m → PointsStand p old.lasts.nodes.items → MakesStep p old m new told)
     → IsTabled p old → PointsStand p old.lasts.nodes.items → IsInBudget old → IsInBudget new
 step_in_budget p old new told b less step h points within =
-    in_budget old new b (step_counts p old new h.0 told (step h.0 h.1 points)) less within
+    desk_in_budget p old new h.0 b less (step_moves p old h.0 new told h.1 (step h.0 h.1 points)) within
 
 -- ---- a program that is begun anew
 -- nothing that stops the method, no end and no point is known
@@ -306,20 +320,26 @@ solves_anew p old mid new told i ends over tabled less step keeps = record {
 pub solves_behind : (p : Program) (a b c : State) → SolvesNodes p a b → SolvesNodes p b c → SolvesNodes p a c
 solves_behind p a b c x none = x
 solves_behind p a b c x (more mid new m told y left t step keeps) = more mid new m told (solves_behind p a b mid x y) left t step keeps
+solves_behind p a b c x (beside mid new m y left d step keeps) = beside mid new m (solves_behind p a b mid x y) left d step keeps
+solves_behind p a b c x (forgets mid new m w n y f drop) = forgets mid new m w n (solves_behind p a b mid x y) f drop
 solves_behind p a b c x (anew mid new y ends over) = anew mid new (solves_behind p a b mid x y) ends over
+
+one_counted : (a mid new : State) → (new.counts ≡ mid.counts) ⊎ (new.counts ≡ with_commit mid.counts)
+    → (a.counts.since_report ≤ mid.counts.since_report) × (mid.counts.since_report < 2 ^ 64)
+    → (a.counts.since_report ≤ new.counts.since_report) × (new.counts.since_report < 2 ^ 64)
+one_counted a mid new (inl e) h = let k = ap (λ (c : Counts). c.since_report) e in (omega (arith, h.0, k), omega (arith, h.1, k))
+one_counted a mid new (inr e) h = let k = ap (λ (c : Counts). c.since_report) e in (omega (arith, h.0, h.1, k), omega (arith, h.1, k))
 
 -- the solves that are counted since a report don't become less, and have 64 bits
 pub more_counted : (p : Program) (a b : State) → a.counts.since_report < 2 ^ 64 → SolvesNodes p a b
     → (a.counts.since_report ≤ b.counts.since_report) × (b.counts.since_report < 2 ^ 64)
 more_counted p a b less none = (omega arith, less)
 more_counted p a b less (more mid new m told y left t step keeps) =
-    let h = more_counted p a mid less y in go (step_counts p mid new m told step) h
-  where
-    go : (new.counts ≡ mid.counts) ⊎ (new.counts ≡ with_commit mid.counts)
-        → (a.counts.since_report ≤ mid.counts.since_report) × (mid.counts.since_report < 2 ^ 64)
-        → (a.counts.since_report ≤ new.counts.since_report) × (new.counts.since_report < 2 ^ 64)
-    go (inl e) h = let k = ap (λ (c : Counts). c.since_report) e in (omega (arith, h.0, k), omega (arith, h.1, k))
-    go (inr e) h = let k = ap (λ (c : Counts). c.since_report) e in (omega (arith, h.0, h.1, k), omega (arith, h.1, k))
+    one_counted a mid new (step_counts p mid new m (step_moves p mid m new told t step)) (more_counted p a mid less y)
+more_counted p a b less (beside mid new m y left d step keeps) =
+    one_counted a mid new (step_counts p mid new m (work_moves p mid m new step)) (more_counted p a mid less y)
+more_counted p a b less (forgets mid new m w n y f drop) =
+    one_counted a mid new (inl (ap (λ (s : State). s.counts) drop.others)) (more_counted p a mid less y)
 more_counted p a b less (anew mid new y ends over) =
     let h = more_counted p a mid less y in
     let k = ap (λ (c : Counts). c.since_report) over.counts in (omega (arith, h.0, k), omega (arith, h.1, k))
@@ -340,6 +360,16 @@ solves_more p budget old w new told i few works before step keeps open_yet =
           (keeps works.tree works.frame);
       never = before.never;
     }
+
+-- one at a desk, and a solve that isn't wanted any more
+pub solves_beside : (p : Program) (old mid new : State) (m : Machine) → SolvesOnce p old mid → settled_in mid ≡ None → IsDesk p mid m
+    → WorksAtDesk p mid m new → KeepsBooks p mid new → SolvesOnce p old new
+solves_beside p old mid new m before left desk work keeps =
+    record { solves = beside mid new m before.solves left desk work keeps; never = before.never }
+
+pub solves_less : (p : Program) (old mid new : State) (m : Machine) (w n : ℕ) → SolvesOnce p old mid → (b : IsBegunBy p mid m w n)
+    → DropsOn p mid m b.desk.fits.flying w new → SolvesOnce p old new
+solves_less p old mid new m w n before b drop = record { solves = forgets mid new m w n before.solves b drop; never = before.never }
 
 -- an edit: its versions are in no table
 versions_tabled : (q : Program) (old new : State) → new ≡ record old { versions = new.versions } → IsTabled q old → IsTabled q new

@@ -21,7 +21,8 @@ use Rattle.pass_core.specs.Counting.{no_commits, with_commit, after_report}
 use Rattle.pass_core.specs.Tabled.{HasRoom, IsTabled, IsTabledBy, GoesBySteps}
 use Rattle.pass_core.specs.Made.{KeepsBooks}
 use Rattle.pass_core.specs.Reasons.{PassesAtOffer, PassesAtCost, IsLasting}
-use Rattle.pass_core.specs.Turns.{PointsStand, PassesBefore, ByTree, SolvesNode, AreReady, IsAtRest, MakesStep}
+use Rattle.pass_core.specs.Desks.{IsDesk, IsBegunBy, DropsOn}
+use Rattle.pass_core.specs.Turns.{PointsStand, PassesBefore, ByTree, SolvesAtDesk, AreReady, IsAtRest, MakesStep, WorksAtDesk}
 use Rattle.found_ends.specs.declared.last.Lasts.{Lasts}
 use Rattle.found_ends.specs.declared.claims.Closed.{Closed}
 use Rattle.found_ends.specs.declared.settled.Settled.{Settled}
@@ -134,13 +135,19 @@ WorksAsAsked p work (AtWork old) (AtWork new) = SolvesAsAsked p work old.state n
 WorksAsAsked p work (AtWork old) (Idle why own) = ⊥
 WorksAsAsked p work (Idle why own) new = Unit {0}
 
--- where something is left to find, programs of nodes are solved, one behind the other, with the openings of runs between them, or where
--- the method can't go on the program is begun anew, from one state to another; cuts that are made for books that are right of the program
--- are followed by such cuts
+-- where something is left to find, programs of nodes are solved, one behind the other, or several at a desk, with the openings of runs
+-- between them, or where the method can't go on the program is begun anew, from one state to another; cuts that are made for books that are
+-- right of the program are followed by such cuts
 pub data SolvesNodes (p : Program) (old : State) : State → Type 0 where
   none : SolvesNodes p old old
   more : (mid new : State) (m : Machine) (told : Bool) → SolvesNodes p old mid → settled_in mid ≡ None → IsTabledBy p mid m
       → MakesStep p mid m new told → KeepsBooks p mid new → SolvesNodes p old new
+  -- several workers begin solves beside one another, and these end one behind the other
+  beside : (mid new : State) (m : Machine) → SolvesNodes p old mid → settled_in mid ≡ None → IsDesk p mid m → WorksAtDesk p mid m new
+      → KeepsBooks p mid new → SolvesNodes p old new
+  -- one that isn't wanted any more, as where nothing is left to find, leaves nothing, and isn't counted
+  forgets : (mid new : State) (m : Machine) (worker n : ℕ) → SolvesNodes p old mid → (b : IsBegunBy p mid m worker n)
+      → DropsOn p mid m b.desk.fits.flying worker new → SolvesNodes p old new
   -- begun anew where the method can't go on
   anew : (mid new : State) → SolvesNodes p old mid → IsAtEnd p mid → StartsOver p mid new → SolvesNodes p old new
 
@@ -148,6 +155,8 @@ pub data SolvesNodes (p : Program) (old : State) : State → Type 0 where
 abbrev pub NeverAnew : {p : Program} {old new : State} → SolvesNodes p old new → Type 0
 NeverAnew none = Unit {0}
 NeverAnew (more mid new m told before left tabled step keeps) = NeverAnew before
+NeverAnew (beside mid new m before left desk works keeps) = NeverAnew before
+NeverAnew (forgets mid new m worker n before b drop) = NeverAnew before
 NeverAnew (anew mid new before ends over) = ⊥
 
 -- programs of nodes are solved so, and the program isn't begun anew
@@ -170,7 +179,7 @@ pub record HasSolve (p : Program) (k : ℕ) (all : Solved) (old new : State) : T
   pub before : SolvesNodes p old mid
   pub lasts : Lasts
   pub ready : AreReady mid lasts
-  pub solve : SolvesNode p (record mid { lasts = lasts }) machine node next
+  pub solve : SolvesAtDesk p (record mid { lasts = lasts }) machine node next
   pub number : (with_commit mid.counts).all ≡ k
   pub comes : solve.all ≡ all
   pub behind : SolvesNodes p next new

@@ -21,7 +21,7 @@ use Rattle.pass_table.specs.Machine.{Flight, Machine, IsLive, IsChild, IsFlown, 
 use Rattle.pass_table.specs.Fits.{Fits, HasRead, AnswersBegin}
 use Rattle.pass_table.specs.Readings.{reading_at}
 use Rattle.pass_table.proofs.Stale.{same_at}
-use Rattle.crew_turns.specs.Turn.{AreChildren, first_flight, read_by_each, read_each, EndsTurn, drops, commits, adds, TakesTurn}
+use Rattle.crew_turns.specs.Turn.{IsIdle, AreChildren, first_flight, read_by_each, read_each, EndsTurn, drops, commits, adds, TakesTurn}
 use Rattle.crew_turns.specs.Besides.{FitsBesides, BeginsBesides}
 use Rattle.crew_turns.proofs.Turning.{AreReads, node_read, run_read, readings_of, turn_reads, turn_keeps}
 use Rattle.crew_turns.proofs.Turned.{child_to}
@@ -173,6 +173,9 @@ anyhow Way p old m flying w n new e = record {
   node = e.node;
   way = tt;
   desk = e.desk;
+  flight = e.flight;
+  flown = e.flown;
+  ended = e.ended;
   flights = e.flights;
   alone = e.alone;
 }
@@ -186,6 +189,9 @@ ends_before Way p s counts m flying w n new e = record {
   node = e.node;
   way = e.way;
   desk = e.desk;
+  flight = e.flight;
+  flown = e.flown;
+  ended = e.ended;
   flights = e.flights;
   alone = e.alone;
 }
@@ -314,6 +320,9 @@ module _ (p : Program) (s : State) (m : Machine) (w n : ℕ) (i : IsProgram p) (
             pools = pools_kept s new e.run b.desk.pools;
             unused = λ z. let no : false ≡ true = sym z ∙ e.run.is_begun ∙ b.is_begun in absurd (cc);
           };
+          flight = b.flight;
+          flown = mine;
+          ended = subst (EndsTurn w flying b.flight e.added) (sym h.turns.flying) e.ends;
           flights = λ v. ap (λ (x : Machine). x.flight v) h.turns.flying ∙ frees w flying b.flight e.added e.machine e.ends v;
           alone = λ first alone. subst (Fits new.table) (sym (h.turns.alone (first, alone_reads first alone))) e.fits;
         }
@@ -353,6 +362,9 @@ at_desk p s m t = record {
   is = starts_there s.table m t.valid t.idle t.fits;
 }
 
+pub desk_at : (p : Program) (s : State) (m : Machine) → IsTabledBy p s m → IsDesk p s m
+desk_at p s m t = (at_desk p s m t).desk
+
 -- what its Begin comes to
 pub alone_begins : (p : Program) (s new : State) (m : Machine) (r : Option ℕ) → IsTabledBy p s m
     → ((d : IsDesk p s m) → d.fits.flying.flight 0 ≡ None → 0 < length s.table.flights.items → BeginsOn p m d.fits.flying 0 r new)
@@ -370,6 +382,21 @@ rests_at p s m h = record {
   machine = record { live = h.desk.machine.live; parent = h.desk.machine.parent; number = h.desk.machine.number };
   pools = h.desk.pools;
   unused = h.desk.unused;
+}
+
+-- so the machine with the solves in flight, where it has none, is one that the table fits
+pub lands : (p : Program) (s : State) (m : Machine) (d : IsDesk p s m) → IsIdle d.fits.flying → IsTabledBy p s d.fits.flying
+lands p s m d idle = record {
+  valid = d.fits.valid;
+  fits = d.fits.fits;
+  idle = idle;
+  machine = record {
+    live = λ n. ap (λ (l : ℕ → Bool). l n) (sym d.fits.alike.live) ∙ d.machine.live n;
+    parent = sym d.fits.alike.parent ∙ d.machine.parent;
+    number = λ n. ap (λ (g : ℕ → ℕ). g n) (sym d.fits.alike.number) ∙ d.machine.number n;
+  };
+  pools = d.pools;
+  unused = d.unused;
 }
 
 -- the worker that was alone took its turn

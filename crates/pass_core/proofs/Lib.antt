@@ -11,6 +11,8 @@ pub mod Desks
 pub mod CutNodes
 pub mod Leaving
 pub mod Solving
+pub mod Moving
+pub mod Apart
 pub mod Progressing
 pub mod Grounding
 pub mod Resting

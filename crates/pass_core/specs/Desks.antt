@@ -3,9 +3,9 @@
 use Rattle.std.specs.Prelude.{◌≡◌, ℕ, ◌+◌, ◌<◌, ◌^◌, Bool, true, Option, Some, None}
 use Rattle.scen_defs.specs.Program.{Program}
 use Rattle.node_data.specs.Frames.{children_in}
-use Rattle.pass_table.specs.Machine.{Flight, Machine, IsFlown, MayBegin, IsNext, HasNoNext, with_at, begun}
+use Rattle.pass_table.specs.Machine.{Flight, Machine, IsFlown, MayBegin, IsNext, HasNoNext, with_at, begun, dropped}
 use Rattle.pass_table.specs.Fits.{Fits}
-use Rattle.crew_turns.specs.Turn.{first_flight, read_each, read_by_each, TakesTurn}
+use Rattle.crew_turns.specs.Turn.{first_flight, read_each, read_by_each, EndsTurn, TakesTurn}
 use Rattle.crew_turns.specs.Reads.{read_all}
 use Rattle.crew_turns.specs.Besides.{FitsBesides}
 use Rattle.pass_core.specs.declared.state.State.{State}
@@ -54,7 +54,18 @@ pub record EndsOn (Way : Machine → Flight → Bool → Machine → Type 0) (p 
   pub way : Way (read_each (begun m 0 turn.node) (first_flight m turn.node) turn.children)
       (read_by_each m.number (first_flight m turn.node) turn.children) turn.added machine
   pub desk : IsDesk p new machine
+  -- the worker's solve in flight ended so
+  pub flight : Flight
+  pub flown : IsFlown flying flight.node worker flight
+  pub ended : EndsTurn worker flying flight turn.added desk.fits.flying
   -- the other solves stay in flight
   pub flights : (w : ℕ) → desk.fits.flying.flight w ≡ with_at flying.flight worker None w
   -- where there was none, and the worker is the one of turns, the table fits the idle machine
   pub alone : worker ≡ 0 → flying ≡ with_solve old m worker n → Fits new.table machine
+
+-- ---- a solve that isn't wanted any more
+-- the worker's solve in flight leaves nothing: no more is changed than the table, which has numbers left for all that are counted
+pub record DropsOn (p : Program) (old : State) (m flying : Machine) (worker : ℕ) (new : State) : Type 0 where
+  pub few : m.commits < 2 ^ 62
+  pub others : new ≡ record old { table = new.table }
+  pub behind : HasFlying p new (dropped m 0) (dropped flying worker)

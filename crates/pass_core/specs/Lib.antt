@@ -10,3 +10,4 @@ pub mod Grounds
 pub mod Turns
 pub mod Made
 pub mod Assembled
+pub mod Apart

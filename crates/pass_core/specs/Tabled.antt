@@ -15,6 +15,7 @@ use Rattle.pass_table.specs.Machine.{opened}
 use Rattle.pass_table.specs.Fits.{Fits, IsStart, HasRead}
 use Rattle.pass_table.specs.Readings.{AreWithin}
 use Rattle.crew_turns.specs.Turn.{IsIdle, first_flight, read_each, read_by_each, EndsTurn, TakesTurn}
+use Rattle.crew_turns.specs.Crew.{CrewRuns}
 use Rattle.pass_core.specs.declared.state.State.{State}
 use Rattle.pass_core.specs.Explained.{cut_given}
 
@@ -74,10 +75,12 @@ pub record StepsTo (p : Program) (m : Machine) (told : Bool) (s : State) : Type 
   pub step : TakesStep m told machine
   pub tabled : IsTabledBy p s machine
 
--- steps, one behind the other
+-- steps, one behind the other; or, from a machine without solves in flight to one without, what several workers do: each begins the node
+-- that is next then, and its solve ends beside those of the others
 pub data TakesSteps (m : Machine) : Machine → Type 0 where
   stays : TakesSteps m m
   goes : (told : Bool) (j k : Machine) → TakesSteps m j → TakesStep j told k → TakesSteps m k
+  works : (j k : Machine) → TakesSteps m j → CrewRuns j k → IsIdle k → TakesSteps m k
 
 -- the machine took some steps, and the table fits it behind them
 pub record GoesBySteps (p : Program) (m : Machine) (s : State) : Type 0 where
@@ -143,14 +146,19 @@ pub record EndsSolve (worker : ℕ) (Way : Machine → Flight → Bool → Machi
   pub number : (n : ℕ) → machine.number n ≡ pool_number new n
   pub run : KeepsRun old new
 
--- the worker took its turn at node n, in which the node's solve ended in this way
-pub record EndsBegun (Way : Machine → Flight → Bool → Machine → Type 0) (p : Program) (m : Machine) (n : ℕ) (s : State) : Type 0 where
+-- the machine took a turn at node n, in which the node's solve ended in this way, and the table answers so for the machine behind it
+pub record EndsBegunIn (Answers : Table → Machine → Type 0) (Way : Machine → Flight → Bool → Machine → Type 0) (p : Program) (m : Machine)
+    (n : ℕ) (s : State) : Type 0 where
   pub machine : Machine
   pub turn : TakesTurn m machine
   pub node : turn.node ≡ n
   pub way : Way (read_each (begun m 0 turn.node) (first_flight m turn.node) turn.children)
       (read_by_each m.number (first_flight m turn.node) turn.children) turn.added machine
-  pub tabled : IsTabledBy p s machine
+  pub tabled : IsTabledIn Answers p s machine
+
+-- the table fits it there
+abbrev pub EndsBegun : (Machine → Flight → Bool → Machine → Type 0) → Program → Machine → ℕ → State → Type 0
+EndsBegun Way p m n s = EndsBegunIn Fits Way p m n s
 
 -- ---- the opening of a run
 -- the next run opens, or doesn't, and then something stops the method

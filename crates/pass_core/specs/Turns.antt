@@ -27,7 +27,10 @@ use Rattle.node_lp.specs.declared.solved.Solved.TheVariants as solved
 use Rattle.node_lp.specs.Problem.{IsProblem, problem_of}
 use Rattle.node_lp.specs.Tested.{IsToldOf}
 use Rattle.node_lp.specs.Answers.{IsAnswer}
+use Rattle.pass_table.specs.declared.table.Table.{Table}
 use Rattle.pass_table.specs.Machine.{Flight, Machine, IsClosed, MayBegin, IsNext, dropped}
+use Rattle.pass_table.specs.Fits.{Fits}
+use Rattle.crew_turns.specs.Besides.{FitsBesides}
 use Rattle.proved_report.specs.declared.open.Open.{Open}
 use Rattle.node_data.specs.declared.versions.Version.{Version}
 use Rattle.node_data.specs.Counts.{version_of}
@@ -41,8 +44,8 @@ use Rattle.pass_core.specs.declared.state.State.{State}
 use Rattle.pass_core.specs.Counting.{with_commit}
 use Rattle.pass_core.specs.Explained.{IsTask}
 use Rattle.pass_core.specs.Reasons.{PassesInJoin, PassesAtCost, Halts, solve_halts, IsOfSolve, IsOfOpening, GainsReasons}
-use Rattle.pass_core.specs.Tabled.{HasRoom, IsTabledBy, committed_by, EndsBegun, Opens}
-use Rattle.pass_core.specs.Desks.{EndsOn}
+use Rattle.pass_core.specs.Tabled.{HasRoom, IsTabledIn, committed_by, EndsBegunIn, Opens}
+use Rattle.pass_core.specs.Desks.{IsDesk, HasFlying, BeginsOn, IsBegunBy, EndsOn}
 use Rattle.pass_core.specs.Left.{StaysInRun, LeavesBy, IsOpenOrStuck, LeavesAnyhow, places_in, next_kind, OpensRun}
 use Rattle.pass_core.specs.Grounds.{OpeningDual, PassesInDual, put_cuts, CanPutCuts, OneIsNotPut}
 use Rattle.pass_core.specs.Made.{cuts_there}
@@ -209,9 +212,17 @@ pub record SolvesProgram (Ends : (Machine → Flight → Bool → Machine → Ty
   pub leaves : (tree : Tree) → tree_walk p ≡ Ok tree → new.stop ≡ None → LeavesBy p tree n task.trial all old new
   pub anyhow : LeavesAnyhow n task.trial all old new
 
--- that was the worker's turn
+-- that was a turn of this machine, and the table answers so for the machine behind it
+abbrev pub SolvesNodeIn : (Table → Machine → Type 0) → Program → State → Machine → ℕ → State → Type 0
+SolvesNodeIn Answers p old m n new = SolvesProgram (λ Way. EndsBegunIn Answers Way p m n new) p old n new
+
+-- a turn of a machine that the table fits
 abbrev pub SolvesNode : Program → State → Machine → ℕ → State → Type 0
-SolvesNode p old m n new = SolvesProgram (λ Way. EndsBegun Way p m n new) p old n new
+SolvesNode p old m n new = SolvesNodeIn Fits p old m n new
+
+-- a turn of the idle machine of a desk
+abbrev pub SolvesAtDesk : Program → State → Machine → ℕ → State → Type 0
+SolvesAtDesk p old m n new = SolvesNodeIn FitsBesides p old m n new
 
 -- a solve in flight ended so at a desk
 abbrev pub SolvesOn : Program → State → Machine → Machine → ℕ → ℕ → State → Type 0
@@ -223,14 +234,18 @@ pub record AreReady (old : State) (lasts : Lasts) : Type 0 where
   pub same : old.is_begun ≡ true → lasts ≡ old.lasts
   pub none : old.is_begun ≡ false → lasts.nodes.items ≡ replicate (places_in old.frame) None
 
--- nothing is done but that there are places for last solves
-pub record StaysReady (p : Program) (old : State) (m : Machine) (new : State) : Type 0 where
+-- nothing is done but that there are places for last solves, and the table answers so for the machine
+pub record StaysReadyIn (Answers : Table → Machine → Type 0) (p : Program) (old : State) (m : Machine) (new : State) : Type 0 where
   pub run : StaysInRun old new
   pub banks : new.banks ≡ old.banks
   pub ends : new.ends ≡ old.ends
   pub stop : new.stop ≡ old.stop
   pub ready : AreReady old new.lasts
-  pub tabled : IsTabledBy p new m
+  pub tabled : IsTabledIn Answers p new m
+
+-- it fits it
+abbrev pub StaysReady : Program → State → Machine → State → Type 0
+StaysReady p old m new = StaysReadyIn Fits p old m new
 
 -- told where the run behind the present one doesn't open
 abbrev pub IsBeforeRun : Program → State → Open → Type 0
@@ -267,6 +282,17 @@ pub data MakesStep (p : Program) (old : State) (m : Machine) (new : State) : Boo
       → OpensAnyhow p old new → MakesStep p old m new true
   solves : (lasts : Lasts) (n : ℕ) → AreReady old lasts → IsNext m n → SolvesNode p (record old { lasts = lasts }) m n new
       → MakesStep p old m new true
+
+-- what several workers do at a desk with this idle machine
+pub data WorksAtDesk (p : Program) (old : State) (m : Machine) (new : State) : Type 0 where
+  -- there are places for last solves
+  gets_ready : AreReady old new.lasts → new ≡ record old { lasts = new.lasts; is_begun = new.is_begun } → IsDesk p new m
+      → WorksAtDesk p old m new
+  -- a worker begins the node that is next, or none is
+  begins_beside : (flying : Machine) (worker : ℕ) (r : Option ℕ) → old.is_begun ≡ true → HasFlying p old m flying
+      → BeginsOn p m flying worker r new → new ≡ record old { table = new.table } → WorksAtDesk p old m new
+  -- a worker's solve in flight ends as a whole turn
+  ends_beside : (worker n : ℕ) (b : IsBegunBy p old m worker n) → SolvesOn p old m b.desk.fits.flying worker n new → WorksAtDesk p old m new
 
 -- no solve was counted, and something stops the method, or the run behind one that isn't a Cost run is open
 pub record OpensOrStops (old new : State) : Type 0 where

@@ -15,7 +15,8 @@ use Rattle.found_ends.specs.declared.last.Lasts.{Lasts}
 use Rattle.pass_core.specs.declared.state.State.{State}
 use Rattle.pass_table.specs.Marks.{nothing}
 use Rattle.pass_core.specs.Left.{places_in}
-use Rattle.pass_core.specs.Tabled.{IsTabledBy}
+use Rattle.crew_turns.proofs.Beside.{fit_besides}
+use Rattle.pass_core.specs.Desks.{IsDesk}
 use Rattle.pass_core.specs.Turns.{AreReady}
 use Rattle.pass_core.proofs.Parentage.{root_lives}
 use Rattle.progress_laws.proofs.Standing.{Known, known_of, EndsHold, HasFirstCuts, StandsBy}
@@ -39,14 +40,14 @@ unsolved_stands p tree w m i none live ends policy grounds = record {
 }
 
 -- before anything is done a table fits no other machine: nothing was committed, in the first run
-pub unused_counts : (p : Program) (s : State) (m : Machine) → IsProgram p → s.frame ≡ frame_of p → IsTabledBy p s m → s.is_begun ≡ false
+pub unused_counts : (p : Program) (s : State) (m : Machine) → IsProgram p → s.frame ≡ frame_of p → IsDesk p s m → s.is_begun ≡ false
     → (m.commits ≡ 0) × (m.run ≡ 1)
 unused_counts p s m i frame table idle =
     let fits : Fits s.table start = table.unused idle start is_start in
     let none : (lists_of s.table).commits ≡ 0 = fits.agrees.commits in
     let one : (lists_of s.table).run ≡ 1 = fits.agrees.run in
-    let commits : (lists_of s.table).commits ≡ m.commits = table.fits.agrees.commits in
-    let runs : (lists_of s.table).run ≡ m.run = table.fits.agrees.run in
+    let commits : (lists_of s.table).commits ≡ m.commits = fit_besides.commits s.table m table.fits in
+    let runs : (lists_of s.table).run ≡ m.run = fit_besides.run s.table m table.fits in
     (omega (arith, none, commits), omega (arith, one, runs))
   where
     start : Machine
@@ -76,7 +77,7 @@ unused_counts p s m i frame table idle =
       flight = λ w. refl;
     }
 
-pub unused_uncommitted : (p : Program) (s : State) (m : Machine) → IsProgram p → s.frame ≡ frame_of p → IsTabledBy p s m
+pub unused_uncommitted : (p : Program) (s : State) (m : Machine) → IsProgram p → s.frame ≡ frame_of p → IsDesk p s m
     → s.is_begun ≡ false → m.commits ≡ 0
 unused_uncommitted p s m i frame table idle = (unused_counts p s m i frame table idle).0
 
@@ -85,14 +86,14 @@ pub record IsReadyState (p : Program) (tree : Tree) (s : State) (lasts : Lasts) 
   pub stands : StandsBy p tree (known_of (record s { lasts = lasts })) m
   pub long : length lasts.nodes.items ≡ length p.nodes
 
-pub unused_unsolved : (p : Program) (s : State) (m : Machine) → IsProgram p → s.frame ≡ frame_of p → IsTabledBy p s m → s.is_begun ≡ false → IsUnsolved m
+pub unused_unsolved : (p : Program) (s : State) (m : Machine) → IsProgram p → s.frame ≡ frame_of p → IsDesk p s m → s.is_begun ≡ false → IsUnsolved m
 unused_unsolved p s m i frame table idle n = omega (arith, table.valid.numbered n, unused_uncommitted p s m i frame table idle)
 
 -- there is a place for each node, where they have numbers
 pub places_of : (p : Program) → length p.nodes < nothing → places_in (frame_of p) ≡ length p.nodes
 places_of p few = omega (arith, few, length-map p.nodes parent_of)
 
-pub ready_stands : (p : Program) (tree : Tree) (s : State) (lasts : Lasts) (m : Machine) → IsProgram p → length p.nodes < nothing → s.frame ≡ frame_of p → IsTabledBy p s m
+pub ready_stands : (p : Program) (tree : Tree) (s : State) (lasts : Lasts) (m : Machine) → IsProgram p → length p.nodes < nothing → s.frame ≡ frame_of p → IsDesk p s m
     → StandsBy p tree (known_of s) m → (s.is_begun ≡ true → length s.lasts.nodes.items ≡ length p.nodes) → AreReady s lasts
     → IsReadyState p tree s lasts m
 ready_stands p tree s lasts m i few frame table stands long ready = go s.is_begun refl

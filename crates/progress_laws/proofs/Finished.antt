@@ -25,6 +25,7 @@ use Rattle.found_ends.specs.Settled.{settled, or_case, where_so, why_open}
 use Rattle.found_ends.proofs.Reasons.{closed_reason}
 use Rattle.pass_core.specs.declared.state.State.{State}
 use Rattle.pass_core.specs.Explained.{IsExplained, PassesInRun}
+use Rattle.pass_core.proofs.Desks.{desk_at}
 use Rattle.nested_method.specs.Stands.{settled_in, closing}
 use Rattle.overflow_laws.specs.Ends.{WalksEndPassing}
 use Rattle.overflow_laws.proofs.Ends.{walks_end_passing}
@@ -128,7 +129,7 @@ module _ (never : NeverStuck) (claims : SettledClaimsHold) (walks : WalksEndPass
       by_case : (case : Option Settled) → s.stop ≡ None → settled_in s ≡ case → s.budget.solves ≤ s.counts.since_report
       by_case None none e =
           absurd (ends_are_settled (content program) s r.tabled.0 r.run r.tabled.1
-          (has_room (content program) s r.run r.numbers e r.tabled.0 r.tabled.1) r.ends e)
+          (has_room (content program) s r.run r.numbers e r.tabled.0 (desk_at (content program) s r.tabled.0 r.tabled.1)) r.ends e)
       by_case (Some Spent) none e = leb-true s.budget.solves s.counts.since_report
           (all_spent s.kind s.table.closed s.ends s.counts.since_report s.budget.solves
           (subst (λ (x : Option Open). settled s.kind s.table.closed s.ends x s.counts.since_report s.budget.solves ≡ Some Spent) none e))

@@ -1,5 +1,5 @@
 -- What pools keep, and how many solves were counted, whatever stops the method.
-use Rattle.std.proofs.Common.{◌≡◌, ℕ, ◌+◌, ◌^◌, ◌<◌, ◌≤◌, ◌⊎◌, inl, inr, Bool, List, [], Ok, IfSome, refl, sym, ap, subst, ◌∙◌, arith}
+use Rattle.std.proofs.Common.{◌≡◌, ℕ, ◌+◌, ◌^◌, ◌<◌, ◌≤◌, ◌⊎◌, inl, inr, List, [], Ok, IfSome, refl, sym, ap, subst, ◌∙◌, arith}
 use Rattle.scen_defs.specs.Program.{Program}
 use Rattle.scen_defs.specs.Valid.{IsProgram, Lives}
 use Rattle.scen_defs.specs.declared.report.Kind.{Kind}
@@ -9,7 +9,7 @@ use Rattle.cut_defs.specs.Data.{IsRight}
 use Rattle.edit_defs.specs.Data.{view_in, book}
 use Rattle.edit_defs.proofs.Books.{node-right}
 use Rattle.edit_defs.proofs.Programs.{edits_keep_programs}
-use Rattle.pass_table.specs.Machine.{Machine, opened}
+use Rattle.pass_table.specs.Machine.{Machine, dropped, opened}
 use Rattle.node_data.specs.Frames.{frame_of}
 use Rattle.node_data.specs.declared.versions.Version.{Version}
 use Rattle.found_ends.specs.declared.last.Lasts.{Lasts}
@@ -19,8 +19,12 @@ use Rattle.pass_core.specs.Counting.{with_commit}
 use Rattle.pass_core.specs.Explained.{cut_given}
 use Rattle.pass_core.specs.Left.{OpensRun, next_kind, offered_banks}
 use Rattle.pass_core.specs.Made.{script_books, AreBooksOf, EndsAreMade, CutsAreMade, KeepsBooks}
-use Rattle.pass_core.specs.Tabled.{IsTabledBy, Opens, not_opened, is_opened}
-use Rattle.pass_core.specs.Turns.{SolvesNode, GetsFirstCuts, OpensAnyhow, stays_closed, is_open, MakesStep, begins_none, opens_run, solves}
+use Rattle.pass_core.specs.Tabled.{Opens, not_opened, is_opened}
+use Rattle.crew_turns.proofs.Beside.{fit_besides}
+use Rattle.pass_core.specs.Desks.{IsDesk}
+use Rattle.pass_core.specs.Turns.{SolvesAtDesk, GetsFirstCuts, OpensAnyhow, stays_closed, is_open}
+use Rattle.pass_core.proofs.Desks.{desk_at}
+use Rattle.pass_core.proofs.Moving.{StepsAtDesk, keeps_books, no_solve, new_run, one_turn}
 use Rattle.kept_cut_laws.specs.Kept.{IsCutNow, BanksAreKept}
 use Rattle.kept_cut_laws.proofs.Offers.{offers_keep_cuts}
 use Rattle.kept_cut_laws.proofs.Solves.{solves_give_cuts}
@@ -29,7 +33,7 @@ use Rattle.progress_laws.specs.Courses.{IsOpening, GoesFrom, behind_report}
 use Rattle.progress_laws.proofs.Standing.{runs_before}
 use Rattle.progress_laws.proofs.Begun.{unused_uncommitted}
 use Rattle.progress_laws.proofs.Turned.{turn_commits}
-use Rattle.progress_laws.proofs.Course.{course, beginning_opens}
+use Rattle.progress_laws.proofs.Course.{IsForgotten, course, beginning_opens}
 
 -- the books of a program without edits are right of it with any versions
 pub right_books : (p : Program) → IsProgram p → (versions : List Version) → AreBooksOf p versions (script_books p [])
@@ -41,8 +45,8 @@ right_books p i versions = record { plain = λ n l. right run_kind.Cost n _ _ l;
         record { rows = h.rows; cost = h.cost; shares = h.shares; bounds = h.bounds; stage = h.stage; parent = h.parent }
 
 -- the node that a solve is of is live
-pub solve_lives : (p : Program) (s new : State) (lasts : Lasts) (m : Machine) (n : ℕ) → IsTabledBy p s m
-    → SolvesNode p (record s { lasts = lasts }) m n new → Lives p n
+pub solve_lives : (p : Program) (s new : State) (lasts : Lasts) (m : Machine) (n : ℕ) → IsDesk p s m
+    → SolvesAtDesk p (record s { lasts = lasts }) m n new → Lives p n
 solve_lives p s new lasts m n table solve =
     subst (Lives p) solve.ends.node (sym (table.machine.live solve.ends.turn.node) ∙ solve.ends.turn.may.live)
 
@@ -54,15 +58,15 @@ pub record IsHeld (p : Program) (most : ℕ) (s : State) : Type 0 where
   pub kept : BanksAreKept p s.versions count s.banks
   pub few : s.counts.all < 2 ^ 63 → count ≤ most + s.counts.all + runs_before s.kind
 
--- no more commits were made than solves are counted
+-- no more commits were made than solves are counted, beside those of solves that weren't wanted any more
 pub record IsCounted (p : Program) (s : State) : Type 0 where
-  pub most : s.counts.all < 2 ^ 63 → (m : Machine) → IsTabledBy p s m → m.commits ≤ s.counts.all
+  pub most : s.counts.all < 2 ^ 63 → (m : Machine) → IsDesk p s m → m.commits ≤ 2 ^ 62 + s.counts.all
 
-same_commits : (p : Program) (s : State) (m k : Machine) → IsTabledBy p s m → IsTabledBy p s k → m.commits ≡ k.commits
-same_commits p s m k tm tk = sym tm.fits.agrees.commits ∙ tk.fits.agrees.commits
+same_commits : (p : Program) (s : State) (m k : Machine) → IsDesk p s m → IsDesk p s k → m.commits ≡ k.commits
+same_commits p s m k tm tk = sym (fit_besides.commits s.table m tm.fits) ∙ fit_besides.commits s.table k tk.fits
 
 -- what a table fits doesn't rest on what stops the method, nor on counts
-pub tabled_before : (p : Program) (s : State) (m : Machine) → IsTabledBy p (behind_report s) m → IsTabledBy p s m
+pub tabled_before : (p : Program) (s : State) (m : Machine) → IsDesk p (behind_report s) m → IsDesk p s m
 tabled_before p s m h = record {
   valid = h.valid;
   fits = h.fits;
@@ -127,8 +131,8 @@ module _ (p : Program) (most : ℕ) (i : IsProgram p) (tree : Tree) (t : tree_wa
         (omega (arith, small, all), omega (arith, all, runs));
   }
 
-  solve_pools : (old new : State) (lasts : Lasts) (m : Machine) (n : ℕ) (h : IsHeld p most old) → IsTabledBy p old m
-      → SolvesNode p (record old { lasts = lasts }) m n new → HoldsPools old new h.count
+  solve_pools : (old new : State) (lasts : Lasts) (m : Machine) (n : ℕ) (h : IsHeld p most old) → IsDesk p old m
+      → SolvesAtDesk p (record old { lasts = lasts }) m n new → HoldsPools old new h.count
   solve_pools old new lasts m n h table solve = go solve.anyhow.banks
     where
       all : new.counts.all ≡ (with_commit old.counts).all
@@ -155,18 +159,25 @@ module _ (p : Program) (most : ℕ) (i : IsProgram p) (tree : Tree) (t : tree_wa
         few = λ small. (omega (arith, small, all), omega (arith, small, all, runs));
       }
 
-  held_step : (old new : State) (m : Machine) (told : Bool) → IsHeld p most old → IsTabledBy p old m → MakesStep p old m new told
-      → KeepsBooks p old new → IsHeld p most new
-  held_step old new m told h table (begins_none rests points reasons ready) keeps =
+  held_step : (old new : State) (m : Machine) → IsHeld p most old → IsDesk p old m → StepsAtDesk p old m new → KeepsBooks p old new → IsHeld p most new
+  held_step old new m h table (no_solve reasons ready) keeps =
       holds_on old new ready.run.frame ready.run.versions keeps h (same_pools old new h ready.banks reasons.counts ready.run.kind)
-  held_step old new m told h table (opens_run closed earlier opens points reasons run puts left) keeps = go left
+  held_step old new m h table (new_run tabled made closed earlier opens reasons run puts left) keeps = go left
     where
       go : OpensAnyhow p old new → IsHeld p most new
       go (stays_closed e) = holds_on old new (ap (λ (s : State). s.frame) e) (ap (λ (s : State). s.versions) e) keeps h
           (same_pools old new h (ap (λ (s : State). s.banks) e) (ap (λ (s : State). s.counts) e) (ap (λ (s : State). s.kind) e))
       go (is_open o gets halts) = holds_on old new o.frame o.versions keeps h (opening_pools old new h earlier reasons.counts o (gets tree t))
-  held_step old new m told h table (solves lasts n ready is_next solve) keeps =
+  held_step old new m h table (one_turn lasts n ready solve) keeps =
       holds_on old new solve.stays.frame solve.stays.versions keeps h (solve_pools old new lasts m n h table solve)
+
+  held_forgotten : (old new : State) (m : Machine) → IsHeld p most old → IsForgotten p old m new → IsHeld p most new
+  held_forgotten old new m h f =
+      let banks : new.banks ≡ old.banks = ap (λ (s : State). s.banks) f.others in
+      let kind : new.kind ≡ old.kind = ap (λ (s : State). s.kind) f.others in
+      holds_on old new (ap (λ (s : State). s.frame) f.others) (ap (λ (s : State). s.versions) f.others)
+      (keeps_books p old new banks (ap (λ (s : State). s.ends) f.others) kind) h
+      (same_pools old new h banks (ap (λ (s : State). s.counts) f.others) kind)
 
   held_told : (s : State) → IsHeld p most s → IsHeld p most (behind_report s)
   held_told s h = record {
@@ -179,8 +190,8 @@ module _ (p : Program) (most : ℕ) (i : IsProgram p) (tree : Tree) (t : tree_wa
 
   pub goes_held : (first s : State) → IsOpening p most first → GoesFrom p first s → IsHeld p most s
   goes_held first s o g = course p first (IsHeld p most) (λ budget k b. held_first k (beginning_opens p most budget k b))
-      (λ mid k m told g h open_yet table step keeps. held_step mid k m told h table step keeps) (λ mid g h unstuck. held_told mid h) s
-      (held_first first o) g
+      (λ mid k m g h open_yet table step keeps all. held_step mid k m h table step keeps) (λ mid k m g h f. held_forgotten mid k m h f)
+      (λ mid g h unstuck. held_told mid h) s (held_first first o) g
 
   -- ---- the commits
   counted_first : (s : State) → IsOpening p most s → IsCounted p s
@@ -188,23 +199,22 @@ module _ (p : Program) (most : ℕ) (i : IsProgram p) (tree : Tree) (t : tree_wa
     most = λ small m table. let z : m.commits ≡ 0 = unused_uncommitted p s m i o.frame table o.is_begun in omega (arith, z);
   }
 
-  step_counted : (old new : State) (m : Machine) (told : Bool) → IsCounted p old → IsTabledBy p old m → MakesStep p old m new told
-      → IsCounted p new
-  step_counted old new m told h table (begins_none rests points reasons ready) = record {
+  step_counted : (old new : State) (m : Machine) → IsCounted p old → IsDesk p old m → StepsAtDesk p old m new → IsCounted p new
+  step_counted old new m h table (no_solve reasons ready) = record {
     most = λ small k fits.
         let all : new.counts.all ≡ old.counts.all = ap (λ (c : Counts). c.all) reasons.counts in
         omega (arith, all, h.most (omega (arith, all, small)) m table, same_commits p new m k ready.tabled fits);
   }
-  step_counted old new m told h table (opens_run closed earlier opens points reasons run puts left) = record {
+  step_counted old new m h table (new_run tabled made closed earlier opens reasons run puts left) = record {
     most = λ small k fits.
         let all : new.counts.all ≡ old.counts.all = ap (λ (c : Counts). c.all) reasons.counts in
         omega (arith, all, h.most (omega (arith, all, small)) m table, go opens k fits);
   }
     where
-      go : Opens p m new → (k : Machine) → IsTabledBy p new k → m.commits ≡ k.commits
-      go (not_opened stops now) k fits = same_commits p new m k now fits
-      go (is_opened number now) k fits = same_commits p new (opened m number) k now fits
-  step_counted old new m told h table (solves lasts n ready is_next solve) = record {
+      go : Opens p m new → (k : Machine) → IsDesk p new k → m.commits ≡ k.commits
+      go (not_opened stops now) k fits = same_commits p new m k (desk_at p new m now) fits
+      go (is_opened number now) k fits = same_commits p new (opened m number) k (desk_at p new (opened m number) now) fits
+  step_counted old new m h table (one_turn lasts n ready solve) = record {
     most = λ small k fits.
         let all : new.counts.all ≡ (with_commit old.counts).all = ap (λ (c : Counts). c.all) solve.reasons.counts in
         omega (
@@ -217,7 +227,12 @@ module _ (p : Program) (most : ℕ) (i : IsProgram p) (tree : Tree) (t : tree_wa
         );
   }
 
+  counted_forgotten : (old new : State) (m : Machine) → IsForgotten p old m new → IsCounted p new
+  counted_forgotten old new m f = record {
+    most = λ small k fits. omega (arith, f.few, same_commits p new (dropped m 0) k f.behind fits);
+  }
+
   pub goes_counted : (first s : State) → IsOpening p most first → GoesFrom p first s → IsCounted p s
   goes_counted first s o g = course p first (IsCounted p) (λ budget k b. counted_first k (beginning_opens p most budget k b))
-      (λ mid k m told g h open_yet table step keeps. step_counted mid k m told h table step)
+      (λ mid k m g h open_yet table step keeps all. step_counted mid k m h table step) (λ mid k m g h f. counted_forgotten mid k m f)
       (λ mid g h unstuck. record { most = λ small m fits. h.most small m (tabled_before p mid m fits) }) s (counted_first first o) g

@@ -1,5 +1,5 @@
 -- Behind solves of a program that nothing stopped, and behind those that came to nothing, its run stands.
-use Rattle.std.proofs.Common.{◌≡◌, ℕ, ◌<◌, ◌⊎◌, inl, inr, Bool, true, false, List, Option, Some, None, Ok, length, slice_index, refl, sym, ap, ap₂, subst, ◌∙◌, arith}
+use Rattle.std.proofs.Common.{◌≡◌, ℕ, ◌<◌, ◌⊎◌, inl, inr, true, false, List, Option, Some, None, Ok, length, slice_index, refl, sym, ap, ap₂, subst, ◌∙◌, arith}
 use Rattle.std.proofs.lemmas.List.{length-replicate}
 use Rattle.scen_defs.specs.Program.{Program}
 use Rattle.scen_defs.specs.Valid.{IsProgram}
@@ -13,7 +13,7 @@ use Rattle.node_lp.specs.declared.solved.Solved.{Solved}
 use Rattle.node_lp.specs.declared.solved.Solved.TheVariants as solved
 use Rattle.crew_turns.specs.Turn.{first_flight, read_by_each, read_each}
 use Rattle.crew_turns.proofs.Turning.{turn_reads}
-use Rattle.pass_table.specs.Machine.{Machine, IsOpen, IsClosed, IsComplete, begun as begun_by, opened}
+use Rattle.pass_table.specs.Machine.{Machine, IsOpen, IsClosed, IsComplete, begun as begun_by, dropped, opened}
 use Rattle.pass_table.specs.Marks.{nothing as no_place}
 use Rattle.proved_report.specs.declared.open.Open.{Open}
 use Rattle.proved_report.specs.declared.open.Open.TheVariants.{Solves}
@@ -30,8 +30,11 @@ use Rattle.pass_core.specs.declared.state.Counts.{Counts}
 use Rattle.pass_core.specs.declared.state.State.{State}
 use Rattle.pass_core.specs.Counting.{after_report}
 use Rattle.pass_core.specs.Left.{KeepsKnown, HaltsBy, OpensRun, next_kind, places_in}
-use Rattle.pass_core.specs.Tabled.{IsTabledBy, Opens, not_opened, is_opened}
-use Rattle.pass_core.specs.Turns.{AreFirstCuts, PutsFirstCuts, EndsWithout, EndsBy, OpensAnyhow, stays_closed, is_open, MakesStep, begins_none, opens_run, solves}
+use Rattle.pass_core.specs.Tabled.{Opens, not_opened, is_opened}
+use Rattle.pass_core.specs.Desks.{IsDesk}
+use Rattle.pass_core.specs.Turns.{AreFirstCuts, PutsFirstCuts, EndsWithout, EndsBy, OpensAnyhow, stays_closed, is_open}
+use Rattle.pass_core.proofs.Desks.{desk_at}
+use Rattle.pass_core.proofs.Moving.{StepsAtDesk, no_solve, new_run, one_turn}
 use Rattle.nested_method.specs.Stands.{settled_in}
 use Rattle.progress_laws.specs.Courses.{IsOpening, GoesFrom, IsRunTo}
 use Rattle.progress_laws.proofs.Standing.{Known, known_of, HasMember, HasFirstCuts, EndsHold, StandsBy}
@@ -39,7 +42,7 @@ use Rattle.progress_laws.proofs.PoolSteps.{AreAt, first_at, puts_there}
 use Rattle.progress_laws.proofs.Same.{stands_too, stands_still}
 use Rattle.progress_laws.proofs.Moved.{known}
 use Rattle.progress_laws.proofs.Begun.{unsolved_stands, unused_unsolved, places_of, IsReadyState, ready_stands}
-use Rattle.progress_laws.proofs.Course.{course, beginning_opens}
+use Rattle.progress_laws.proofs.Course.{IsForgotten, course, beginning_opens}
 use Rattle.progress_laws.proofs.Held.{IsHeld, IsCounted, goes_held, goes_counted}
 use Rattle.progress_laws.proofs.Solved.{StandsBehind, solve_stands}
 
@@ -47,7 +50,7 @@ use Rattle.progress_laws.proofs.Solved.{StandsBehind, solve_stands}
 pub record IsStanding (p : Program) (tree : Tree) (s : State) : Type 0 where
   pub frame : s.frame ≡ frame_of p
   pub long : s.is_begun ≡ true → length s.lasts.nodes.items ≡ length p.nodes
-  pub stands : (m : Machine) → IsTabledBy p s m → StandsBy p tree (known_of s) m
+  pub stands : (m : Machine) → IsDesk p s m → StandsBy p tree (known_of s) m
 
 -- no reason lasts, and the method isn't stuck
 pub record IsClear (s : State) : Type 0 where
@@ -60,6 +63,13 @@ not_stuck s n clear (inr stuck) = absurd (clear.unstuck n stuck)
 
 pub is_clear : (s : State) → (s.stop ≡ None → s.lasting ≡ None) → s.stop ≡ None → IsClear s
 is_clear s h stop = record { lasting = h stop; unstuck = λ n e. let q : None ≡ Some (Solves n) = sym stop ∙ e in absurd (cc) }
+
+-- nor did anything stop it before a solve that isn't wanted any more
+pub forgotten_clear : (p : Program) (old new : State) (m : Machine) → IsForgotten p old m new → IsClear new → IsClear old
+forgotten_clear p old new m f clear = record {
+  lasting = sym (ap (λ (s : State). s.lasting) f.others) ∙ clear.lasting;
+  unstuck = λ n e. clear.unstuck n (ap (λ (s : State). s.stop) f.others ∙ e);
+}
 
 -- a closed run is complete
 pub closed_complete : (m : Machine) → IsClosed m → IsComplete m
@@ -93,7 +103,7 @@ module _ (p : Program) (tree : Tree) (i : IsProgram p) (few : length p.nodes < n
   }
 
   -- places for last solves don't touch the table
-  pub with_places : (s : State) (lasts : Lasts) (m : Machine) → IsTabledBy p s m → IsTabledBy p (record s { lasts = lasts }) m
+  pub with_places : (s : State) (lasts : Lasts) (m : Machine) → IsDesk p s m → IsDesk p (record s { lasts = lasts }) m
   with_places s lasts m h = record {
     valid = h.valid;
     fits = h.fits;
@@ -128,7 +138,7 @@ module _ (p : Program) (tree : Tree) (i : IsProgram p) (few : length p.nodes < n
   same_known a b c d e f a' b' c' d' e' f' q r s t u v = cc
 
   -- the opening of a run, where nothing stops the method
-  module _ (old new : State) (m : Machine) (h : IsStanding p tree old) (table : IsTabledBy p old m) (closed : IsClosed m) (stop : new.stop ≡ None)
+  module _ (old new : State) (m : Machine) (h : IsStanding p tree old) (table : IsDesk p old m) (closed : IsClosed m) (stop : new.stop ≡ None)
       (o : OpensRun old new) (first : PutsFirstCuts p tree old new) where
     at : AreAt 0 first.cuts
     at = first_at (next_kind old.kind) p tree old.versions first.dual first.cuts first.are
@@ -161,15 +171,15 @@ module _ (p : Program) (tree : Tree) (i : IsProgram p) (few : length p.nodes < n
     run_opens (is_opened number fits) = record {
       frame = o.frame ∙ h.frame;
       long = λ e. ap length o.lasts ∙ length-replicate (places_in new.frame) None ∙ ap places_in (o.frame ∙ h.frame) ∙ places_of p few;
-      stands = λ k other. stands_too p tree new (opened m number) k fits other
+      stands = λ k other. stands_too p tree new (opened m number) k (desk_at p new (opened m number) fits) other
           (unsolved_stands p tree (known_of new) (opened m number) i (λ n. refl) fits.machine.live
           (subst (EndsHold p) (sym o.ends) (let e : EndsHold p old.ends = (h.stands m table).ends in record { upper = e.upper; lower = e.lower }))
           (λ ne. go_policy old.kind refl) (λ ne. go_grounds));
     }
 
-  stepped : (old new : State) (m : Machine) (told : Bool) → IsStanding p tree old → IsTabledBy p old m → MakesStep p old m new told
-      → old.stop ≡ None → IsClear new → IsStanding p tree new
-  stepped old new m told h table (begins_none rests points reasons ready) before clear =
+  stepped : (old new : State) (m : Machine) → IsStanding p tree old → IsDesk p old m → StepsAtDesk p old m new → old.stop ≡ None → IsClear new
+      → IsStanding p tree new
+  stepped old new m h table (no_solve reasons ready) before clear =
       let r : IsReadyState p tree old new.lasts m = ready_stands p tree old new.lasts m i few h.frame table (h.stands m table) h.long ready.ready in
       let same : known_of new ≡ known_of (record old { lasts = new.lasts })
       = same_known old.kind old.frame old.versions new.lasts.nodes.items old.banks old.ends new.kind new.frame new.versions new.lasts.nodes.items
@@ -179,14 +189,14 @@ module _ (p : Program) (tree : Tree) (i : IsProgram p) (few : length p.nodes < n
         long = λ e. r.long;
         stands = λ k fits. stands_too p tree new m k ready.tabled fits (subst (λ (w : Known). StandsBy p tree w m) (sym same) r.stands);
       }
-  stepped old new m told h table (opens_run closed earlier opens points reasons run puts left) before clear = by left
+  stepped old new m h table (new_run tabled made closed earlier opens reasons run puts left) before clear = by left
     where
       by : OpensAnyhow p old new → IsStanding p tree new
       by (stays_closed e) = stands_at_rest old new e h
       by (is_open o gets halts) =
           let stop : new.stop ≡ None = not_stuck new old.budget.solves clear (halts before) in
           run_opens old new m h table closed stop (run stop) (puts tree t stop) opens
-  stepped old new m told h table (solves lasts n ready is_next solve) before clear = by solve.all solve.anyhow.halts solve.ends.way
+  stepped old new m h table (one_turn lasts n ready solve) before clear = by solve.all solve.anyhow.halts solve.ends.way
     where
       r : IsReadyState p tree old lasts m
       r = ready_stands p tree old lasts m i few h.frame table (h.stands m table) h.long ready
@@ -234,11 +244,21 @@ module _ (p : Program) (tree : Tree) (i : IsProgram p) (few : length p.nodes < n
       by (solved.Passed in_cut o) halts way = nothing halts way
       by solved.NotGood halts way = nothing halts way
 
+  -- a solve that isn't wanted any more
+  forgotten_stands : (old new : State) (m : Machine) → IsStanding p tree old → IsForgotten p old m new → IsStanding p tree new
+  forgotten_stands old new m h f = record {
+    frame = ap (λ (s : State). s.frame) f.others ∙ h.frame;
+    long = λ e. ap (λ (s : State). length s.lasts.nodes.items) f.others ∙ h.long (sym (ap (λ (s : State). s.is_begun) f.others) ∙ e);
+    stands = λ k fits. stands_too p tree new (dropped m 0) k f.behind fits
+        (subst (λ (w : Known). StandsBy p tree w (dropped m 0)) (sym (ap (λ (s : State). known_of s) f.others))
+        (stands_still p tree (known_of old) m (dropped m 0) refl refl refl (λ n. refl) (h.stands m f.desk)));
+  }
+
   -- ---- all steps
   -- while nothing stops the method no reason lasts
-  step_lasting : (old new : State) (m : Machine) (told : Bool) → MakesStep p old m new told → (old.stop ≡ None → old.lasting ≡ None)
+  step_lasting : (old new : State) (m : Machine) → StepsAtDesk p old m new → (old.stop ≡ None → old.lasting ≡ None)
       → old.stop ≡ None → new.stop ≡ None → new.lasting ≡ None
-  step_lasting old new m told (begins_none rests points reasons ready) h before stop = go new.lasting refl
+  step_lasting old new m (no_solve reasons ready) h before stop = go new.lasting refl
     where
       go : (o : Option Open) → new.lasting ≡ o → new.lasting ≡ None
       go None e = e
@@ -246,24 +266,26 @@ module _ (p : Program) (tree : Tree) (i : IsProgram p) (few : length p.nodes < n
         | inl k ↦ let q : None ≡ Some why = sym (h before) ∙ k in absurd (cc)
         | inr k ↦ absurd k.0
       ]
-  step_lasting old new m told (opens_run closed earlier opens points reasons run puts left) h before stop = by left
+  step_lasting old new m (new_run tabled made closed earlier opens reasons run puts left) h before stop = by left
     where
       by : OpensAnyhow p old new → new.lasting ≡ None
       by (stays_closed e) = ap (λ (s : State). s.lasting) e ∙ h before
       by (is_open o gets halts) = o.lasting
-  step_lasting old new m told (solves lasts n ready is_next solve) h before stop = solve.anyhow.lasting stop ∙ h before
+  step_lasting old new m (one_turn lasts n ready solve) h before stop = solve.anyhow.lasting stop ∙ h before
 
   pub goes_lasting : (most : ℕ) (first s : State) → IsOpening p most first → GoesFrom p first s → s.stop ≡ None → s.lasting ≡ None
   goes_lasting most first s o g = course p first (λ s. s.stop ≡ None → s.lasting ≡ None) (λ budget k b stop. b.lasting)
-      (λ mid k m told g h open_yet table step keeps stop. step_lasting mid k m told step h (unstopped mid open_yet) stop)
+      (λ mid k m g h open_yet table step keeps all stop. step_lasting mid k m step h (unstopped mid open_yet) stop)
+      (λ mid k m g h f stop. ap (λ (s : State). s.lasting) f.others ∙ h (sym (ap (λ (s : State). s.stop) f.others) ∙ stop))
       (λ mid g h unstuck stop. stop) s (λ stop. o.lasting) g
 
   pub goes_stand : (most : ℕ) (first s : State) → IsOpening p most first → GoesFrom p first s → IsClear s → IsStanding p tree s
   goes_stand most first s o g = course p first (λ s. IsClear s → IsStanding p tree s)
       (λ budget k b clear. begun most k (beginning_opens p most budget k b))
-      (λ mid k m told g h open_yet table step keeps clear.
+      (λ mid k m g h open_yet table step keeps all clear.
       let stop : mid.stop ≡ None = unstopped mid open_yet in
-      stepped mid k m told (h (is_clear mid (goes_lasting most first mid o g) stop)) table step stop clear)
+      stepped mid k m (h (is_clear mid (goes_lasting most first mid o g) stop)) table step stop clear)
+      (λ mid k m g h f clear. forgotten_stands mid k m (h (forgotten_clear p mid k m f clear)) f)
       (λ mid g h unstuck clear. at_rest mid mid.lasting (after_report mid.counts) (h (record { lasting = clear.lasting; unstuck = unstuck })))
       s (λ clear. begun most first o) g
 

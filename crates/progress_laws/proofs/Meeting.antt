@@ -33,7 +33,7 @@ use Rattle.found_ends.specs.Lasts.{joined_points}
 use Rattle.found_ends.specs.Settled.{settled, ended, or_case, where_so}
 use Rattle.pass_core.specs.declared.state.State.{State}
 use Rattle.pass_core.specs.Made.{script_books, IsMadeAbout, CutsAreMade}
-use Rattle.pass_core.specs.Tabled.{IsTabledBy}
+use Rattle.pass_core.specs.Desks.{IsDesk}
 use Rattle.pass_core.proofs.Parentage.{root_lives}
 use Rattle.pass_core.proofs.Assembling.{root_is_worth}
 use Rattle.joined_laws.proofs.Places.{tree_in}
@@ -57,7 +57,7 @@ pub some_is : {A : Type 0} (a b : A) → Some a ≡ Some b → a ≡ b
 some_is a b e = cc
 
 module _ (p : Program) (tree : Tree) (i : IsProgram p) (few : length p.nodes < nothing) (t : tree_walk p ≡ Ok tree) (s : State) (m : Machine)
-    (standing : IsStanding p tree s) (made : CutsAreMade (script_books p []) s) (table : IsTabledBy p s m) (closed : IsClosed m) (costly : s.kind ≡ run_kind.Cost) where
+    (standing : IsStanding p tree s) (made : CutsAreMade (script_books p []) s) (table : IsDesk p s m) (closed : IsClosed m) (costly : s.kind ≡ run_kind.Cost) where
   w : Known
   w = known_of s
 

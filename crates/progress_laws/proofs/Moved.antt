@@ -22,7 +22,8 @@ use Rattle.found_ends.specs.declared.ends.Ends.{Ends}
 use Rattle.found_ends.specs.Lasts.{last_at, trial_of}
 use Rattle.progress_laws.proofs.Standing.{Known, HasMember, IsAtLeast, IsAbove as IsRayAbove, ShowsNone, HasLast, HasNone}
 use Rattle.progress_laws.proofs.Turned.{IsTurned, made_before}
-use Rattle.progress_laws.proofs.Places.{trial_same, PoolsGo, member_goes, reads_same}
+use Rattle.pass_core.proofs.Apart.{trial_same, reads_same}
+use Rattle.progress_laws.proofs.Places.{PoolsGo, member_goes}
 
 abbrev pub known : Kind → Frame → List Version → List (Option Last) → Banks → Ends → Known
 known kind frame versions lasts banks ends =

@@ -1,5 +1,5 @@
 -- The method is never stuck.
-use Rattle.std.proofs.Common.{◌≡◌, ℕ, ◌+◌, ◌<◌, ◌≤◌, ◌^◌, ◌⊎◌, ⊎_elim, inl, inr, Bool, None, Some, Ok, length, sym, ap, ◌∙◌, arith}
+use Rattle.std.proofs.Common.{◌≡◌, ℕ, ◌+◌, ◌<◌, ◌≤◌, ◌^◌, ◌⊎◌, ⊎_elim, inl, inr, None, Some, Ok, length, sym, ap, ◌∙◌, arith}
 use Rattle.scen_defs.specs.Program.{Program}
 use Rattle.scen_defs.specs.Valid.{IsProgram}
 use Rattle.scen_tree.specs.Trees.{Tree, tree_walk}
@@ -8,8 +8,8 @@ use Rattle.pass_table.specs.Marks.{nothing}
 use Rattle.proved_report.specs.declared.open.Open.TheVariants.{Solves}
 use Rattle.pass_core.specs.declared.state.Counts.{Counts}
 use Rattle.pass_core.specs.declared.state.State.{State}
-use Rattle.pass_core.specs.Tabled.{IsTabledBy}
-use Rattle.pass_core.specs.Turns.{MakesStep, begins_none, opens_run, solves}
+use Rattle.pass_core.specs.Desks.{IsDesk}
+use Rattle.pass_core.proofs.Moving.{StepsAtDesk, no_solve, new_run, one_turn}
 use Rattle.nested_method.specs.Stands.{settled_in}
 use Rattle.progress_laws.specs.Courses.{IsOpening, GoesFrom, IsRunTo, NumbersSuffice}
 use Rattle.progress_laws.specs.Stuck.{SolvesAreUsed, OpeningsAreMade, NeverStuck}
@@ -27,9 +27,9 @@ first_keeps p most s b = record {
 }
 
 module _ (solves_are_used : SolvesAreUsed) (openings_are_made : OpeningsAreMade) (p : Program) where
-  stepped : (old new : State) (m : Machine) (told : Bool) → (r : IsRunTo p old) → NumbersSuffice p old r → settled_in old ≡ None → IsTabledBy p old m
-      → KeepsOthers old → MakesStep p old m new told → KeepsOthers new
-  stepped old new m told r small open_yet table h (begins_none rests points reasons ready) = record {
+  stepped : (old new : State) (m : Machine) → (r : IsRunTo p old) → NumbersSuffice p old r → settled_in old ≡ None → IsDesk p old m
+      → KeepsOthers old → StepsAtDesk p old m new → KeepsOthers new
+  stepped old new m r small open_yet table h (no_solve reasons ready) = record {
     stop = λ n e. go n (reasons.stop (Solves n) e);
     lasting = λ n e. lasts n (reasons.lasting (Solves n) e);
   }
@@ -42,7 +42,7 @@ module _ (solves_are_used : SolvesAreUsed) (openings_are_made : OpeningsAreMade)
       lasts : (n : ℕ) → (old.lasting ≡ Some (Solves n)) ⊎ (⊥ × ⊥) → ⊥
       lasts n (inl k) = h.lasting n k
       lasts n (inr k) = k.1
-  stepped old new m told r small open_yet table h (opens_run closed earlier opens points reasons run puts left) = record {
+  stepped old new m r small open_yet table h (new_run tabled made closed earlier opens reasons run puts left) = record {
     stop = λ n e. ⊎_elim (λ k. kept n k)
         (λ k. openings_are_made p old m r.tree r small table open_yet closed earlier r.walk (k.1 r.tree r.walk)) (reasons.stop (Solves n) e);
     lasting = λ n e. ⊎_elim (h.lasting n) (λ k. k.1) (reasons.lasting (Solves n) e);
@@ -51,7 +51,7 @@ module _ (solves_are_used : SolvesAreUsed) (openings_are_made : OpeningsAreMade)
       kept : (n : ℕ) → (old.stop ≡ Some (Solves n)) ⊎ (old.lasting ≡ Some (Solves n)) → ⊥
       kept n (inl k) = h.stop n k
       kept n (inr k) = h.lasting n k
-  stepped old new m told r small open_yet table h (solves lasts n ready is_next solve) = record {
+  stepped old new m r small open_yet table h (one_turn lasts n ready solve) = record {
     stop = λ j e. ⊎_elim (λ k. kept j k) (λ k. solves_are_used p old m lasts n new r small table open_yet solve k.1) (solve.reasons.stop (Solves j) e);
     lasting = λ j e. ⊎_elim (h.lasting j) (λ k. k.1) (solve.reasons.lasting (Solves j) e);
   }
@@ -61,10 +61,10 @@ module _ (solves_are_used : SolvesAreUsed) (openings_are_made : OpeningsAreMade)
       kept j (inr k) = h.lasting j k
 
   -- no step counts fewer solves
-  step_fewer : (old new : State) (m : Machine) (told : Bool) → MakesStep p old m new told → new.counts.all < 2 ^ 63 → old.counts.all ≤ new.counts.all
-  step_fewer old new m told (begins_none rests points reasons ready) small = omega (arith, ap (λ (c : Counts). c.all) reasons.counts)
-  step_fewer old new m told (opens_run closed earlier opens points reasons run puts left) small = omega (arith, ap (λ (c : Counts). c.all) reasons.counts)
-  step_fewer old new m told (solves lasts n ready is_next solve) small = omega (arith, small, ap (λ (c : Counts). c.all) solve.reasons.counts)
+  step_fewer : (old new : State) (m : Machine) → StepsAtDesk p old m new → new.counts.all < 2 ^ 63 → old.counts.all ≤ new.counts.all
+  step_fewer old new m (no_solve reasons ready) small = omega (arith, ap (λ (c : Counts). c.all) reasons.counts)
+  step_fewer old new m (new_run tabled made closed earlier opens reasons run puts left) small = omega (arith, ap (λ (c : Counts). c.all) reasons.counts)
+  step_fewer old new m (one_turn lasts n ready solve) small = omega (arith, small, ap (λ (c : Counts). c.all) solve.reasons.counts)
 
   module _ (i : IsProgram p) (few : length p.nodes < nothing) (tree : Tree) (t : tree_walk p ≡ Ok tree) (most : ℕ) (first : State)
       (o : IsOpening p most first) where
@@ -74,10 +74,16 @@ module _ (solves_are_used : SolvesAreUsed) (openings_are_made : OpeningsAreMade)
     goes_unstuck : (s : State) → GoesFrom p first s → most + s.counts.all < 2 ^ 63 → KeepsOthers s
     goes_unstuck s g = course p first (λ s. most + s.counts.all < 2 ^ 63 → KeepsOthers s)
         (λ budget k b small. first_keeps p most k (beginning_opens p most budget k b))
-        (λ mid k m told g h open_yet table step keeps small.
-        let less : mid.counts.all ≤ k.counts.all = step_fewer mid k m told step (omega (arith, small)) in
+        (λ mid k m g h open_yet table step keeps all small.
+        let less : mid.counts.all ≤ k.counts.all = step_fewer mid k m step (omega (arith, small)) in
         let before : most + mid.counts.all < 2 ^ 63 = omega (arith, less, small) in
-        stepped mid k m told (run_to mid g) before open_yet table (h before) step)
+        stepped mid k m (run_to mid g) before open_yet table (h before) step)
+        (λ mid k m g h f small.
+        let all : k.counts.all ≡ mid.counts.all = ap (λ (s : State). s.counts.all) f.others in
+        let before : KeepsOthers mid = h (omega (arith, all, small)) in record {
+          stop = λ n e. before.stop n (sym (ap (λ (s : State). s.stop) f.others) ∙ e);
+          lasting = λ n e. before.lasting n (sym (ap (λ (s : State). s.lasting) f.others) ∙ e);
+        })
         (λ mid g h unstuck small. record { stop = (h small).lasting; lasting = (h small).lasting })
         s (λ small. first_keeps p most first o) g
 

@@ -35,7 +35,8 @@ use Rattle.found_ends.specs.Lasts.{trial_of}
 use Rattle.found_ends.specs.Settled.{settled, ended, or_case, where_so}
 use Rattle.pass_core.specs.declared.state.State.{State}
 use Rattle.pass_core.specs.Made.{run_book, script_books, IsMadeAbout, CutsAreMade}
-use Rattle.pass_core.specs.Tabled.{IsTabledBy}
+use Rattle.pass_core.specs.Desks.{IsDesk}
+use Rattle.pass_core.proofs.Desks.{desk_at}
 use Rattle.pass_core.proofs.Parentage.{children_are}
 use Rattle.pass_core.proofs.Assembling.{root_is_worth}
 use Rattle.joined_laws.proofs.Places.{tree_in}
@@ -104,7 +105,7 @@ none_contradicts kind p i cut made shows x f =
     (record { good = g.0; above = lt_by shows.1 (λ k. le_trans_ℚ g.1 k) }) x f
 
 module _ (p : Program) (tree : Tree) (i : IsProgram p) (few : length p.nodes < nothing) (t : tree_walk p ≡ Ok tree) (s : State) (m : Machine)
-    (standing : IsStanding p tree s) (made : CutsAreMade (script_books p []) s) (table : IsTabledBy p s m) (open_yet : settled_in s ≡ None)
+    (standing : IsStanding p tree s) (made : CutsAreMade (script_books p []) s) (table : IsDesk p s m) (open_yet : settled_in s ≡ None)
     (fails : (n : ℕ) → MayBegin m n → ⊥) where
   stands : StandsBy p tree (known_of s) m
   stands = standing.stands m table
@@ -209,5 +210,5 @@ pub ends_are_settled : EndsAreSettled
 ends_are_settled p s m r table room (inl settled) open_yet = settled open_yet
 ends_are_settled p s m r table room (inr rests) open_yet =
     let rest : IsAtRest s m = rests m table room in
-    let f : IsFollowed s m = runs_go_on p s m r table open_yet rest.idle in
+    let f : IsFollowed s m = runs_go_on p s m r (desk_at p s m table) open_yet rest.idle in
     f.earlier (rest.last f.closed)

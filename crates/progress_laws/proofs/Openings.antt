@@ -53,7 +53,8 @@ use Rattle.pass_core.specs.Assembled.{AssemblesWell}
 use Rattle.pass_core.specs.Grounds.{OpeningDual, put_cut, CanPutInPool, CanPutCuts, IsNotPut, OneIsNotPut}
 use Rattle.pass_core.specs.Left.{next_kind}
 use Rattle.pass_core.specs.Made.{run_book, script_books, IsMadeAbout, CutsAreMade}
-use Rattle.pass_core.specs.Tabled.{IsTabledBy}
+use Rattle.crew_turns.proofs.Beside.{fit_besides}
+use Rattle.pass_core.specs.Desks.{IsDesk}
 use Rattle.pass_core.specs.Turns.{datum_in, IsStuckBefore, not_made, not_put}
 use Rattle.pass_core.proofs.Assembling.{roots_assemble_well}
 use Rattle.pass_core.proofs.Parentage.{root_lives}
@@ -155,7 +156,7 @@ assembled_is (Err o) dual e = absurd (cc)
 module _ (p : Program) (tree : Tree) (i : IsProgram p) (few : length p.nodes < nothing) (t : tree_walk p ≡ Ok tree) (s : State) (m : Machine)
     (standing : IsStanding p tree s) (made : CutsAreMade (script_books p []) s) (most : ℕ) (held : IsHeld p most s)
     (small : most + s.counts.all < 2 ^ 63)
-    (table : IsTabledBy p s m) (open_yet : settled_in s ≡ None) (closed : IsClosed m) (earlier : s.kind ≡ run_kind.Cost → ⊥)
+    (table : IsDesk p s m) (open_yet : settled_in s ≡ None) (closed : IsClosed m) (earlier : s.kind ≡ run_kind.Cost → ⊥)
     (flat : (cut : Stored) (fs : List (List Entry)) → s.ends.root ≡ Some cut → IsMadeAbout (book run_kind.Recession p []) 0 cut
     → flat_from [] one_ℚ cut ≡ Ok fs → flat_of fs ≡ at (numbers_by_node 0 fs)) where
   stands : StandsBy p tree (known_of s) m
@@ -191,7 +192,7 @@ module _ (p : Program) (tree : Tree) (i : IsProgram p) (few : length p.nodes < n
         = subst (λ (k : Kind). settled k s.table.closed s.ends s.stop s.counts.since_report s.budget.solves ≡ None) recedes open_yet in
         let z : or_case (where_so (falls s.ends.direction) Unbounded) (ended s.stop s.counts.since_report s.budget.solves) ≡ None
         = subst (λ (b : Bool). or_case (where_so (b && falls s.ends.direction) Unbounded) (ended s.stop s.counts.since_report s.budget.solves) ≡ None)
-        (table.fits.closed.1 closed) q in
+        ((fit_besides.closed s.table m table.fits).1 closed) q in
         go (falls s.ends.direction) z
       where
         go : (b : Bool) → or_case (where_so b Unbounded) (ended s.stop s.counts.since_report s.budget.solves) ≡ None → b ≡ false

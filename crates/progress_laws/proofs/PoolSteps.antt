@@ -40,7 +40,7 @@ use Rattle.edit_defs.proofs.Lists.{passes-within}
 use Rattle.pass_table.specs.Machine.{Machine}
 use Rattle.node_data.specs.Frames.{Frame, parent_of}
 use Rattle.pass_core.specs.declared.state.State.{State}
-use Rattle.pass_core.specs.Tabled.{IsTabledBy}
+use Rattle.pass_core.specs.Desks.{IsDesk}
 use Rattle.kept_cut_laws.specs.Kept.{IsCutNow, AreKept, BanksAreKept}
 use Rattle.kept_cut_laws.proofs.Stale.{nothing_is_stale}
 use Rattle.progress_laws.proofs.Standing.{HasMember, PoolStands}
@@ -296,7 +296,7 @@ kept_there : (p : Program) (versions : List Version) (most : ℕ) (pools : List 
 kept_there p versions most pools n less kept = let q = pool_there pools n less in
     record { pool = q.0; there = q.1; kept = kept n q.0 q.1 }
 
-pub pool_stands : (p : Program) (s : State) (most : ℕ) → s.frame ≡ frame_of p → (m : Machine) → IsTabledBy p s m → BanksAreKept p s.versions most s.banks
+pub pool_stands : (p : Program) (s : State) (most : ℕ) → s.frame ≡ frame_of p → (m : Machine) → IsDesk p s m → BanksAreKept p s.versions most s.banks
     → (kind : Kind) (n : ℕ) → Lives p n → PoolStands p s.versions most (pools_of kind s.banks) n
 pool_stands p s most frame m table kept kind n l = go kind
   where

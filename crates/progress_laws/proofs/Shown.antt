@@ -34,23 +34,26 @@ use Rattle.found_ends.specs.Lasts.{last_at, with_last, joined_points}
 use Rattle.pass_core.specs.declared.state.State.{State}
 use Rattle.pass_core.specs.Explained.{cut_given}
 use Rattle.pass_core.specs.Left.{KeepsKnown, HaltsBy, ends_behind, ends_without, TakesComplete, LeavesPoint, LeavesNone, LeavesBy, places_in}
-use Rattle.pass_core.specs.Tabled.{IsTabledBy, Opens, not_opened, is_opened}
-use Rattle.pass_core.specs.Turns.{AreReady, SolvesNode, OpensAnyhow, stays_closed, is_open, MakesStep, begins_none, opens_run, solves}
+use Rattle.pass_core.specs.Tabled.{Opens, not_opened, is_opened}
+use Rattle.crew_turns.proofs.Beside.{fit_besides}
+use Rattle.pass_core.specs.Desks.{IsDesk}
+use Rattle.pass_core.specs.Turns.{AreReady, SolvesAtDesk, OpensAnyhow, stays_closed, is_open}
+use Rattle.pass_core.proofs.Desks.{desk_at}
+use Rattle.pass_core.proofs.Moving.{StepsAtDesk, no_solve, new_run, one_turn}
 use Rattle.joined_laws.specs.Points.{AllMeet}
 use Rattle.joined_laws.proofs.Policies.{policies_join}
 use Rattle.joined_laws.proofs.Costs.{joined_points_cost}
-use Rattle.nested_method.specs.Stands.{none, more}
 use Rattle.kept_cut_laws.specs.Kept.{EachRecord, EachUsed, IsUpToDate, IsCutNow}
 use Rattle.kept_cut_laws.proofs.Solves.{solves_give_cuts}
 use Rattle.progress_laws.specs.Courses.{IsOpening, GoesFrom, by_solves, IsRunTo}
 use Rattle.progress_laws.proofs.Standing.{known_of, ShowsNone, EndsHold, StandsBy}
-use Rattle.progress_laws.proofs.Places.{last_other}
+use Rattle.pass_core.proofs.Apart.{last_other, IsKept, kept_is}
 use Rattle.progress_laws.proofs.Ends.{cheaper_holds, greater_holds}
 use Rattle.progress_laws.proofs.Policies.{all_meet}
-use Rattle.progress_laws.proofs.Solved.{IsKept, kept_is, plain_value, no_trial}
+use Rattle.progress_laws.proofs.Solved.{plain_value, no_trial}
 use Rattle.progress_laws.proofs.Course.{course, beginning_opens}
 use Rattle.progress_laws.proofs.Held.{IsHeld, solve_lives, goes_held}
-use Rattle.progress_laws.proofs.Kept.{IsClear, is_clear, not_stuck, IsStanding, unstopped, goes_lasting, goes_stand, run_clear}
+use Rattle.progress_laws.proofs.Kept.{IsClear, is_clear, forgotten_clear, not_stuck, IsStanding, unstopped, goes_lasting, goes_stand, run_clear}
 
 -- ---- the cuts
 -- the multipliers of the records of a cut that is up to date are forms
@@ -159,8 +162,8 @@ showing_first p most s b = record {
 module _ (p : Program) (tree : Tree) (i : IsProgram p) (few : length p.nodes < nothing) (t : tree_walk p ≡ Ok tree) (most : ℕ) where
   -- behind a solve
   module _ (old new : State) (lasts : Lasts) (m : Machine) (n : ℕ) (before : OnlyLive p lasts.nodes.items) (shown : EndsShow p old.ends)
-      (held : IsHeld p most old) (standing : IsStanding p tree new) (table : IsTabledBy p old m)
-      (solve : SolvesNode p (record old { lasts = lasts }) m n new) where
+      (held : IsHeld p most old) (standing : IsStanding p tree new) (table : IsDesk p old m)
+      (solve : SolvesAtDesk p (record old { lasts = lasts }) m n new) where
     live : Lives p n
     live = solve_lives p old new lasts m n table solve
 
@@ -178,7 +181,7 @@ module _ (p : Program) (tree : Tree) (i : IsProgram p) (few : length p.nodes < n
     meets : new.table.complete ≡ true → AllMeet old.kind p new.lasts.nodes.items
     meets e = subst (λ (k : Kind). AllMeet k p new.lasts.nodes.items) solve.stays.kind
         (all_meet p i (known_of new) solve.ends.machine standing.frame solve.ends.tabled.machine.live stands.lasts
-        (solve.ends.tabled.fits.complete.0 e))
+        ((fit_besides.complete new.table solve.ends.machine solve.ends.tabled.fits).0 e))
 
     policy_shows : (b : Bool) → new.table.complete ≡ b → (middle : Ends) → OnlyLive p new.lasts.nodes.items → EndsShow p middle
         → TakesComplete b p tree old.kind new.lasts.nodes.items middle new.ends → EndsShow p new.ends
@@ -232,13 +235,13 @@ module _ (p : Program) (tree : Tree) (i : IsProgram p) (few : length p.nodes < n
     solve_shows (solved.Passed in_cut o) f a halts left stop clear = nothing_left halts
     solve_shows solved.NotGood f a halts left stop clear = nothing_left halts
 
-  step_shows : (old new : State) (m : Machine) (told : Bool) → IsShowing p old → IsHeld p most old → IsStanding p tree new → IsTabledBy p old m
-      → MakesStep p old m new told → old.stop ≡ None → IsClear new → IsShowing p new
-  step_shows old new m told h held standing table (begins_none rests points reasons ready) stop clear = record {
+  step_shows : (old new : State) (m : Machine) → IsShowing p old → IsHeld p most old → IsStanding p tree new → IsDesk p old m
+      → StepsAtDesk p old m new → old.stop ≡ None → IsClear new → IsShowing p new
+  step_shows old new m h held standing table (no_solve reasons ready) stop clear = record {
     lasts = ready_live p old new.lasts ready.ready h.lasts;
     ends = subst (EndsShow p) (sym ready.ends) h.ends;
   }
-  step_shows old new m told h held standing table (opens_run closed earlier opens points reasons run puts left) stop clear = by left
+  step_shows old new m h held standing table (new_run tabled made closed earlier opens reasons run puts left) stop clear = by left
     where
       by : OpensAnyhow p old new → IsShowing p new
       by (stays_closed e) = record {
@@ -250,7 +253,7 @@ module _ (p : Program) (tree : Tree) (i : IsProgram p) (few : length p.nodes < n
         ends = subst (EndsShow p) (sym o.ends)
             (record { upper = h.ends.upper; direction = h.ends.direction; lower = h.ends.lower; nowhere = h.ends.nowhere; root = tt });
       }
-  step_shows old new m told h held standing table (solves lasts n ready is_next solve) stop clear =
+  step_shows old new m h held standing table (one_turn lasts n ready solve) stop clear =
       solve_shows old new lasts m n (ready_live p old lasts ready h.lasts) h.ends held standing table solve solve.all
       (told_forms old new lasts m n (ready_live p old lasts ready h.lasts) h.ends held standing table solve) solve.answer solve.anyhow.halts
       (λ stop. solve.leaves tree t stop) stop clear
@@ -259,10 +262,15 @@ module _ (p : Program) (tree : Tree) (i : IsProgram p) (few : length p.nodes < n
   goes_show : (first s : State) → IsOpening p most first → GoesFrom p first s → IsClear s → IsShowing p s
   goes_show first s o g = course p first (λ s. IsClear s → IsShowing p s)
       (λ budget k b clear. showing_first p most k (beginning_opens p most budget k b))
-      (λ mid k m told g h open_yet table step keeps clear.
+      (λ mid k m g h open_yet table step keeps all clear.
       let stop : mid.stop ≡ None = unstopped mid open_yet in
-      step_shows mid k m told (h (is_clear mid (goes_lasting p tree i few t most first mid o g) stop)) (goes_held p most i tree t first mid o g)
-      (goes_stand p tree i few t most first k o (by_solves mid k g (more mid k m told none open_yet table step keeps)) clear) table step stop clear)
+      step_shows mid k m (h (is_clear mid (goes_lasting p tree i few t most first mid o g) stop)) (goes_held p most i tree t first mid o g)
+      (goes_stand p tree i few t most first k o (by_solves mid k g all) clear) table step stop clear)
+      (λ mid k m g h f clear.
+      let before : IsShowing p mid = h (forgotten_clear p mid k m f clear) in record {
+        lasts = subst (λ (s : State). OnlyLive p s.lasts.nodes.items) (sym f.others) before.lasts;
+        ends = subst (λ (s : State). EndsShow p s.ends) (sym f.others) before.ends;
+      })
       (λ mid g h unstuck clear. let q : IsShowing p mid = h (record { lasting = clear.lasting; unstuck = unstuck }) in
       record { lasts = q.lasts; ends = q.ends })
       s (λ clear. showing_first p most first o) g
@@ -279,24 +287,31 @@ module _ (p : Program) (tree : Tree) (i : IsProgram p) (few : length p.nodes < n
   first_ends : (s : State) → IsOpening p most s → HasEnds s
   first_ends s b = record { hold = subst (EndsHold p) (sym b.ends) (record { upper = tt; lower = tt }); policy = λ ne. absurd (ne b.kind) }
 
-  step_ends : (old new : State) (m : Machine) (told : Bool) → HasEnds old → IsStanding p tree new → MakesStep p old m new told → IsClear new
+  step_ends : (old new : State) (m : Machine) → HasEnds old → IsStanding p tree new → StepsAtDesk p old m new → IsClear new
       → HasEnds new
-  step_ends old new m told before h (begins_none rests points reasons ready) clear = ends_of_stands new m (h.stands m ready.tabled)
-  step_ends old new m told before h (opens_run closed earlier opens points reasons run puts left) clear = go opens
+  step_ends old new m before h (no_solve reasons ready) clear = ends_of_stands new m (h.stands m ready.tabled)
+  step_ends old new m before h (new_run tabled made closed earlier opens reasons run puts left) clear = go opens
     where
       go : Opens p m new → HasEnds new
-      go (not_opened stops fits) = ends_of_stands new m (h.stands m fits)
-      go (is_opened number fits) = ends_of_stands new (opened m number) (h.stands (opened m number) fits)
-  step_ends old new m told before h (solves lasts n ready is_next solve) clear =
+      go (not_opened stops fits) = ends_of_stands new m (h.stands m (desk_at p new m fits))
+      go (is_opened number fits) = ends_of_stands new (opened m number) (h.stands (opened m number) (desk_at p new (opened m number) fits))
+  step_ends old new m before h (one_turn lasts n ready solve) clear =
       ends_of_stands new solve.ends.machine (h.stands solve.ends.machine solve.ends.tabled)
 
   goes_end : (first s : State) → IsOpening p most first → GoesFrom p first s → IsClear s → HasEnds s
   goes_end first s o g = course p first (λ s. IsClear s → HasEnds s)
       (λ budget k b clear. first_ends k (beginning_opens p most budget k b))
-      (λ mid k m told g h open_yet table step keeps clear.
+      (λ mid k m g h open_yet table step keeps all clear.
       let stop : mid.stop ≡ None = unstopped mid open_yet in
-      step_ends mid k m told (h (is_clear mid (goes_lasting p tree i few t most first mid o g) stop))
-      (goes_stand p tree i few t most first k o (by_solves mid k g (more mid k m told none open_yet table step keeps)) clear) step clear)
+      step_ends mid k m (h (is_clear mid (goes_lasting p tree i few t most first mid o g) stop))
+      (goes_stand p tree i few t most first k o (by_solves mid k g all) clear) step clear)
+      (λ mid k m g h f clear.
+      let before : HasEnds mid = h (forgotten_clear p mid k m f clear) in record {
+        hold = subst (λ (s : State). EndsHold p s.ends) (sym f.others) before.hold;
+        policy = λ ne.
+            let u = before.policy (λ e. ne (ap (λ (s : State). s.kind) f.others ∙ e)) in
+            (u.0, ap (λ (s : State). s.ends.upper) f.others ∙ u.1);
+      })
       (λ mid g h unstuck clear. let q : HasEnds mid = h (record { lasting = clear.lasting; unstuck = unstuck }) in
       record { hold = q.hold; policy = q.policy })
       s (λ clear. first_ends first o) g

@@ -1,10 +1,8 @@
 -- A solve behind which nothing stops the method leaves a run that stands.
-use Rattle.std.proofs.Common.{◌≡◌, ℕ, zero, suc, ◌<◌, ◌⊎◌, inl, inr, Bool, true, false, List, [], Option, Some, None, Ok, Err, Result, IfSome, get_or, length, refl, sym, ap, subst, ◌∙◌, arith}
+use Rattle.std.proofs.Common.{◌≡◌, ℕ, zero, suc, ◌<◌, ◌⊎◌, inl, inr, Bool, true, false, List, [], Option, Some, None, Ok, IfSome, get_or, length, refl, sym, ap, subst, ◌∙◌, arith}
 use Rattle.std.proofs.lemmas.Bool.{cases_eq}
-use Rattle.rationals.specs.Rational.{ℚ, zero_ℚ, one_ℚ, ◌+ℚ◌, ◌≤ℚ◌, ◌<ℚ◌, add_zero_ℚ, mul_zero_ℚ}
+use Rattle.rationals.specs.Rational.{ℚ, zero_ℚ, ◌+ℚ◌, ◌≤ℚ◌, ◌<ℚ◌, add_zero_ℚ, mul_zero_ℚ}
 use Rattle.rationals.specs.Sums.{sum-zero}
-use Rattle.rationals.specs.Passes.{Operation, then_value}
-use Rattle.rationals.specs.Forms.{add_scaled_walk}
 use Rattle.rationals.specs.Sparse.{Entry}
 use Rattle.scen_defs.specs.Program.{Program, View, is_live, view_of}
 use Rattle.scen_defs.specs.Flat.{FeasibleAt, Feasible, cost, without_costs}
@@ -28,44 +26,32 @@ use Rattle.node_lp.specs.Problem.{IsProblem, problem_of, is_priced}
 use Rattle.node_lp.specs.Answers.{value_at_trial, HasCut, PointAnswer, RayAnswer, IsAnswer}
 use Rattle.pass_table.specs.Machine.{Machine, begun, IsLive, HasPoint, IsGood, IsComplete}
 use Rattle.crew_turns.specs.Turn.{AreChildren, first_flight, read_by_each, read_each}
+use Rattle.crew_turns.proofs.Beside.{fit_besides}
 use Rattle.node_data.specs.Frames.{Frame, frame_of, parent_in, children_in}
 use Rattle.found_ends.specs.declared.last.Last.{Last}
 use Rattle.found_ends.specs.declared.last.Lasts.{Lasts}
 use Rattle.found_ends.specs.declared.ends.Priced.{Priced}
 use Rattle.found_ends.specs.declared.ends.Bounded.{Bounded}
 use Rattle.found_ends.specs.declared.ends.Ends.{Ends}
-use Rattle.found_ends.specs.Lasts.{last_at, trial_of, with_last, kept, joined_points}
+use Rattle.found_ends.specs.Lasts.{last_at, trial_of, joined_points}
 use Rattle.found_ends.specs.Ends.{after_policy}
 use Rattle.pass_core.specs.declared.state.State.{State}
 use Rattle.pass_core.specs.Left.{OffersCut, ends_behind, ends_without, TakesComplete, LeavesPoint, LeavesNone, LeavesBy}
-use Rattle.pass_core.specs.Tabled.{IsTabledBy, committed_by}
-use Rattle.pass_core.specs.Turns.{IsTaskOf, EndsBy, SolvesNode}
+use Rattle.pass_core.specs.Tabled.{committed_by}
+use Rattle.pass_core.specs.Desks.{IsDesk}
+use Rattle.pass_core.specs.Turns.{IsTaskOf, EndsBy, SolvesAtDesk}
 use Rattle.pass_core.proofs.Parentage.{children_are}
 use Rattle.joined_laws.specs.Points.{AllMeet}
 use Rattle.joined_laws.proofs.Policies.{policies_join}
 use Rattle.joined_laws.proofs.Costs.{joined_points_cost}
 use Rattle.progress_laws.proofs.Standing.{Known, known_of, HasFirstCuts, HasMember, IsAtLeast, IsAbove, ShowsNone, HasLast, HasNone, EndsHold, HasCost, StandsBy}
 use Rattle.progress_laws.proofs.Turned.{IsTurned, turned}
-use Rattle.progress_laws.proofs.Places.{last_set, last_other, last_long, trial_same, PoolsGo, member_goes, reads_same}
+use Rattle.pass_core.proofs.Apart.{last_other, trial_same, IsKept, kept_is, reads_same}
+use Rattle.progress_laws.proofs.Places.{last_set, last_long, PoolsGo, member_goes}
 use Rattle.progress_laws.proofs.Moved.{known, RootGoes, NowhereGoes, root_stays, turns_leave, turns_leave_none}
 use Rattle.progress_laws.proofs.Ends.{cheaper_most, cheaper_holds, greater_most, greater_holds}
 use Rattle.progress_laws.proofs.Offered.{pools_go, bound_held, ray_held}
 use Rattle.progress_laws.proofs.Policies.{all_meet}
-
--- ---- what a kept point leaves
-value_ok : {A B : Type 0} (f : A → B) (w : Result A Operation) (r : B) → then_value f w ≡ Ok r → (x : A) × ((w ≡ Ok x) × (f x ≡ r))
-value_ok f (Ok x) r e = (x, (refl, cc))
-value_ok f (Err o) r e = absurd (cc)
-
-pub record IsKept (la lb : List (Option Last)) (n : ℕ) (trial x : List Entry) : Type 0 where
-  pub along : List Entry
-  pub sum : add_scaled_walk trial one_ℚ x ≡ Ok along
-  pub is : with_last la n (Some (record { point = x; along = along })) ≡ lb
-
-pub kept_is : (la lb : List (Option Last)) (n : ℕ) (trial x : List Entry) → kept la n trial x ≡ Ok lb → IsKept la lb n trial x
-kept_is la lb n trial x e =
-    let a = value_ok (λ (along : List Entry). with_last la n (Some (record { point = x; along = along }))) (add_scaled_walk trial one_ℚ x) lb e in
-    record { along = a.0; sum = a.1.0; is = a.1.1 }
 
 -- ---- the ends behind a root value
 ends_at : (kind : Kind) (n : ℕ) (value : ℚ) (cut : Option Stored) (e : Ends) (p : Program) → EndsHold p e
@@ -172,13 +158,13 @@ with_lasts s lasts = record s { lasts = lasts }
 -- behind the step the run stands, and there are places for the last solves of all nodes
 pub record StandsBehind (p : Program) (tree : Tree) (s : State) : Type 0 where
   pub machine : Machine
-  pub tabled : IsTabledBy p s machine
+  pub tabled : IsDesk p s machine
   pub stands : StandsBy p tree (known_of s) machine
   pub long : length s.lasts.nodes.items ≡ length p.nodes
   pub frame : s.frame ≡ frame_of p
 
 module _ (p : Program) (tree : Tree) (i : IsProgram p) (t : tree_walk p ≡ Ok tree) (old new : State) (m k : Machine) (n : ℕ)
-    (frame : old.frame ≡ frame_of p) (table : IsTabledBy p old m) (behind : IsTabledBy p new k) (long : length old.lasts.nodes.items ≡ length p.nodes)
+    (frame : old.frame ≡ frame_of p) (table : IsDesk p old m) (behind : IsDesk p new k) (long : length old.lasts.nodes.items ≡ length p.nodes)
     (stands : StandsBy p tree (known_of old) m) (live : Lives p n)
     (kind_same : new.kind ≡ old.kind) (frame_same : new.frame ≡ old.frame) (versions_same : new.versions ≡ old.versions) where
   la : List (Option Last)
@@ -366,7 +352,7 @@ module _ (p : Program) (tree : Tree) (i : IsProgram p) (t : tree_walk p ≡ Ok t
     ends_hold : (b : Bool) → new.table.complete ≡ b
         → TakesComplete b p tree old.kind new.lasts.nodes.items (ends_behind old.kind n value cut old.ends) new.ends → EndsHold p new.ends
     ends_hold true e h =
-        let c : IsComplete k = behind.fits.complete.0 e in
+        let c : IsComplete k = (fit_besides.complete new.table k behind.fits).0 e in
         subst (EndsHold p) (sym h.ends) (policy_holds p old.kind (ends_behind old.kind n value cut old.ends)
         (record { cost = h.cost; policy = joined_points new.lasts.nodes.items }) middle_holds (
           policies_join old.kind p new.lasts.nodes.items i (meets c),
@@ -388,7 +374,7 @@ module _ (p : Program) (tree : Tree) (i : IsProgram p) (t : tree_walk p ≡ Ok t
         (ap (λ (e : Ends). e.direction) h.ends ∙ policy_direction old.kind (ends_behind old.kind n value cut old.ends) _ k, refl),
       );
     }
-    has_cost false e c h = let q : false ≡ true = sym e ∙ behind.fits.complete.1 c in absurd (cc)
+    has_cost false e c h = let q : false ≡ true = sym e ∙ (fit_besides.complete new.table k behind.fits).1 c in absurd (cc)
 
     has_policy : (b : Bool) → TakesComplete b p tree old.kind new.lasts.nodes.items (ends_behind old.kind n value cut old.ends) new.ends
         → (u : Priced) × (old.ends.upper ≡ Some u) → (u : Priced) × (new.ends.upper ≡ Some u)
@@ -510,8 +496,8 @@ module _ (p : Program) (tree : Tree) (i : IsProgram p) (t : tree_walk p ≡ Ok t
 
 -- the solve of a node
 pub solve_stands : (p : Program) (tree : Tree) → IsProgram p → tree_walk p ≡ Ok tree → (old new : State) (m : Machine) (n : ℕ)
-    → old.frame ≡ frame_of p → IsTabledBy p old m → length old.lasts.nodes.items ≡ length p.nodes → StandsBy p tree (known_of old) m
-    → SolvesNode p old m n new → new.stop ≡ None → StandsBehind p tree new
+    → old.frame ≡ frame_of p → IsDesk p old m → length old.lasts.nodes.items ≡ length p.nodes → StandsBy p tree (known_of old) m
+    → SolvesAtDesk p old m n new → new.stop ≡ None → StandsBehind p tree new
 solve_stands p tree i t old new m n frame table long stands solves none =
     go solves.all solves.answer (solves.leaves tree t none) solves.ends.way
   where

@@ -24,12 +24,13 @@ use Rattle.pass_core.specs.declared.state.Counts.{Counts}
 use Rattle.pass_core.specs.declared.state.State.{State}
 use Rattle.pass_core.specs.Beginning.{IsBeginning}
 use Rattle.pass_core.specs.Counting.{no_commits, with_commit}
-use Rattle.pass_core.specs.Turns.{OpensAnyhow, stays_closed, is_open, MakesStep, begins_none, opens_run, solves}
+use Rattle.pass_core.specs.Turns.{OpensAnyhow, stays_closed, is_open}
+use Rattle.pass_core.proofs.Moving.{StepsAtDesk, step_moves, work_moves, no_solve, new_run, one_turn}
 use Rattle.pass_core.proofs.MadeAfterEdits.{never_touched}
 use Rattle.nested_method.specs.declared.method.Method.TheVariants.{Working as AtWork, Idle}
 use Rattle.nested_method.specs.declared.method.Working.{Working}
 use Rattle.nested_method.specs.Edited.{dues_of, IsEdited}
-use Rattle.nested_method.specs.Stands.{HasFewNodes, WorksOn, SolvesNodes, none, more, anew}
+use Rattle.nested_method.specs.Stands.{HasFewNodes, WorksOn, SolvesNodes, none, more, beside, forgets, anew}
 use Rattle.nested_method.proofs.StandLemmas.{frame_stays}
 use Rattle.kept_cut_laws.specs.Laws.{CutsAreNow}
 use Rattle.kept_cut_laws.proofs.Pools.{still_kept}
@@ -99,20 +100,24 @@ module _ (budget : Budget) (came : ℕ) where
       go (inl e) = omega (arith, ap (λ (c : Counts). c.all) e, ap (λ (c : Counts). c.since_report) e, h.counted)
       go (inr e) = omega (arith, ap (λ (c : Counts). c.all) e, ap (λ (c : Counts). c.since_report) e, h.counted)
 
-  step_counted : (p : Program) (old new : State) (m : Machine) (told : Bool) → MakesStep p old m new told → IsCountedBy budget came old
+  step_counted : (p : Program) (old new : State) (m : Machine) → StepsAtDesk p old m new → IsCountedBy budget came old
       → IsCountedBy budget came new
-  step_counted p old new m told (begins_none rests points reasons ready) h = counted_on old new ready.run.versions (inl reasons.counts) h
-  step_counted p old new m told (opens_run closed earlier opens points reasons run puts left) h = by left
+  step_counted p old new m (no_solve reasons ready) h = counted_on old new ready.run.versions (inl reasons.counts) h
+  step_counted p old new m (new_run tabled made closed earlier opens reasons run puts left) h = by left
     where
       by : OpensAnyhow p old new → IsCountedBy budget came new
       by (stays_closed e) = counted_on old new (ap (λ (s : State). s.versions) e) (inl reasons.counts) h
       by (is_open o gets halts) = counted_on old new o.versions (inl reasons.counts) h
-  step_counted p old new m told (solves lasts n ready is_next solve) h = counted_on old new solve.stays.versions (inr solve.reasons.counts) h
+  step_counted p old new m (one_turn lasts n ready solve) h = counted_on old new solve.stays.versions (inr solve.reasons.counts) h
 
   solves_counted : (p : Program) (old new : State) → SolvesNodes p old new → IsCountedBy budget came old → IsCountedBy budget came new
   solves_counted p old new none h = h
   solves_counted p old new (more mid k m told before open_yet table step keeps) h =
-      step_counted p mid k m told step (solves_counted p old mid before h)
+      step_counted p mid k m (step_moves p mid m k told table step) (solves_counted p old mid before h)
+  solves_counted p old new (beside mid k m before open_yet desk work keeps) h =
+      step_counted p mid k m (work_moves p mid m k work) (solves_counted p old mid before h)
+  solves_counted p old new (forgets mid k m w n before b drop) h =
+      counted_on mid k (ap (λ (s : State). s.versions) drop.others) (inl (ap (λ (s : State). s.counts) drop.others)) (solves_counted p old mid before h)
   solves_counted p old new (anew mid k before ends over) h =
       let c : IsCountedBy budget came mid = solves_counted p old mid before h in
       record {

@@ -8,21 +8,21 @@ use Rattle.proved_report.specs.declared.open.Open.TheVariants.{Solves}
 use Rattle.found_ends.specs.declared.last.Lasts.{Lasts}
 use Rattle.pass_core.specs.declared.state.State.{State}
 use Rattle.pass_core.specs.Reasons.{IsStuck}
-use Rattle.pass_core.specs.Tabled.{IsTabledBy}
-use Rattle.pass_core.specs.Turns.{SolvesNode, IsStuckBefore}
+use Rattle.pass_core.specs.Desks.{IsDesk}
+use Rattle.pass_core.specs.Turns.{SolvesAtDesk, IsStuckBefore}
 use Rattle.nested_method.specs.Stands.{settled_in}
 use Rattle.progress_laws.specs.Courses.{IsRunTo, NumbersSuffice}
 
 -- while something is left to find, the method is never stuck behind a solve
 abbrev pub SolvesAreUsed : Type 0
 SolvesAreUsed = (p : Program) (s : State) (m : Machine) (lasts : Lasts) (n : ℕ) (new : State) → (run : IsRunTo p s)
-    → NumbersSuffice p s run → IsTabledBy p s m → settled_in s ≡ None
-    → (solve : SolvesNode p (record s { lasts = lasts }) m n new)
+    → NumbersSuffice p s run → IsDesk p s m → settled_in s ≡ None
+    → (solve : SolvesAtDesk p (record s { lasts = lasts }) m n new)
     → IsStuck s.kind s.banks n solve.task.trial solve.all → ⊥
 
 -- nor before the run behind a closed one opens
 abbrev pub OpeningsAreMade : Type 0
-OpeningsAreMade = (p : Program) (s : State) (m : Machine) (tree : Tree) → (run : IsRunTo p s) → NumbersSuffice p s run → IsTabledBy p s m
+OpeningsAreMade = (p : Program) (s : State) (m : Machine) (tree : Tree) → (run : IsRunTo p s) → NumbersSuffice p s run → IsDesk p s m
     → settled_in s ≡ None → IsClosed m → (s.kind ≡ Cost → ⊥) → tree_walk p ≡ Ok tree → IsStuckBefore p tree s → ⊥
 
 -- so no such number of solves is told as the reason why the method stops
