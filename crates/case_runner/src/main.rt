@@ -12,6 +12,8 @@ use smps_io::{RealShelf, Shelf};
 use std::alloc::Global;
 use std::fs;
 use std::process::ExitCode;
+use std::rt::Runtime;
+use std::thread::Threads;
 use told::difference;
 
 /// A file has at most so many bytes.
@@ -44,7 +46,7 @@ fn main(rt: HostRuntime) -> ExitCode {
     }
 }
 
-fn ended(rt: &HostRuntime, counts: Counts) -> ExitCode {
+fn ended(rt: &(impl Runtime + Threads + Sync), counts: Counts) -> ExitCode {
     let holding = counts.holding;
     let failing = counts.failing;
     if failing == 0 {
@@ -56,7 +58,11 @@ fn ended(rt: &HostRuntime, counts: Counts) -> ExitCode {
 }
 
 /// The text of a file.
-fn text_of(rt: &HostRuntime, alloc: Global, name: &str) -> Result<String, Wrong> {
+fn text_of(
+    rt: &(impl Runtime + Threads + Sync),
+    alloc: Global,
+    name: &str,
+) -> Result<String, Wrong> {
     match RealShelf::new(alloc).fetch(rt, alloc, name, LIMIT) {
         Ok(bytes) => match String::from_utf8(bytes) {
             Ok(text) => Ok(text),
@@ -67,7 +73,7 @@ fn text_of(rt: &HostRuntime, alloc: Global, name: &str) -> Result<String, Wrong>
 }
 
 /// The names of the files of cases, in order.
-fn names(rt: &HostRuntime, alloc: Global) -> Result<Vec<String>, Wrong> {
+fn names(rt: &(impl Runtime + Threads + Sync), alloc: Global) -> Result<Vec<String>, Wrong> {
     let mut names = Vec::new(alloc);
     let Ok(entries) = fs::read_dir(rt, ".") else {
         return Err(Wrong::Said("the folder could not be read"));
@@ -85,7 +91,7 @@ fn names(rt: &HostRuntime, alloc: Global) -> Result<Vec<String>, Wrong> {
 }
 
 /// Runs the cases of all files.
-fn all_judged(rt: &HostRuntime, alloc: Global) -> Result<Counts, Wrong> {
+fn all_judged(rt: &(impl Runtime + Threads + Sync), alloc: Global) -> Result<Counts, Wrong> {
     let mut reader = Reader::new(alloc)?;
     for document in DOCUMENTS {
         let text = text_of(rt, alloc, document)?;
@@ -104,7 +110,7 @@ fn all_judged(rt: &HostRuntime, alloc: Global) -> Result<Counts, Wrong> {
 
 /// Takes the lines of a file. Tells a line that isn't one, which counts as a case that doesn't hold.
 fn read(
-    rt: &HostRuntime,
+    rt: &(impl Runtime + Threads + Sync),
     name: &str,
     text: &str,
     reader: &mut Reader,
@@ -127,7 +133,7 @@ fn read(
 
 /// Runs the cases of a file.
 fn judge_file(
-    rt: &HostRuntime,
+    rt: &(impl Runtime + Threads + Sync),
     alloc: Global,
     name: &str,
     reader: &mut Reader,
@@ -143,7 +149,7 @@ fn judge_file(
 
 /// Runs a case, and tells it where it doesn't hold.
 fn judge(
-    rt: &HostRuntime,
+    rt: &(impl Runtime + Threads + Sync),
     alloc: Global,
     name: &str,
     case: &Case,

@@ -9,6 +9,7 @@ use smps_cli::{Ran, run};
 use smps_io::{MemoryShelf, MemorySink, NeverFails, Shelf};
 use std::alloc::Global;
 use std::rt::Runtime;
+use std::thread::Threads;
 use test_programs::{nodes_text, stated_text};
 
 /// What a run came to.
@@ -81,7 +82,7 @@ fn notes_on(alloc: Global, program: &Option<Program>) -> Result<Notes, Memory> {
 
 /// The texts about the program that the files mean, where the case looks at them.
 fn noted<H: Shelf>(
-    rt: &impl Runtime,
+    rt: &(impl Runtime + Threads + Sync),
     alloc: Global,
     case: &Case,
     words: &[String],
@@ -97,7 +98,7 @@ fn noted<H: Shelf>(
 
 /// What is said of a run.
 fn said_of(
-    rt: &impl Runtime,
+    rt: &(impl Runtime + Threads + Sync),
     alloc: Global,
     case: &Case,
     words: &[String],
@@ -115,20 +116,20 @@ fn said_of(
 
 /// Runs the words of a case over a shelf, and says how that ended.
 fn said_over<H: Shelf>(
-    rt: &impl Runtime,
+    rt: &(impl Runtime + Threads + Sync),
     alloc: Global,
     case: &Case,
     words: &[String],
     shelf: &mut H,
     sink: &mut MemorySink,
 ) -> Result<Said, Memory> {
-    let ran = run(rt, alloc, words, shelf, sink, &mut Unwatched);
+    let ran = run(rt, alloc, words, shelf, sink, &mut Unwatched::new(rt));
     said_of(rt, alloc, case, words, &ran)
 }
 
 /// What a run over a shelf comes to.
 fn came_over<H: Shelf>(
-    rt: &impl Runtime,
+    rt: &(impl Runtime + Threads + Sync),
     alloc: Global,
     case: &Case,
     words: &[String],
@@ -149,7 +150,7 @@ fn came_over<H: Shelf>(
 
 /// What a run over the shelf of a case comes to.
 fn came_of(
-    rt: &impl Runtime,
+    rt: &(impl Runtime + Threads + Sync),
     alloc: Global,
     case: &Case,
     words: &[String],
@@ -165,7 +166,11 @@ fn came_of(
 }
 
 /// Runs a case. What standard error says, and the program, are there where the case wants something of them.
-pub fn run_case(rt: &impl Runtime, alloc: Global, case: &Case) -> Result<Came, Memory> {
+pub fn run_case(
+    rt: &(impl Runtime + Threads + Sync),
+    alloc: Global,
+    case: &Case,
+) -> Result<Came, Memory> {
     let words = words_of(alloc, case.words.as_str())?;
     let mut sink = MemorySink::new(alloc, case.chunk.max(1), case.failing_puts.clone()?);
     came_of(rt, alloc, case, &words, &mut sink)

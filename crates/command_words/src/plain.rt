@@ -49,6 +49,14 @@ fn plain_options(alloc: Global, settings: &[Setting<'_>]) -> Result<Vec<String>,
     Ok(options)
 }
 
+/// How many workers this option asks for, where it is about them.
+fn workers_in(option: &String) -> Option<u32> {
+    match option.as_str().strip_prefix("--workers=") {
+        Some(number) => number.parse().ok(),
+        None => None,
+    }
+}
+
 impl PlainWords {
     ghost use Rattle.command_words.specs.Plain.{plain_view};
 
@@ -92,6 +100,11 @@ impl PlainWords {
         self.options
             .iter()
             .any(|option| option.as_str() == "--quiet=yes")
+    }
+
+    /// How many workers are asked for; 1 where the words don't say.
+    pub fn workers(&self) -> u32 {
+        self.options.iter().find_map(workers_in).unwrap_or(1)
     }
 
     /// What the library finds in the words. It takes them, so that it fails only for want of memory.

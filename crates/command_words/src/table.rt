@@ -6,7 +6,7 @@ use crate::command::Verb;
 use crate::flag::Flag;
 
 /// The most workers that the words may ask for.
-pub const MOST_WORKERS: u32 = 1;
+pub const MOST_WORKERS: u32 = 64;
 
 /// The words that an option for a text of a workload may have as its value.
 pub const PAGES: [&'static str; 3] = ["core", "time", "stoch"];
@@ -193,7 +193,7 @@ impl Flag {
                 "workers",
                 1,
                 MOST_WORKERS,
-                "how many workers solve side by side",
+                "how many workers solve side by side; else 1",
             ),
             Flag::Quiet => OptionRow {
                 name: "quiet",

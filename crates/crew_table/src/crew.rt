@@ -1,5 +1,5 @@
 //! What is fresh, closed and complete, and what may be begun, where several workers solve.
-ghost use Rattle.std.specs.Prelude.{◌≡◌, ◌+◌, ◌<◌, ◌^◌, ◌↔◌, ℕ, IsTrue, IsSome, None, Some, IfOk, IfSome, length};
+ghost use Rattle.std.specs.Prelude.{◌≡◌, ◌+◌, ◌<◌, ◌^◌, ◌↔◌, ℕ, true, IsTrue, IsSome, None, Some, IfOk, IfSome, length};
 ghost use Rattle.pass_table.specs.Machine.{Machine, Flight, IsValid, IsLive, IsClosed, IsComplete, IsFlown};
 ghost use Rattle.pass_table.specs.Machine.{dropped, committed, raised, opened};
 ghost use Rattle.pass_table.specs.Fits.{Fits, AnswersBegin, IsHeld, HasRead, IsStart};
@@ -78,6 +78,13 @@ impl Crew {
         ensures { IsTrue result ↔ (self.now.commits + 1 < 2 ^ 64) × (self.now.run + 1 < 2 ^ 64) }
     {
         self.table.commits() < u64::MAX && self.table.run() < u64::MAX
+    }
+
+    /// Whether fewer than 2^62 commits were counted, as far away as that number is.
+    pub fn has_few(&self) -> bool
+        ensures { result ≡ true → self.now.commits < 2 ^ 62 }
+    {
+        self.table.commits() < 1 << 62
     }
 
     /// Begins the node that is next, and answers it. None too where the worker has a solve in flight, or no place.

@@ -33,6 +33,7 @@ use smps_session::{StatedLimits, session};
 use std::alloc::Global;
 use std::process::Abort;
 use std::test::Fail;
+use std::thread::Threads;
 
 /// Core files with a `#` between them. In front of each stands what is found: OPTIMAL with its cost,
 /// INFEASIBLE with the value of the ray, UNBOUNDED with the cost of the policy and that of the direction.
@@ -503,23 +504,44 @@ fn is_again_so(
 }
 
 /// The report of a program.
-fn first_report(alloc: Global, program: &Program) -> Result<Report, Fail> {
-    let answered = session(alloc, program, BUDGET, BUDGET, STATED, &mut Unwatched)?;
+fn first_report(
+    rt: &(impl Threads + Sync),
+    alloc: Global,
+    program: &Program,
+) -> Result<Report, Fail> {
+    let answered = session(
+        alloc,
+        program,
+        BUDGET,
+        BUDGET,
+        STATED,
+        &mut Unwatched::new(rt),
+    )?;
     Ok(answered.report)
 }
 
 /// Whether a program's report is so, and the flat calls show it; and the same of the report of its lists alone.
-fn is_solved_so(alloc: Global, program: &Program, expected: &str) -> Result<bool, Fail> {
-    let first = first_report(alloc, program)?;
+fn is_solved_so(
+    rt: &(impl Threads + Sync),
+    alloc: Global,
+    program: &Program,
+    expected: &str,
+) -> Result<bool, Fail> {
+    let first = first_report(rt, alloc, program)?;
     let is_first = is_shown(alloc, program, &first, expected)?;
     let is_again = is_again_so(alloc, program, first, expected)?;
     Ok(is_first && is_again)
 }
 
 /// Whether the program of a core file is solved so.
-fn agrees(alloc: Global, text: &str, expected: &str) -> Result<bool, Fail> {
+fn agrees(
+    rt: &(impl Threads + Sync),
+    alloc: Global,
+    text: &str,
+    expected: &str,
+) -> Result<bool, Fail> {
     let program = program(alloc, text)?;
-    is_solved_so(alloc, &program, expected)
+    is_solved_so(rt, alloc, &program, expected)
 }
 
 /// A core file that isn't solved so ends the test, by what is expected and by its text.
@@ -528,9 +550,9 @@ fn expect_core(rt: &impl Abort, is_so: bool, expected: &str, text: &str) {
 }
 
 /// A row of `CORES` holds.
-fn is_core_row(rt: &impl Abort, alloc: Global, row: &str) -> Result<(), Fail> {
+fn is_core_row(rt: &(impl Abort + Threads + Sync), alloc: Global, row: &str) -> Result<(), Fail> {
     let (expected, text) = row.split_once('\n').ok_or("no core file")?;
-    expect_core(rt, agrees(alloc, text, expected)?, expected, text);
+    expect_core(rt, agrees(rt, alloc, text, expected)?, expected, text);
     Ok(())
 }
 

@@ -17,6 +17,7 @@ use Rattle.pass_core.specs.Tabled.{HasRoom, IsTabled, IsTabledBy}
 use Rattle.pass_core.specs.Turns.{IsAtRest, MakesStep, begins_none, opens_run, solves, OpensOrStops, Progresses, Rests}
 use Rattle.pass_core.proofs.Resting.{rests_too, room_too}
 use Rattle.nested_method.specs.Stands.{settled_in, IsAtEnd}
+use Rattle.nested_method.specs.Batches.{runs_behind, steps_with, steps_left}
 use Rattle.nested_method.proofs.StandLemmas.{goes_on, not_stopped}
 
 -- ---- the end
@@ -71,20 +72,6 @@ rests_within work first old new rests h =
     subst (λ (c : Counts). c.since_item ≤ max work first.counts.since_item) (sym rests.counts) h
 
 -- ---- the steps before it
--- how many runs open at most behind one of this kind
-abbrev pub runs_behind : Kind → ℕ
-runs_behind Feasible = 2
-runs_behind Recession = 1
-runs_behind Cost = 0
-
--- how many steps are taken at most where nothing stops the method: one, and for each solve that is left one and the openings of two runs
-abbrev pub steps_with : Option Open → ℕ → Kind → ℕ
-steps_with (Some why) left kind = 0
-steps_with None left kind = 1 + 3 * left + runs_behind kind
-
-abbrev pub steps_left : State → ℕ
-steps_left s = steps_with s.stop (s.budget.solves - s.counts.since_report) s.kind
-
 two_at_most : (kind : Kind) → runs_behind kind ≤ 2
 two_at_most Feasible = omega arith
 two_at_most Recession = omega arith

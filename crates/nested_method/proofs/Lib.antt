@@ -5,3 +5,5 @@ pub mod Ending
 pub mod Counting
 pub mod Histories
 pub mod Numbers
+pub mod Batches
+pub mod Running

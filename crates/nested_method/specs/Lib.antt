@@ -2,3 +2,4 @@ pub mod Edited
 pub mod Stands
 pub mod Laws
 pub mod Scripted
+pub mod Batches

@@ -1,6 +1,7 @@
 //! The nested method on a program: its steps, what it finds, and how it goes on behind an edit.
 #![tactic(auto)]
 
+mod crew;
 mod edits;
 mod found;
 mod laws;

@@ -27,8 +27,8 @@ const MANY: usize = 1 << 32;
 /// More solves than are ever committed.
 const ENDLESS: u64 = u64::MAX;
 
-/// How many workers there are.
-const WORKERS: u32 = 1;
+/// More solves than this aren't in flight side by side.
+const PLACES: u32 = 1024;
 
 /// The method on a program with its tree.
 #[derive(Drop)]
@@ -57,7 +57,7 @@ pub(crate) fn treeless(fault: ArithmeticFault) -> Result<Open, Memory>
 
 impl Working {
     /// How many solves are allowed between two reports.
-    fn allowed(&self) -> u64
+    pub(crate) fn allowed(&self) -> u64
         ensures { result ≡ self.now.state.budget.solves }
     {
         self.state.budget().solves
@@ -95,9 +95,12 @@ impl Working {
             → WorksOn p budget self.old → OnOk result (IsAtEnd p self.new.state) }
     {
         'steps: loop {
+            self.show(watch);
+            if self.work_beside(alloc, program, work, watch)? {
+                continue;
+            }
             // the steps end, since this number has 64 bits
             let _allowed = self.allowed();
-            self.show(watch);
             if self.state.is_ripe(work) || !self.state.advance(alloc, program, &self.tree)? {
                 break;
             }
@@ -171,7 +174,7 @@ impl Method {
             Ok(tree) => tree,
             Err(fault) => return Ok(Method::Idle(treeless(fault)?, budget)),
         };
-        match State::start(alloc, program, budget, WORKERS)? {
+        match State::start(alloc, program, budget, PLACES)? {
             Some(state) => Ok(Method::Working(Working { state, tree })),
             None => Ok(Method::Idle(Open::Solves(budget.solves), budget)),
         }

@@ -14,4 +14,5 @@ mod solved;
 mod split;
 
 pub use hints::{Hints, LentHint};
+pub use sizes::effort;
 pub use solved::solved_node;

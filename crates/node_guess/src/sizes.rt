@@ -102,20 +102,23 @@ pub(crate) fn is_small(task: &Task) -> bool {
     own.saturating_add(cuts_size(task).rows) <= SMALL
 }
 
-/// The work that a guess may take, in entries that are looked at. The path looks at each entry in each pivot, has some pivots
-/// for each row, and an exact operation takes some fifty times as long as one of floats: so a guess that gives up at the end
-/// of its work has cost a part of what the path costs.
-pub(crate) fn work(task: &Task) -> u64 {
+/// About how many entries are looked at where the program is solved once: each row and each column looks at all.
+pub fn effort(task: &Task) -> u64 {
     let datum = &task.datum;
     let cuts = cuts_size(task);
     let columns = (datum.bounds().len() as u64).saturating_add(datum.shares().len() as u64);
     let rows = (datum.rows().len() as u64).saturating_add(cuts.rows);
     let lines = rows.saturating_add(columns);
     let entries = row_entries(datum.rows()).saturating_add(cuts.entries);
-    let all = lines.saturating_add(entries);
-    lines
+    lines.saturating_mul(lines.saturating_add(entries))
+}
+
+/// The work that a guess may take, in entries that are looked at. The path looks at each entry in each pivot, has some pivots
+/// for each row, and an exact operation takes some fifty times as long as one of floats: so a guess that gives up at the end
+/// of its work has cost a part of what the path costs.
+pub(crate) fn work(task: &Task) -> u64 {
+    effort(task)
         .saturating_mul(SHARE)
-        .saturating_mul(all)
         .max(LEAST_WORK)
         .min(MOST_WORK)
 }

@@ -90,7 +90,7 @@ numbers_same old new (c ∷ cs) h = ap₂ ◌++◌
     (numbers_same old new cs (λ d i. h d (suc i.0, omega (arith, i.1), i.2)))
 
 -- a solve leaves the last solves of the other nodes
-lasts_stay : (p : Program) (tree : Tree) (n : ℕ) (trial : List Entry) (all : Solved) (old new : State) → LeavesBy p tree n trial all old new
+pub lasts_stay : (p : Program) (tree : Tree) (n : ℕ) (trial : List Entry) (all : Solved) (old new : State) → LeavesBy p tree n trial all old new
     → (j : ℕ) → (j ≡ n → ⊥) → last_at new.lasts.nodes.items j ≡ last_at old.lasts.nodes.items j
 lasts_stay p tree n trial (solved.Point x value cut) old new l j ne =
     let keeps = kept_is old.lasts.nodes.items new.lasts.nodes.items n trial x l.lasts in
@@ -120,7 +120,7 @@ offer_apart kind (suc n) (Some cut) trial old new about h j ne =
     ∙ ap (λ (ps : List Held). slice_get ps j) (pools_there kind _ old)
     ∙ other_pool (may_take cut) _ (source_of cut).node (pools_of kind old) j (λ e. ne (e ∙ about))
 
-pools_apart : (p : Program) (tree : Tree) (n : ℕ) (trial : List Entry) (all : Solved) (old new : State) → IsAbout n all
+pub pools_apart : (p : Program) (tree : Tree) (n : ℕ) (trial : List Entry) (all : Solved) (old new : State) → IsAbout n all
     → LeavesBy p tree n trial all old new → (j : ℕ) → (j ≡ n → ⊥)
     → slice_get (pools_of old.kind new.banks) j ≡ slice_get (pools_of old.kind old.banks) j
 pools_apart p tree n trial (solved.Point x value cut) old new about l j ne = offer_apart old.kind n cut trial old.banks new.banks about l.banks j ne

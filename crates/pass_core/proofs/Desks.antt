@@ -178,6 +178,7 @@ anyhow Way p old m flying w n new e = record {
   ended = e.ended;
   flights = e.flights;
   alone = e.alone;
+  begun = e.begun;
 }
 
 -- before the solve was counted
@@ -194,6 +195,7 @@ ends_before Way p s counts m flying w n new e = record {
   ended = e.ended;
   flights = e.flights;
   alone = e.alone;
+  begun = e.begun;
 }
 
 module _ (p : Program) (s : State) (m : Machine) (w n : ℕ) (i : IsProgram p) (frame : s.frame ≡ frame_of p) (b : IsBegunBy p s m w n) where
@@ -320,6 +322,7 @@ module _ (p : Program) (s : State) (m : Machine) (w n : ℕ) (i : IsProgram p) (
             pools = pools_kept s new e.run b.desk.pools;
             unused = λ z. let no : false ≡ true = sym z ∙ e.run.is_begun ∙ b.is_begun in absurd (cc);
           };
+          begun = e.run.is_begun ∙ b.is_begun;
           flight = b.flight;
           flown = mine;
           ended = subst (EndsTurn w flying b.flight e.added) (sym h.turns.flying) e.ends;

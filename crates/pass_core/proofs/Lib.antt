@@ -11,8 +11,9 @@ pub mod Desks
 pub mod CutNodes
 pub mod Leaving
 pub mod Solving
-pub mod Moving
 pub mod Apart
+pub mod Staying
+pub mod Moving
 pub mod Progressing
 pub mod Grounding
 pub mod Resting

@@ -54,6 +54,8 @@ pub record EndsOn (Way : Machine → Flight → Bool → Machine → Type 0) (p 
   pub way : Way (read_each (begun m 0 turn.node) (first_flight m turn.node) turn.children)
       (read_by_each m.number (first_flight m turn.node) turn.children) turn.added machine
   pub desk : IsDesk p new machine
+  -- something was done since the start or the last edit
+  pub begun : new.is_begun ≡ true
   -- the worker's solve in flight ended so
   pub flight : Flight
   pub flown : IsFlown flying flight.node worker flight

@@ -85,12 +85,17 @@ pub record IsTaskOf (p : Program) (s : State) (n : ℕ) (t : Task) : Type 0 wher
   pub cuts : map cuts_of t.children.items ≡ cuts_read (pools_of s.kind s.banks) (children_in s.frame n)
   pub pivots : t.pivots ≡ s.budget.pivots
 
--- a solve is begun in this state: with the program of its node by the program and its tree, and the numbers of the pools of its children
-pub record IsSetOut (p : Program) (tree : Tree) (s : State) (b : Begun) : Type 0 where
+-- a solve that was begun can end in this state: its program is one of its node by the program and its tree, and the numbers that it read
+-- are those of the pools of the node's children
+pub record CanEnd (p : Program) (tree : Tree) (s : State) (b : Begun) : Type 0 where
   pub node : b.task.datum.node ≡ b.node
   pub task : IsTask p s.frame tree s.budget.pivots b.task
-  pub stated : tree_walk p ≡ Ok tree → s.frame ≡ frame_of p → IsTaskOf p s b.node b.task
   pub readings : b.readings.items ≡ numbers_read (pools_of s.kind s.banks) (children_in s.frame b.node)
+
+-- a solve is begun in this state: it can end so, and its program is the node's in the present run
+pub record IsSetOut (p : Program) (tree : Tree) (s : State) (b : Begun) : Type 0 where
+  pub can : CanEnd p tree s b
+  pub stated : tree_walk p ≡ Ok tree → s.frame ≡ frame_of p → IsTaskOf p s b.node b.task
 
 -- ---- first cuts
 -- what the numbers of the dual at node n, over its total, make with the cuts of its children: in a run of this kind its first cut

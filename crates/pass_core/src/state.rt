@@ -17,7 +17,7 @@ ghost use Rattle.pass_core.specs.Explained.{IsDatumOf, KeepsExplained};
 ghost use Rattle.pass_core.specs.Made.{BankBooks, AreBooksOf, CutsAreMade};
 ghost use Rattle.pass_core.specs.Tabled.{IsTabled, IsTabledBy, StepsTo};
 ghost use Rattle.pass_core.specs.Desks.{IsDesk, BeginsOn, IsBegunBy, EndsOn};
-ghost use Rattle.pass_core.specs.Turns.{PointsStand, KeepsPoints, IsTaskOf, IsSetOut, EndsAnyhow, SolvesOn, AreReady, MakesStep};
+ghost use Rattle.pass_core.specs.Turns.{PointsStand, KeepsPoints, IsTaskOf, CanEnd, IsSetOut, EndsAnyhow, SolvesOn, AreReady, MakesStep};
 ghost use Rattle.pass_core.specs.Turns.{Progresses, Rests};
 
 use crate::budget::Budget;
@@ -230,7 +230,7 @@ impl State {
     }
 
     /// Where nothing was done yet, there are places for the last solves of all nodes.
-    fn get_ready(&mut self, alloc: Global) -> Result<(), Memory>
+    pub fn get_ready(&mut self, alloc: Global) -> Result<(), Memory>
         ensures explained { (p : ProgramOf) (tree : TreeOf) → OnOk result (KeepsExplained p tree self.old self.new) }
         ensures points { (p : ProgramOf) → OnOk result (KeepsPoints p self.old self.new) }
         ensures ready { OnOk result (AreReady self.old self.new.lasts) }
@@ -312,13 +312,13 @@ impl State {
     ) -> Result<(), Memory>
         requires told { IsToldOf begun.old.task solved }
         requires answer { IsAnswer begun.old.task solved }
-        ensures explained { let p = content program.now in IsSetOut p tree.now self.old begun.old
+        ensures explained { let p = content program.now in CanEnd p tree.now self.old begun.old
             → OnOk result (KeepsExplained p tree.now self.old self.new) }
-        // at a desk at which the program and the numbers with which it was begun are still those of its node, it ends as a whole turn
+        // at a desk at which the numbers that it read are still those of the pools, it ends as a whole turn
         ensures tabled { let p = content program.now in (m : Machine) → self.old.frame ≡ frame_of p
-            → IsSetOut p tree.now self.old begun.old → (b : IsBegunBy p self.old m worker begun.old.node)
+            → CanEnd p tree.now self.old begun.old → (b : IsBegunBy p self.old m worker begun.old.node)
             → OnOk result (EndsOn EndsAnyhow p self.old m b.desk.fits.flying worker begun.old.node self.new) }
-        // in which the program of the node is solved
+        // in which the program of the node is solved, where it was begun with that
         ensures solves { let p = content program.now in (m : Machine) → tree_walk p ≡ Ok tree.now → self.old.frame ≡ frame_of p
             → IsSetOut p tree.now self.old begun.old → (b : IsBegunBy p self.old m worker begun.old.node)
             → PointsStand p self.old.lasts.nodes.items

@@ -1,5 +1,6 @@
 //! What standard error says of how far the ends of an open report lie apart.
 use decimals::put_apart;
+use exit_status::is_open;
 use frac128::Frac;
 use scen_defs::Finding;
 use smps_cli::Told;
@@ -7,13 +8,6 @@ use std::alloc::{AllocError, Global};
 
 /// The distances of so many reports are told.
 const NAMED: u64 = 3;
-
-fn is_open(finding: Finding) -> bool {
-    match finding {
-        Finding::Optimal | Finding::Infeasible | Finding::Unbounded => false,
-        Finding::OpenSolves(_) | Finding::OpenPivots(_) | Finding::OpenPassed(_, _) => true,
-    }
-}
 
 /// Appends how far the ends of a report lie apart, where it is open and has both; whether it did.
 pub fn put_distance(

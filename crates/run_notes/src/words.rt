@@ -127,7 +127,13 @@ fn with_budget<'a>(alloc: Global, command: Command<'a>) -> Result<Command<'a>, A
     let pivots = "at most so many pivots for a solve";
     let command = command.arg(number(alloc, "solves", 1, 1_000_000_000, solves))?;
     let command = command.arg(number(alloc, "pivots", 1, 1_000_000_000, pivots))?;
-    let command = command.arg(number(alloc, "workers", 1, 1, "how many workers there are"))?;
+    let command = command.arg(number(
+        alloc,
+        "workers",
+        1,
+        64,
+        "how many workers solve side by side",
+    ))?;
     command.arg(quiet(alloc))
 }
 

@@ -1,7 +1,8 @@
-//! Who watches a run. Nothing that a run finds or writes depends on who does.
+//! Who watches a run, and lends it workers. Nothing that a run finds rests on who watches.
 
 use frac128::Frac;
 use scen_defs::Kind;
+use std::thread::Threads;
 
 /// What is seen of the nested method before it solves a node.
 #[derive(Clone, Copy, Debug)]
@@ -16,8 +17,11 @@ pub struct Seen {
     pub upper: Option<Frac>,
 }
 
-/// Watches a run.
+/// Watches a run, and lends it the threads in which several workers solve nodes side by side.
 pub trait Watch {
+    /// What starts threads.
+    type Host: Threads + Sync;
+
     /// Nothing is to be said of the run.
     fn be_quiet(&mut self);
 
@@ -32,13 +36,34 @@ pub trait Watch {
 
     /// The run has ended.
     fn see_end(&mut self);
+
+    /// So many workers are to solve nodes side by side.
+    fn employ(&mut self, workers: u32);
+
+    /// How many workers solve nodes side by side: 1 before any were employed.
+    fn workers(&self) -> u32;
+
+    /// What starts their threads.
+    fn host(&self) -> &Self::Host;
 }
 
 /// Nobody watches.
 #[derive(Clone, Copy, Debug)]
-pub struct Unwatched;
+pub struct Unwatched<'a, R> {
+    host: &'a R,
+    workers: u32,
+}
 
-impl Watch for Unwatched {
+impl<'a, R> Unwatched<'a, R> {
+    /// One worker, whom nobody watches.
+    pub fn new(host: &'a R) -> Unwatched<'a, R> {
+        Unwatched { host, workers: 1 }
+    }
+}
+
+impl<'a, R: Threads + Sync> Watch for Unwatched<'a, R> {
+    type Host = R;
+
     fn be_quiet(&mut self) {}
 
     fn is_due(&mut self) -> bool {
@@ -50,4 +75,16 @@ impl Watch for Unwatched {
     fn see_whole(&mut self) {}
 
     fn see_end(&mut self) {}
+
+    fn employ(&mut self, workers: u32) {
+        self.workers = workers;
+    }
+
+    fn workers(&self) -> u32 {
+        self.workers
+    }
+
+    fn host(&self) -> &R {
+        self.host
+    }
 }

@@ -174,11 +174,12 @@ fn making<W: Watch>(alloc: Global, plan: Plan, watch: &mut W) -> Result<Ran, Mem
     }
 }
 
-/// Lets a watcher be quiet where the words ask for that.
+/// Lets a watcher be quiet where the words ask for that, and lend as many workers as they ask for.
 fn heed<W: Watch>(plain: &PlainWords, watch: &mut W) {
     if plain.is_quiet() {
         watch.be_quiet();
     }
+    watch.employ(plain.workers());
 }
 
 /// What the words and the files come to. Reads no file where the words aren't a command's, or the command takes none.

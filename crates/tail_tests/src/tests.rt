@@ -6,6 +6,7 @@ use smps_session::{StatedLimits, session};
 use std::alloc::Global;
 use std::process::Abort;
 use std::test::Fail;
+use std::thread::Threads;
 use tail_risk::{TailFault, tail_program};
 use test_programs::{COVER, FARMER, Source, read_source};
 
@@ -124,14 +125,21 @@ fn expect_report(report: &Report, wanted: &Wanted) -> Result<(), Fail> {
     }
 }
 
-fn expect(rt: &impl Abort, alloc: Global, wanted: &Wanted) -> Result<(), Fail> {
+fn expect(rt: &(impl Abort + Threads + Sync), alloc: Global, wanted: &Wanted) -> Result<(), Fail> {
     let program = program_of(alloc, wanted.source)?;
     let tail = made(rt, alloc, &program, wanted.level, wanted.weight)??;
     let stated = StatedLimits {
         solves: false,
         pivots: false,
     };
-    let answered = session(alloc, &tail, 100_000, 100_000, stated, &mut Unwatched)?;
+    let answered = session(
+        alloc,
+        &tail,
+        100_000,
+        100_000,
+        stated,
+        &mut Unwatched::new(rt),
+    )?;
     expect_report(&answered.report, wanted)
 }
 

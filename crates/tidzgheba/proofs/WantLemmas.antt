@@ -15,7 +15,7 @@ use Rattle.exit_status.specs.Lines.{status_number}
 use Rattle.smps_cli.specs.Completes.{EndsTask}
 use Rattle.smps_cli.specs.Runs.{IsRun, ShelfState, SinkState}
 use Rattle.smps_cli.specs.Sources.{LastSaysLong}
-use Rattle.tidzgheba.specs.Ending.{EndsOn}
+use Rattle.tidzgheba.specs.Ending.{EndsFor}
 
 says_nothing : (asked : Option Asked) (given : ℕ) → LastSaysLong asked Memory given
 says_nothing None given = tt
@@ -50,7 +50,7 @@ module _ (content : Option Files) (shelf : ShelfState) (sink : SinkState) where
   }
 
   pub wants_memory : (arguments : Result (IntoIter (String Global) Global) Error) (words : IntoIter (String Global) Global) (number : ℕ)
-      → arguments ≡ Ok words → number ≡ status_number Memory → EndsOn arguments content shelf shelf sink sink number
+      → arguments ≡ Ok words → number ≡ status_number Memory → EndsFor arguments content shelf shelf sink sink number
   wants_memory arguments words number e is =
-      subst (λ (given : Result (IntoIter (String Global) Global) Error). EndsOn given content shelf shelf sink sink number) (sym e)
+      subst (λ (given : Result (IntoIter (String Global) Global) Error). EndsFor given content shelf shelf sink sink number) (sym e)
       (Memory, is, nothing_ran (map string_bytes (drop 1 (into_iter_items words))))

@@ -24,10 +24,10 @@ EndsUnread shelf shelf_after sink sink_after number = (number ≡ status_number 
 -- What the program makes of the words that the system gave, the program's own name first: a run of those behind the name, all and in their
 -- order. Where it gave none since memory was wanting, the program ends with that number, and where it gave none since one isn't UTF-8, with
 -- that of a run of no words.
-abbrev pub EndsOn : Result (IntoIter (String Global) Global) Error → Option Files → ShelfState → ShelfState → SinkState → SinkState → ℕ
+abbrev pub EndsFor : Result (IntoIter (String Global) Global) Error → Option Files → ShelfState → ShelfState → SinkState → SinkState → ℕ
     → Type 0
-EndsOn (Ok words) content shelf shelf_after sink sink_after number =
+EndsFor (Ok words) content shelf shelf_after sink sink_after number =
     EndsWith (map string_bytes (drop 1 (into_iter_items words))) content shelf shelf_after sink sink_after number
-EndsOn (Err error) content shelf shelf_after sink sink_after number =
+EndsFor (Err error) content shelf shelf_after sink sink_after number =
     (error_kind error ≡ OutOfMemory → EndsUnread shelf shelf_after sink sink_after number)
     × (error_kind error ≢ OutOfMemory → EndsWith [] content shelf shelf_after sink sink_after number)

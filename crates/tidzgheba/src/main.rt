@@ -5,7 +5,7 @@ ghost use Rattle.std.specs.Prelude.{◌≡◌, map, drop, string_bytes, IfOk};
 ghost use Rattle.std.specs.Vec.Iter.{into_iter_items};
 ghost use Rattle.exit_status.specs.Lines.{status_number};
 ghost use Rattle.smps_cli.specs.Runs.{shelf_state, sink_state};
-ghost use Rattle.tidzgheba.specs.Ending.{EndsOn, EndsWith};
+ghost use Rattle.tidzgheba.specs.Ending.{EndsFor, EndsWith};
 
 use run_notes::{MEMORY, NOT_TEXT, UNEXPLAINED, explanation};
 use run_watch::Watch;
@@ -42,7 +42,7 @@ fn ended<R: Files + Print + Eprint, H: Shelf, K: Sink, W: Watch>(
     sink: &mut K,
     watch: &mut W,
 ) -> u8
-    ensures { EndsOn arguments (H.content shelf.old)
+    ensures { EndsFor arguments (H.content shelf.old)
         (shelf_state (H.fetches shelf.old) (H.faults shelf.old) (H.given shelf.old))
         (shelf_state (H.fetches shelf.new) (H.faults shelf.new) (H.given shelf.new))
         (sink_state (K.written sink.old) (K.faults sink.old) (K.taken sink.old))

@@ -7,6 +7,7 @@ use smps_session::{StatedLimits, session};
 use std::alloc::Global;
 use std::process::Abort;
 use std::test::Fail;
+use std::thread::Threads;
 use test_programs::{COVER, FARMER, Source, read_source};
 use value_programs::{fixed_program, mean_program, scenario_program};
 
@@ -51,17 +52,29 @@ fn optimum(report: &Report) -> Option<Frac> {
 }
 
 /// The least cost of a program.
-fn least_cost(alloc: Global, program: &Program) -> Result<Frac, Fail> {
+fn least_cost(rt: &(impl Threads + Sync), alloc: Global, program: &Program) -> Result<Frac, Fail> {
     let stated = StatedLimits {
         solves: false,
         pivots: false,
     };
-    let answered = session(alloc, program, 100_000, 100_000, stated, &mut Unwatched)?;
+    let answered = session(
+        alloc,
+        program,
+        100_000,
+        100_000,
+        stated,
+        &mut Unwatched::new(rt),
+    )?;
     Ok(optimum(&answered.report).ok_or("no optimum")?)
 }
 
-fn expect_cost(alloc: Global, program: &Program, wanted: &str) -> Result<(), Fail> {
-    let cost = least_cost(alloc, program)?;
+fn expect_cost(
+    rt: &(impl Threads + Sync),
+    alloc: Global,
+    program: &Program,
+    wanted: &str,
+) -> Result<(), Fail> {
+    let cost = least_cost(rt, alloc, program)?;
     if cost == parse(wanted.as_bytes())? {
         Ok(())
     } else {
@@ -76,7 +89,7 @@ fn put(rt: &impl Abort, values: &mut Values, column: u32, value: Frac) -> Result
     values.push(0, column, value)
 }
 
-fn expect(rt: &impl Abort, alloc: Global, wanted: &Wanted) -> Result<(), Fail> {
+fn expect(rt: &(impl Abort + Threads + Sync), alloc: Global, wanted: &Wanted) -> Result<(), Fail> {
     let read = read_source(alloc, wanted.source)?;
     let program = read.ok_or("it isn't read")?;
     for (place, cost) in wanted.scenarios.iter().enumerate() {
@@ -84,20 +97,20 @@ fn expect(rt: &impl Abort, alloc: Global, wanted: &Wanted) -> Result<(), Fail> {
             return Err(Fail::from("too few scenarios"));
         }
         let only = scenario_program(alloc, &program, place)?;
-        expect_cost(alloc, &only, cost)?;
+        expect_cost(rt, alloc, &only, cost)?;
     }
     if program.nodes.len() > 1_000 {
         return Err(Fail::from("too many nodes"));
     }
     let tree = Tree::of(alloc, &program)?;
     let means = mean_program(alloc, &program, &tree)?;
-    expect_cost(alloc, &means, wanted.means)?;
+    expect_cost(rt, alloc, &means, wanted.means)?;
     let mut first = Values::empty(alloc);
     for (column, value) in wanted.first {
         put(rt, &mut first, *column, parse(value.as_bytes())?)?;
     }
     let held = fixed_program(alloc, &program, &first)?;
-    expect_cost(alloc, &held, wanted.fixed)
+    expect_cost(rt, alloc, &held, wanted.fixed)
 }
 
 #[test]

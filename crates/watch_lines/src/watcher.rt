@@ -1,9 +1,10 @@
-//! Who watches a run for standard error.
+//! Who watches a run for standard error, and lends it the threads of the process.
 
 use crate::lines::{ended_line, seen_line, whole_line};
 use frac128::Memory;
 use run_watch::{Seen, Watch};
 use std::alloc::Global;
+use std::thread::Threads;
 use std::time::{Clock, Instant};
 
 /// So many seconds lie between two lines, and go before the first.
@@ -22,6 +23,7 @@ pub struct Watcher<'a, R: Clock + Eprint> {
     /// The next line comes after so many seconds.
     due: u64,
     has_spoken: bool,
+    workers: u32,
 }
 
 impl<'a, R: Clock + Eprint> Watcher<'a, R> {
@@ -35,6 +37,7 @@ impl<'a, R: Clock + Eprint> Watcher<'a, R> {
             seconds: 0,
             due: SECONDS,
             has_spoken: false,
+            workers: 1,
         }
     }
 
@@ -57,7 +60,9 @@ impl<'a, R: Clock + Eprint> Watcher<'a, R> {
     }
 }
 
-impl<'a, R: Clock + Eprint> Watch for Watcher<'a, R> {
+impl<'a, R: Clock + Eprint + Threads + Sync> Watch for Watcher<'a, R> {
+    type Host = R;
+
     fn be_quiet(&mut self) {
         self.began = None;
     }
@@ -82,5 +87,17 @@ impl<'a, R: Clock + Eprint> Watch for Watcher<'a, R> {
             self.look();
             self.say(ended_line(self.alloc, self.seconds));
         }
+    }
+
+    fn employ(&mut self, workers: u32) {
+        self.workers = workers;
+    }
+
+    fn workers(&self) -> u32 {
+        self.workers
+    }
+
+    fn host(&self) -> &R {
+        self.rt
     }
 }

@@ -47,7 +47,8 @@ solve --solves 3 --core F --workers=1|solve F - - - - 3 (100000)
 solve --core F --time T --solves=1000000000 --pivots 2|solve F T - - - 1000000000 2
 solve --core F --solves 0|
 solve --core F --solves 1000000001|
-solve --core F --workers 2|
+solve --core F --workers 65|
+solve --core F --workers 64|solve F - - - - (100000) (100000)
 solve --core F --workers 0|
 show --core F --solves 3|
 show --core F --workers 1|
@@ -93,7 +94,7 @@ value --time T|
 value --core F --stoch S|
 value --core F --time T --edits E|
 value --core F --time T --report R|
-value --core F --time T --workers 2|
+value --core F --time T --workers 65|
 value --core F --time T --solves 0|
 value --core F --time T --whole|
 check --core F --report R|check F - - - R
@@ -168,13 +169,6 @@ check --core F --report R --stages 2|
 solve --core F --branches 2|";
 
 /// What a command asks for, as the table says it.
-fn told(alloc: Global, command: Command<'_>) -> Result<String, AllocError> {
-    match command {
-        Command::OnFiles { sources, task } => told_on_files(alloc, sources, task),
-        Command::Make(plan) => told_plan(alloc, plan),
-    }
-}
-
 fn told_on_files(alloc: Global, sources: Sources<'_>, task: Task) -> Result<String, AllocError> {
     let files = files(alloc, sources)?;
     match task {
@@ -283,7 +277,8 @@ fn words_of(alloc: Global, line: &str) -> Result<Vec<String>, AllocError> {
 fn asked(alloc: Global, words: &[String]) -> Result<String, AllocError> {
     match PlainWords::read(alloc, words)? {
         Some(plain) => match plain.command(alloc) {
-            Ok(command) => told(alloc, command),
+            Ok(Command::OnFiles { sources, task }) => told_on_files(alloc, sources, task),
+            Ok(Command::Make(plan)) => told_plan(alloc, plan),
             Err(error) => Err(error),
         },
         None => Ok(String::new(alloc)),

@@ -1,4 +1,4 @@
-use Rattle.std.proofs.Common.{List, sym, subst}
+use Rattle.std.proofs.Common.{rules, List, sym, subst}
 use Rattle.scen_defs.specs.Program.{content}
 use Rattle.edit_defs.specs.declared.edit.Item.{Item}
 use Rattle.edit_script.specs.Allowed.{AreAllowed}
@@ -7,7 +7,7 @@ use Rattle.smps_cli.specs.Solved.{stated_of}
 use Rattle.smps_cli.proofs.risk.solved_made.Goals as goal
 
 pub scripted-requires : goal.scripted-requires
-scripted-requires g c = subst (λ (items : List Item). AreAllowed (content c.args.made) items) (sym c.in_ok-script.ensures) tt
+scripted-requires g c = (search rules, subst (λ (items : List Item). AreAllowed (content c.args.made) items) (sym c.in_ok-script.ensures) tt)
 
 pub returns : goal.returns
 returns g c = record {

@@ -1,4 +1,4 @@
-use Rattle.std.proofs.Common.{Result, sym, subst}
+use Rattle.std.proofs.Common.{rules, Result, sym, subst}
 use Rattle.std.proofs.lemmas.Result.{IfOk-weaker}
 use Rattle.scen_defs.specs.Program.{Program, content}
 use Rattle.input_files.specs.Unfetched.{texts_view}
@@ -20,8 +20,11 @@ pub tail_program-requires-clause-rows : goal.tail_program-requires-clause-rows
 tail_program-requires-clause-rows g c = room_of_rows (texts_view c.args.texts.now) (content c.args.program.now) c.requires.means
 
 pub solved_made-requires : goal.solved_made-requires
-solved_made-requires g c = risk_program c.args.measure (texts_view c.args.texts.now) (content c.args.program.now) (content c.in-Ok.made)
-    c.requires.range c.requires.means c.args.program.now.keeps c.in-Ok.ensures.program
+solved_made-requires g c = (
+  search rules,
+  risk_program c.args.measure (texts_view c.args.texts.now) (content c.args.program.now) (content c.in-Ok.made)
+      c.requires.range c.requires.means c.args.program.now.keeps c.in-Ok.ensures.program,
+)
 
 pub returns-in-Ok : goal.returns-in-Ok
 returns-in-Ok g c = IfOk-weaker c.solved_made.result _ (λ answer. IsRiskSolve c.args.measure c.args.budget (texts_view c.args.texts.now) answer.status (found_text answer.found))

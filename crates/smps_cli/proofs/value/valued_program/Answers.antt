@@ -1,3 +1,4 @@
+use Rattle.std.proofs.Common.{rules}
 use Rattle.scen_defs.specs.Program.{content}
 use Rattle.input_files.specs.Unfetched.{texts_view}
 use Rattle.range_laws.proofs.Widths.{meant_have_widths}
@@ -6,7 +7,7 @@ use Rattle.smps_cli.proofs.OnTrees.{on_tree}
 use Rattle.smps_cli.proofs.value.valued_program.Goals as goal
 
 pub measure-requires : goal.measure-requires
-measure-requires g c = few_nodes (texts_view c.args.texts.now) (content c.args.program.now) c.requires
+measure-requires g c = (search rules, few_nodes (texts_view c.args.texts.now) (content c.args.program.now) c.requires)
 
 pub returns : goal.returns
 returns g c = record {

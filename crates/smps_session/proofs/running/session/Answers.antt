@@ -6,7 +6,7 @@ use Rattle.smps_session.proofs.WayLemmas.{begins_way}
 use Rattle.smps_session.proofs.running.session.Goals as goal
 
 pub own_or_whole-requires-clause-truth : goal.own_or_whole-requires-clause-truth
-own_or_whole-requires-clause-truth g c = c.in_ok-own.ensures.truth c.in_ok-method.ensures.stands
+own_or_whole-requires-clause-truth g c κs within = c.in_ok-own.ensures.truth c.in_ok-method.ensures.stands
 
 pub returns-clause-number : goal.returns-clause-number
 returns-clause-number g c =

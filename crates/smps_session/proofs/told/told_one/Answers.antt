@@ -3,7 +3,7 @@ use Rattle.smps_session.proofs.ToldLemmas.{tells, on_ok}
 use Rattle.smps_session.proofs.told.told_one.Goals as goal
 
 pub own_or_whole-requires-clause-truth : goal.own_or_whole-requires-clause-truth
-own_or_whole-requires-clause-truth g c = c.in_ok-own.ensures.truth c.requires.stands
+own_or_whole-requires-clause-truth g c κs within = c.in_ok-own.ensures.truth c.requires.stands
 
 pub returns-clause-told : goal.returns-clause-told
 returns-clause-told g c = λ start came way.

@@ -34,7 +34,7 @@ returns-in-Some-clause-stands c =
     let beginning : IsBeginning p c.args.budget c.in-Some.state =
     subst (λ (o : Option State). IfSome o (IsBeginning p c.args.budget)) c.in-Some.is c.in_ok-state.ensures.beginning in
     let counts : c.in-Some.state.counts ≡ no_commits =
-    (subst (λ (o : Option State). IfSome o (λ s. (s.counts ≡ no_commits) × (length s.table.flights.items ≡ 1))) c.in-Some.is
+    (subst (λ (o : Option State). IfSome o (λ s. (s.counts ≡ no_commits) × (length s.table.flights.items ≡ 1024))) c.in-Some.is
     c.in_ok-state.ensures.counts).0 in
     begins_on p c.args.budget (record { state = c.in-Some.state; tree = c.in-Ok.tree }) beginning c.in-Ok.ensures
     (λ i few. subst (λ (o : Option State). IfSome o (IsTabled p)) c.in-Some.is c.in_ok-state.ensures.tabled)
@@ -51,6 +51,6 @@ returns-in-Some-clause-begins c = λ few.
     let p = content c.args.program.now in (
       c.in-Ok.ensures,
       subst (λ (o : Option State). IfSome o (IsBeginning p c.args.budget)) c.in-Some.is c.in_ok-state.ensures.beginning,
-      (subst (λ (o : Option State). IfSome o (λ s. (s.counts ≡ no_commits) × (length s.table.flights.items ≡ 1))) c.in-Some.is
+      (subst (λ (o : Option State). IfSome o (λ s. (s.counts ≡ no_commits) × (length s.table.flights.items ≡ 1024))) c.in-Some.is
           c.in_ok-state.ensures.counts).0,
     )

@@ -8,7 +8,7 @@ use Rattle.pass_table.specs.Marks.{nothing}
 use Rattle.pass_core.specs.declared.budget.Budget.{Budget}
 use Rattle.pass_core.specs.Tabled.{IsTabledBy, GoesBySteps}
 use Rattle.nested_method.specs.Stands.{WorksOn, SolvesOnce}
-use Rattle.nested_method.proofs.Ending.{steps_left}
+use Rattle.nested_method.specs.Batches.{steps_left}
 use Rattle.nested_method.proofs.method.Working.run.Given as goal
 
 abbrev pub invariant-steps : goal.invariant-steps

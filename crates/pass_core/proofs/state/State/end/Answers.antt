@@ -63,15 +63,15 @@ returns-clause-solves c = λ m walk frame out begun stand.
     let task : IsTaskOf p old n t = out.stated walk frame in
     let trial : AreUpTo p (node_at p.nodes n).stage t.trial =
     task_trial p old n t i (solved_lives p old m w n i frame begun) frame stand task in
-    let about = answer_about t n all out.node c.requires.answer in
+    let about = answer_about t n all out.can.node c.requires.answer in
     solved_by p c.args.tree.now old c.raise.new.self m w n i walk frame b t all c.commit.new.self c.commit.result c.raise.ensures task
-    out.task.fits stand c.requires.told c.requires.answer
+    out.can.task.fits stand c.requires.told c.requires.answer
     (c.commit.ensures.tabled flying begun.flight
-    (solving p s m w n i frame b c.args.begun.now.readings.items out.readings) (flying_number p s m w n i frame b) begun.flown.node about)
+    (solving p s m w n i frame b c.args.begun.now.readings.items out.can.readings) (flying_number p s m w n i frame b) begun.flown.node about)
     (c.commit.ensures.points p trial (found_stands p s.kind n (version_of s.versions n) t all task.datum c.requires.answer))
     c.commit.ensures.reasons c.commit.ensures.stays
     (c.commit.ensures.left flying begun.flight
-    (solving p s m w n i frame b c.args.begun.now.readings.items out.readings) (flying_number p s m w n i frame b) begun.flown.node about)
+    (solving p s m w n i frame b c.args.begun.now.readings.items out.can.readings) (flying_number p s m w n i frame b) begun.flown.node about)
     c.commit.ensures.anyhow
 
 pub returns-clause-progress : goal.returns-clause-progress
@@ -94,7 +94,7 @@ returns-clause-made c = λ b walk frame out right h.
     let s = c.args.self.now in
     let n = c.args.begun.now.node in
     let t : Task = c.args.begun.now.task in
-    let lives : Lives p n = subst (Lives p) out.node out.task.datum.lives in
+    let lives : Lives p n = subst (Lives p) out.can.node out.can.task.datum.lives in
     let task : IsTaskOf p s n t = out.stated walk frame in
     on_ok c.commit.result (KeepsMade b s c.commit.new.self) (CutsAreMade b c.commit.new.self) (λ k. k.1 h)
     (c.commit.ensures.made b

@@ -24,18 +24,20 @@ returns-clause-task c =
     let datum : IsDatumOf b.task.kind p s.frame tree b.task.datum =
     subst (λ (o : Option Begun). IfSome o (λ (x : Begun). IsDatumOf x.task.kind p s.frame tree x.task.datum)) c.in-Some.is c.in_ok-begun.ensures.datum in
     record {
-      node = node.1 ∙ sym node.0;
-      task = record {
-        datum = datum;
-        fits = c.if-not-fits.ensures.exact.0 refl;
-        allowed = subst (λ (o : Option Begun). IfSome o (λ (x : Begun). x.task.pivots ≡ s.budget.pivots)) c.in-Some.is c.in_ok-begun.ensures.pivots;
+      can = record {
+        node = node.1 ∙ sym node.0;
+        task = record {
+          datum = datum;
+          fits = c.if-not-fits.ensures.exact.0 refl;
+          allowed = subst (λ (o : Option Begun). IfSome o (λ (x : Begun). x.task.pivots ≡ s.budget.pivots)) c.in-Some.is c.in_ok-begun.ensures.pivots;
+        };
+        readings = subst (λ (o : Option Begun). IfSome o (λ (x : Begun).
+            x.readings.items ≡ numbers_read (pools_of s.kind s.banks) (children_in s.frame n))) c.in-Some.is c.in_ok-begun.ensures.readings
+            ∙ ap (λ k. numbers_read (pools_of s.kind s.banks) (children_in s.frame k)) (sym node.0);
       };
       stated = λ walk frame. subst (λ k. IsTaskOf p s k b.task) (sym node.0)
           (subst (λ (o : Option Begun). IsSomeAnd o (λ (x : Begun). IsTaskOf p s n x.task)) c.in-Some.is
           (c.in_ok-begun.ensures.stated walk frame (subst (Lives p) node.1 datum.lives)));
-      readings = subst (λ (o : Option Begun). IfSome o (λ (x : Begun).
-          x.readings.items ≡ numbers_read (pools_of s.kind s.banks) (children_in s.frame n))) c.in-Some.is c.in_ok-begun.ensures.readings
-          ∙ ap (λ k. numbers_read (pools_of s.kind s.banks) (children_in s.frame k)) (sym node.0);
     }
 
 pub returns-clause-node : goal.returns-clause-node

@@ -37,7 +37,7 @@ returns-clause-explained c =
     let s = c.args.self.now in
     let out : IsSetOut p tree s c.in-Some.begun =
     subst (λ (o : Option Begun). IfSome o (IsSetOut p tree s)) c.in-Some.is c.in_ok-begun.ensures.task in
-    c.end.ensures.explained (record { node = out.node; task = out.task; stated = out.stated; readings = out.readings })
+    c.end.ensures.explained (record { node = out.can.node; task = out.can.task; readings = out.can.readings })
 
 pub returns-clause-tabled : goal.returns-clause-tabled
 returns-clause-tabled c = λ m frame b.
@@ -49,7 +49,7 @@ returns-clause-tabled c = λ m frame b.
     let node : c.in-Some.begun.node ≡ c.args.node =
     subst (λ (o : Option Begun). IfSome o (λ (x : Begun). x.node ≡ c.args.node)) c.in-Some.is c.in_ok-begun.ensures.node in
     subst (λ k. (b : IsBegunBy p s m 0 k) → OnOk c.end.result (EndsOn EndsAnyhow p s m b.desk.fits.flying 0 k c.end.new.self)) node
-    (c.end.ensures.tabled m frame (record { node = out.node; task = out.task; stated = out.stated; readings = out.readings })) b
+    (c.end.ensures.tabled m frame (record { node = out.can.node; task = out.can.task; readings = out.can.readings })) b
 
 pub returns-clause-solves : goal.returns-clause-solves
 returns-clause-solves c = λ m walk frame b stand.
@@ -61,7 +61,7 @@ returns-clause-solves c = λ m walk frame b stand.
     let node : c.in-Some.begun.node ≡ c.args.node =
     subst (λ (o : Option Begun). IfSome o (λ (x : Begun). x.node ≡ c.args.node)) c.in-Some.is c.in_ok-begun.ensures.node in
     subst (λ k. (b : IsBegunBy p s m 0 k) → OnOk c.end.result (SolvesOn p s m b.desk.fits.flying 0 k c.end.new.self)) node
-    (λ b. c.end.ensures.solves m walk frame (record { node = out.node; task = out.task; stated = out.stated; readings = out.readings }) b stand) b
+    (λ b. c.end.ensures.solves m walk frame (record { can = record { node = out.can.node; task = out.can.task; readings = out.can.readings }; stated = out.stated }) b stand) b
 
 pub returns-clause-made : goal.returns-clause-made
 returns-clause-made c = λ b walk frame right h.
@@ -70,4 +70,4 @@ returns-clause-made c = λ b walk frame right h.
     let s = c.args.self.now in
     let out : IsSetOut p tree s c.in-Some.begun =
     subst (λ (o : Option Begun). IfSome o (IsSetOut p tree s)) c.in-Some.is c.in_ok-begun.ensures.task in
-    c.end.ensures.made b walk frame (record { node = out.node; task = out.task; stated = out.stated; readings = out.readings }) right h
+    c.end.ensures.made b walk frame (record { can = record { node = out.can.node; task = out.can.task; readings = out.can.readings }; stated = out.stated }) right h

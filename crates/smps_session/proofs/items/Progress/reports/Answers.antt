@@ -26,14 +26,14 @@ loop-rest-init g c =
     }
 
 pub take-requires-clause-allowed : goal.take-requires-clause-allowed
-take-requires-clause-allowed g c = item_allowed (content c.loop-rest.program) c.item-item.result c.loop-rest.rest.now
+take-requires-clause-allowed g c κs within = item_allowed (content c.loop-rest.program) c.item-item.result c.loop-rest.rest.now
     c.in-len1-up.len_at_least c.item-item.is c.loop-rest.invariant.come.course.0
 
 pub take-requires-clause-stands : goal.take-requires-clause-stands
-take-requires-clause-stands g c = c.loop-rest.invariant.stands
+take-requires-clause-stands g c κs within = c.loop-rest.invariant.stands
 
 pub take-requires-clause-cleared : goal.take-requires-clause-cleared
-take-requires-clause-cleared g c = c.loop-rest.invariant.cleared
+take-requires-clause-cleared g c κs within = c.loop-rest.invariant.cleared
 
 pub loop-rest-preserved : goal.loop-rest-preserved
 loop-rest-preserved g c = record {

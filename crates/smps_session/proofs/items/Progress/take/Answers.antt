@@ -5,7 +5,7 @@ use Rattle.smps_session.proofs.ToldLemmas.{edit_allowed, is_behind_edit, is_behi
 use Rattle.smps_session.proofs.items.Progress.take.Goals as goal
 
 pub change-requires-clause-allowed : goal.change-requires-clause-allowed
-change-requires-clause-allowed g c =
+change-requires-clause-allowed g c κs within =
     edit_allowed (content c.args.program.now) c.args.item.now c.in-Change.edit c.in-Change.is c.requires.allowed
 
 pub returns-in-Change-clause-course : goal.returns-in-Change-clause-course
