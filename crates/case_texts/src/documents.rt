@@ -78,6 +78,8 @@ fn words_for(line: &str) -> &'static str {
         "show --core C --time T --stoch S --edits F"
     } else if line.starts_with("refused report") {
         "check --core C --time T --stoch S --report F"
+    } else if line.starts_with("refused basis") {
+        "solve --core C --time T --stoch S --basis F"
     } else {
         "solve --core F"
     }

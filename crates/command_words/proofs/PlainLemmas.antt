@@ -8,7 +8,7 @@ use Rattle.std.proofs.lemmas.Slice.Eq.{bytes_eq-Decides}
 use Rattle.clap.proofs.WalkLemmas.{both}
 use Rattle.command_words.specs.declared.flag.Flag.{Flag}
 use Rattle.command_words.specs.declared.flag.Flag.TheVariants.{Core, Time, Stoch, Edits, Report, Whole, Number, Form, Solves, Pivots, Workers, Quiet}
-use Rattle.command_words.specs.declared.flag.Flag.TheVariants.{Start, Stages, Branches, Size, Text, Tail, Weight}
+use Rattle.command_words.specs.declared.flag.Flag.TheVariants.{Start, Stages, Branches, Size, Text, Tail, Weight, Basis, Measures}
 use Rattle.command_words.specs.declared.command.Verb.{Verb}
 use Rattle.command_words.specs.Table.{flag_text}
 use Rattle.command_words.specs.declared.table.ValueKind.{ValueKind}
@@ -41,6 +41,8 @@ named Size = refl
 named Text = refl
 named Tail = refl
 named Weight = refl
+named Basis = refl
+named Measures = refl
 
 lacks_equals : (flag : Flag) → list_any is_equals (45 ∷ 45 ∷ flag_text flag) ≡ false
 lacks_equals Core = refl
@@ -62,6 +64,8 @@ lacks_equals Size = refl
 lacks_equals Text = refl
 lacks_equals Tail = refl
 lacks_equals Weight = refl
+lacks_equals Basis = refl
+lacks_equals Measures = refl
 
 -- options of one name are one
 pub same_is : (one other : Flag) → same_flag one other ≡ true → one ≡ other

@@ -1,9 +1,9 @@
 -- The numbers of a risk measure that words ask for are in their ranges.
-use Rattle.std.proofs.Common.{◌≡◌, ℕ, Bool, true, false, not, ◌&&◌, cond, List, Option, Some, None, refl, subst}
+use Rattle.std.proofs.Common.{◌≡◌, ℕ, Bool, true, false, not, ◌&&◌, cond, List, Option, Some, None, is_some, refl, subst}
 use Rattle.std.specs.Prelude.{IfSome}
 use Rattle.rationals.specs.Rational.{ℚ, zero_ℚ, one_ℚ, ◌≤ℚ◌, ◌<ℚ◌, at_most, at_most_true, at_most_false}
 use Rattle.clap.proofs.WalkLemmas.{both}
-use Rattle.command_words.specs.declared.flag.Flag.TheVariants.{Tail, Weight}
+use Rattle.command_words.specs.declared.flag.Flag.TheVariants.{Tail, Weight, Basis}
 use Rattle.command_words.specs.declared.command.Budget.{Budget}
 use Rattle.command_words.specs.declared.command.RiskMeasure.{RiskMeasure}
 use Rattle.command_words.specs.declared.command.Task.{Task}
@@ -72,9 +72,11 @@ measure_in (Some level) None m e = absurd (cc)
 measure_in None (Some weight) m e = absurd (cc)
 
 -- ---- tasks
-solve_has : (m : Option RiskMeasure) (budget : Budget) → IfSome m IsRiskMeasure → HasRange (solve_by m budget)
-solve_has None budget h = tt
-solve_has (Some m) budget h = h
+solve_has : (m : Option RiskMeasure) (with_basis : Bool) (budget : Budget) → IfSome m IsRiskMeasure → HasRange (solve_by m with_basis budget)
+solve_has None false budget h = tt
+solve_has None true budget h = tt
+solve_has (Some m) false budget h = h
+solve_has (Some m) true budget h = h
 
 check_has : (m : Option RiskMeasure) → IfSome m IsRiskMeasure → HasRange (check_by m)
 check_has None h = tt
@@ -82,9 +84,11 @@ check_has (Some m) h = h
 
 task_has : (verb : Verb) (value : Values) (t : Task) → task_of verb value ≡ Some t → HasRange t
 task_has Solve value t e =
-    let m = gives (measure_of value) (λ m. then_some (budget_of value) (λ budget. Some (solve_by m budget))) t e in
-    let b = gives (budget_of value) (λ budget. Some (solve_by m.0 budget)) t m.2 in
-    subst HasRange (is_some_of (solve_by m.0 b.0) t b.2) (solve_has m.0 b.0 (measure_in (value Tail) (value Weight) m.0 m.1))
+    let with_basis = is_some (value Basis) in
+    let m = gives (measure_of value) (λ m. then_some (budget_of value) (λ budget. Some (solve_by m with_basis budget))) t e in
+    let b = gives (budget_of value) (λ budget. Some (solve_by m.0 with_basis budget)) t m.2 in
+    subst HasRange (is_some_of (solve_by m.0 with_basis b.0) t b.2)
+    (solve_has m.0 with_basis b.0 (measure_in (value Tail) (value Weight) m.0 m.1))
 task_has Check value t e =
     let m = gives (measure_of value) (λ m. Some (check_by m)) t e in
     subst HasRange (is_some_of (check_by m.0) t m.2) (check_has m.0 (measure_in (value Tail) (value Weight) m.0 m.1))

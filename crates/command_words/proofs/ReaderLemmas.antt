@@ -15,7 +15,7 @@ use Rattle.clap.proofs.TakesLemmas.{leaf_takes}
 use Rattle.clap.proofs.WalkLemmas.{both, first_value-rows}
 use Rattle.command_words.specs.declared.flag.Flag.{Flag}
 use Rattle.command_words.specs.declared.flag.Flag.TheVariants.{Core, Time, Stoch, Edits, Report, Whole, Number, Form, Solves, Pivots, Workers, Quiet}
-use Rattle.command_words.specs.declared.flag.Flag.TheVariants.{Start, Stages, Branches, Size, Text, Tail, Weight}
+use Rattle.command_words.specs.declared.flag.Flag.TheVariants.{Start, Stages, Branches, Size, Text, Tail, Weight, Basis, Measures}
 use Rattle.command_words.specs.declared.command.Command.{Command}
 use Rattle.command_words.specs.declared.command.Verb.{Verb}
 use Rattle.command_words.specs.declared.command.Verb.TheVariants.{Solve, Check, Table, Show, Flat, Value, Make}
@@ -96,6 +96,8 @@ same_refl Size = refl
 same_refl Text = refl
 same_refl Tail = refl
 same_refl Weight = refl
+same_refl Basis = refl
+same_refl Measures = refl
 
 is_there : (flag : Flag) → list_any (λ x. same_flag x flag) all_flags ≡ true
 is_there Core = refl
@@ -117,6 +119,8 @@ is_there Size = refl
 is_there Text = refl
 is_there Tail = refl
 is_there Weight = refl
+is_there Basis = refl
+is_there Measures = refl
 
 -- the option of a name is found among those that pass a test
 found_among : (p : Flag → Bool) (flags : List Flag) (flag : Flag) → p flag ≡ true → list_any (λ x. same_flag x flag) flags ≡ true
@@ -163,6 +167,8 @@ plain_is_long Size value = refl
 plain_is_long Text value = refl
 plain_is_long Tail value = refl
 plain_is_long Weight value = refl
+plain_is_long Basis value = refl
+plain_is_long Measures value = refl
 
 plain_is_no_end : (flag : Flag) (value : List ℕ) → bytes_eq (45 ∷ 45 ∷ (flag_text flag ++ 61 ∷ value)) (45 ∷ 45 ∷ []) ≡ false
 plain_is_no_end Core value = refl
@@ -184,6 +190,8 @@ plain_is_no_end Size value = refl
 plain_is_no_end Text value = refl
 plain_is_no_end Tail value = refl
 plain_is_no_end Weight value = refl
+plain_is_no_end Basis value = refl
+plain_is_no_end Measures value = refl
 
 -- where the walk over the words stands once these rows are found
 abbrev at : List Row → Walk

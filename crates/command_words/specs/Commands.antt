@@ -1,12 +1,12 @@
 -- The command that words are.
-use Rattle.std.specs.Prelude.{ℕ, Bool, true, not, List, [], ◌∷◌, Option, Some, None, Result, Ok, Err, is_some, is_none}
+use Rattle.std.specs.Prelude.{ℕ, Bool, true, false, not, List, [], ◌∷◌, Option, Some, None, Result, Ok, Err, is_some, is_none}
 use Rattle.std.specs.Prelude.{if◌then◌else◌, ◌&&◌, ◌||◌, codes}
 use Rattle.rationals.specs.Rational.{ℚ, zero_ℚ, one_ℚ, at_most}
 use Rattle.frac128.specs.Numbers.{read_number}
 use Rattle.frac128.specs.declared.text.NumFault.{NumFault}
 use Rattle.command_words.specs.declared.flag.Flag.{Flag}
 use Rattle.command_words.specs.declared.flag.Flag.TheVariants.{Core, Time, Stoch, Edits, Report, Whole, Number, Form}
-use Rattle.command_words.specs.declared.flag.Flag.TheVariants.{Quiet, Start, Stages, Branches, Size, Text, Tail, Weight}
+use Rattle.command_words.specs.declared.flag.Flag.TheVariants.{Quiet, Start, Stages, Branches, Size, Text, Tail, Weight, Basis, Measures}
 use Rattle.command_words.specs.declared.command.Verb.{Verb}
 use Rattle.command_words.specs.declared.command.Verb.TheVariants.{Solve, Check, Table, Show, Flat, Value, Make}
 use Rattle.command_words.specs.declared.command.Budget.{Budget}
@@ -45,13 +45,13 @@ abbrev pub is_there_if : List Given → Option Flag → Bool
 is_there_if settings None = true
 is_there_if settings (Some flag) = is_some (value_with flag settings)
 
--- the option beside which one isn't taken isn't there, where there is one
-abbrev pub is_absent_if : List Given → Option Flag → Bool
-is_absent_if settings None = true
-is_absent_if settings (Some flag) = is_none (value_with flag settings)
+-- none of these options is there
+abbrev pub are_absent : List Given → List Flag → Bool
+are_absent settings [] = true
+are_absent settings (flag ∷ flags) = is_none (value_with flag settings) && are_absent settings flags
 
 abbrev pub goes_with_all : List Given → Flag → Bool
-goes_with_all settings flag = is_there_if settings (goes_with flag) && is_absent_if settings (excludes flag)
+goes_with_all settings flag = is_there_if settings (goes_with flag) && are_absent settings (excludes flag)
 
 -- so for each of some options
 abbrev pub go_together : List Given → List Given → Bool
@@ -73,12 +73,23 @@ pub record FileNames : Type 0 where
   pub stoch : Option (List ℕ)
   pub edits : Option (List ℕ)
   pub report : Option (List ℕ)
+  pub basis : Option (List ℕ)
+  pub measures : Option (List ℕ)
 
-abbrev pub file_names : List ℕ → Option (List ℕ) → Option (List ℕ) → Option (List ℕ) → Option (List ℕ) → FileNames
-file_names core time stoch edits report = record { core = core; time = time; stoch = stoch; edits = edits; report = report }
+-- those that the options name, with a core file
+abbrev pub file_names : List ℕ → Values → FileNames
+file_names core value = record {
+  core = core;
+  time = value Time;
+  stoch = value Stoch;
+  edits = value Edits;
+  report = value Report;
+  basis = value Basis;
+  measures = value Measures;
+}
 
 abbrev pub sources_of : Values → Option FileNames
-sources_of value = then_some (value Core) (λ core. Some (file_names core (value Time) (value Stoch) (value Edits) (value Report)))
+sources_of value = then_some (value Core) (λ core. Some (file_names core value))
 
 abbrev pub form_named : List ℕ → Option SheetForm
 form_named word =
@@ -104,7 +115,9 @@ abbrev pub report_number_of : Values → Option (Option ℕ)
 report_number_of value = report_number_by (value Number)
 
 abbrev pub sheet_of : Values → Option Sheet
-sheet_of value = then_some (report_number_of value) (λ n. then_some (form_of value) (λ shape. Some (record { number = n; form = shape })))
+sheet_of value =
+    then_some (report_number_of value) (λ n. then_some (form_of value) (λ shape.
+    Some (record { number = n; form = shape; with_measures = is_some (value Measures) })))
 
 abbrev pub extent_named : List ℕ → Option Extent
 extent_named word = if same_text word (codes "yes") then Some extent.Whole else None
@@ -153,9 +166,11 @@ measure_by None (Some weight) = None
 abbrev pub measure_of : Values → Option (Option RiskMeasure)
 measure_of value = measure_by (value Tail) (value Weight)
 
-abbrev pub solve_by : Option RiskMeasure → Budget → Task
-solve_by None budget = task.Solve budget
-solve_by (Some m) budget = task.SolveRisk m budget
+-- with a risk measure, with a basis, or with neither
+abbrev pub solve_by : Option RiskMeasure → Bool → Budget → Task
+solve_by None false budget = task.Solve budget
+solve_by None true budget = task.SolveBasis budget
+solve_by (Some m) with_basis budget = task.SolveRisk m budget
 
 abbrev pub check_by : Option RiskMeasure → Task
 check_by None = task.Check
@@ -163,7 +178,8 @@ check_by (Some m) = task.CheckRisk m
 
 -- `make` is no task on files
 abbrev pub task_of : Verb → Values → Option Task
-task_of Solve value = then_some (measure_of value) (λ m. then_some (budget_of value) (λ budget. Some (solve_by m budget)))
+task_of Solve value =
+    then_some (measure_of value) (λ m. then_some (budget_of value) (λ budget. Some (solve_by m (is_some (value Basis)) budget)))
 task_of Check value = then_some (measure_of value) (λ m. Some (check_by m))
 task_of Table value = then_some (sheet_of value) (λ sheet. Some (task.Table sheet))
 task_of Show value = Some task.Show

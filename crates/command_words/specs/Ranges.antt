@@ -3,7 +3,7 @@ use Rattle.std.specs.Prelude.{⊤}
 use Rattle.rationals.specs.Rational.{zero_ℚ, one_ℚ, ◌≤ℚ◌, ◌<ℚ◌}
 use Rattle.command_words.specs.declared.command.RiskMeasure.{RiskMeasure}
 use Rattle.command_words.specs.declared.command.Task.{Task}
-use Rattle.command_words.specs.declared.command.Task.TheVariants.{Solve, Check, Table, Show, Flat, Value, SolveRisk, CheckRisk}
+use Rattle.command_words.specs.declared.command.Task.TheVariants.{Solve, Check, Table, Show, Flat, Value, SolveRisk, CheckRisk, SolveBasis}
 use Rattle.command_words.specs.Commands.{Asked}
 use Rattle.command_words.specs.Commands.Asked.{OnFiles, MakeThis}
 
@@ -24,6 +24,7 @@ HasRange (Flat extent) = ⊤
 HasRange (Value budget) = ⊤
 HasRange (SolveRisk m budget) = IsRiskMeasure m
 HasRange (CheckRisk m) = IsRiskMeasure m
+HasRange (SolveBasis budget) = ⊤
 
 -- and those of what is asked for
 abbrev pub AsksInRange : Asked → Type 0

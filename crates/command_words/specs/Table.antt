@@ -5,7 +5,7 @@ use Rattle.command_words.specs.declared.command.Verb.TheVariants.{Solve, Check, 
 use Rattle.command_words.specs.declared.flag.Flag.{Flag}
 use Rattle.command_words.specs.declared.flag.Flag.TheVariants.{Core, Time, Stoch, Edits, Report, Whole, Number, Form}
 use Rattle.command_words.specs.declared.flag.Flag.TheVariants.{Solves, Pivots, Workers, Quiet}
-use Rattle.command_words.specs.declared.flag.Flag.TheVariants.{Start, Stages, Branches, Size, Text, Tail, Weight}
+use Rattle.command_words.specs.declared.flag.Flag.TheVariants.{Start, Stages, Branches, Size, Text, Tail, Weight, Basis, Measures}
 use Rattle.command_words.specs.declared.table.TheConstants.{MOST_WORKERS}
 use Rattle.command_words.specs.declared.table.ValueKind.{ValueKind}
 use Rattle.command_words.specs.declared.table.ValueKind.TheVariants as kind
@@ -15,7 +15,7 @@ use Rattle.command_words.specs.declared.table.ValueKind.TheVariants as kind
 abbrev pub all_flags : List Flag
 all_flags =
     Core ∷ Time ∷ Stoch ∷ Edits ∷ Report ∷ Whole ∷ Number ∷ Form ∷ Solves ∷ Pivots ∷ Workers ∷ Quiet
-    ∷ Start ∷ Stages ∷ Branches ∷ Size ∷ Text ∷ Tail ∷ Weight ∷ []
+    ∷ Start ∷ Stages ∷ Branches ∷ Size ∷ Text ∷ Tail ∷ Weight ∷ Basis ∷ Measures ∷ []
 
 -- the name of an option, without its two minuses
 abbrev pub flag_text : Flag → List ℕ
@@ -38,6 +38,8 @@ flag_text Size = codes "size"
 flag_text Text = codes "text"
 flag_text Tail = codes "tail"
 flag_text Weight = codes "weight"
+flag_text Basis = codes "basis"
+flag_text Measures = codes "value"
 
 -- what its value is: of numbers also the range
 abbrev pub value_kind : Flag → ValueKind
@@ -60,6 +62,8 @@ value_kind Size = kind.Number 1 20
 value_kind Text = kind.Page
 value_kind Tail = kind.Level
 value_kind Weight = kind.Weight
+value_kind Basis = kind.File
+value_kind Measures = kind.File
 
 -- the option without which it isn't taken
 abbrev pub goes_with : Flag → Option Flag
@@ -68,10 +72,11 @@ goes_with Tail = Some Weight
 goes_with Weight = Some Tail
 goes_with flag = None
 
--- the option beside which it isn't taken
-abbrev pub excludes : Flag → Option Flag
-excludes Tail = Some Edits
-excludes flag = None
+-- the options beside which it isn't taken
+abbrev pub excludes : Flag → List Flag
+excludes Tail = Edits ∷ []
+excludes Basis = Edits ∷ Tail ∷ []
+excludes flag = []
 
 -- ---- commands
 
@@ -99,9 +104,9 @@ needed_flags Make = Start ∷ Stages ∷ Branches ∷ Size ∷ []
 
 -- those that it takes beside them
 abbrev pub further_flags : Verb → List Flag
-further_flags Solve = Time ∷ Stoch ∷ Edits ∷ Tail ∷ Weight ∷ Solves ∷ Pivots ∷ Workers ∷ Quiet ∷ []
+further_flags Solve = Time ∷ Stoch ∷ Edits ∷ Basis ∷ Tail ∷ Weight ∷ Solves ∷ Pivots ∷ Workers ∷ Quiet ∷ []
 further_flags Check = Time ∷ Stoch ∷ Edits ∷ Tail ∷ Weight ∷ []
-further_flags Table = Time ∷ Stoch ∷ Edits ∷ Number ∷ Form ∷ []
+further_flags Table = Time ∷ Stoch ∷ Edits ∷ Number ∷ Form ∷ Measures ∷ []
 further_flags Show = Time ∷ Stoch ∷ Edits ∷ []
 further_flags Flat = Time ∷ Stoch ∷ Edits ∷ Whole ∷ []
 further_flags Value = Stoch ∷ Solves ∷ Pivots ∷ Workers ∷ Quiet ∷ []

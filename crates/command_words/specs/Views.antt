@@ -27,6 +27,8 @@ sources_view s = record {
   stoch = name_given s.stoch;
   edits = name_given s.edits;
   report = name_given s.report;
+  basis = name_given s.basis;
+  measures = name_given s.measures;
 }
 
 abbrev pub asked : Command → Asked

@@ -4,7 +4,7 @@ ghost use Rattle.std.specs.Option.{option_map};
 ghost use Rattle.rationals.specs.Rational.{at_most};
 ghost use Rattle.command_words.specs.Table.{value_kind};
 ghost use Rattle.command_words.specs.Words.{verb_among, verb_named, number_for, number_or, number_given, is_set, budget_of};
-ghost use Rattle.command_words.specs.Commands.{allows, all_allowed, are_there, is_there_if, is_absent_if};
+ghost use Rattle.command_words.specs.Commands.{allows, all_allowed, are_there, is_there_if, are_absent};
 ghost use Rattle.command_words.specs.Commands.{goes_with_all, go_together, are_options};
 ghost use Rattle.command_words.specs.Commands.{sources_of, extent_named, extent_of, task_of, page_named, page_of, plan_of};
 ghost use Rattle.command_words.specs.Commands.{form_named, form_of, report_number_of, sheet_of};
@@ -44,12 +44,16 @@ pub struct Sources<'a> {
     pub edits: Option<&'a str>,
     /// The reports that `check` and `table` take; no other command takes one.
     pub report: Option<&'a str>,
+    /// A basis that `solve` takes; no other command takes one.
+    pub basis: Option<&'a str>,
+    /// What `value` printed; `table` takes it, and no other command.
+    pub measures: Option<&'a str>,
 }
 
 /// How much may be done for a report.
 #[derive(Clone, Copy, Debug, PartialEq, Eq)]
 pub struct Budget {
-    /// How many node programs are solved, in a program of several periods.
+    /// How many programs of nodes are solved.
     pub solves: u64,
     /// Whether the words state how many.
     pub solves_stated: bool,
@@ -78,6 +82,8 @@ pub struct Sheet {
     /// Counted from 1; without one it is the last.
     pub number: Option<u32>,
     pub form: SheetForm,
+    /// Whether what `value` printed is shown too.
+    pub with_measures: bool,
 }
 
 /// How large the one core file of `flat` may be.
@@ -118,6 +124,8 @@ pub enum Task {
     SolveRisk(RiskMeasure, Budget),
     /// Check reports of that program.
     CheckRisk(RiskMeasure),
+    /// Solve the program of the files within a budget, where a basis is tried first, and print the report.
+    SolveBasis(Budget),
 }
 
 /// The texts of a workload.
@@ -214,22 +222,24 @@ fn is_there_if(settings: &[Setting<'_>], flag: Option<Flag>) -> bool
     }
 }
 
-/// Whether the option isn't there beside which one isn't taken, where there is one.
-fn is_absent_if(settings: &[Setting<'_>], flag: Option<Flag>) -> bool
-    ensures { result ≡ is_absent_if (all_given settings.now) flag }
+/// Whether none of these options is there.
+fn are_absent(settings: &[Setting<'_>], flags: &[Flag]) -> bool
+    ensures { result ≡ are_absent (all_given settings.now) flags.now }
 {
-    match flag {
-        None => true,
-        Some(flag) => value_with(settings, flag).is_none(),
+    for flag in flags {
+        if value_with(settings, *flag).is_some() {
+            return false;
+        }
     }
+    true
 }
 
-/// Whether an option is there with the one that it needs, and without the one beside which it isn't taken.
+/// Whether an option is there with the one that it needs, and without those beside which it isn't taken.
 fn goes_with_all(settings: &[Setting<'_>], flag: Flag) -> bool
     ensures { result ≡ goes_with_all (all_given settings.now) flag }
 {
     let row = flag.row();
-    is_there_if(settings, row.with) && is_absent_if(settings, row.without)
+    is_there_if(settings, row.with) && are_absent(settings, row.without)
 }
 
 /// Whether that is so for each of the options.
@@ -265,6 +275,8 @@ fn named_sources<'a, V: Values<'a>>(values: &V) -> Option<Sources<'a>>
         stoch: values.value(Flag::Stoch),
         edits: values.value(Flag::Edits),
         report: values.value(Flag::Report),
+        basis: values.value(Flag::Basis),
+        measures: values.value(Flag::Measures),
     })
 }
 
@@ -312,7 +324,8 @@ fn is_set<'a, V: Values<'a>>(values: &V, flag: Flag) -> Option<bool>
     }
 }
 
-/// How much may be done for a report, with the one worker that there may be.
+/// How much may be done for a report. With another value of `--workers` or `--quiet` than these may have the words are no command; what
+/// they ask, `PlainWords` says.
 fn budget_given<'a, V: Values<'a>>(values: &V) -> Option<Budget>
     ensures { result ≡ budget_of (V.values values.now) }
 {
@@ -370,7 +383,12 @@ fn sheet_given<'a, V: Values<'a>>(values: &V) -> Option<Sheet>
 {
     let number = report_number(values)?;
     let form = form_given(values)?;
-    Some(Sheet { number, form })
+    let with_measures = values.value(Flag::Measures).is_some();
+    Some(Sheet {
+        number,
+        form,
+        with_measures,
+    })
 }
 
 fn extent_named(word: &str) -> Option<Extent>
@@ -468,12 +486,13 @@ fn measure_given<'a, V: Values<'a>>(values: &V) -> Option<Option<RiskMeasure>>
     }
 }
 
-fn solve_by(measure: Option<RiskMeasure>, budget: Budget) -> Task
-    ensures { result ≡ solve_by measure budget }
+fn solve_by(measure: Option<RiskMeasure>, with_basis: bool, budget: Budget) -> Task
+    ensures { result ≡ solve_by measure with_basis budget }
 {
-    match measure {
-        None => Task::Solve(budget),
-        Some(measure) => Task::SolveRisk(measure, budget),
+    match (measure, with_basis) {
+        (None, false) => Task::Solve(budget),
+        (None, true) => Task::SolveBasis(budget),
+        (Some(measure), _) => Task::SolveRisk(measure, budget),
     }
 }
 
@@ -494,7 +513,8 @@ fn task_given<'a, V: Values<'a>>(verb: Verb, values: &V) -> Option<Task>
         Verb::Solve => {
             let measure = measure_given(values)?;
             let budget = budget_given(values)?;
-            Some(solve_by(measure, budget))
+            let with_basis = values.value(Flag::Basis).is_some();
+            Some(solve_by(measure, with_basis, budget))
         }
         Verb::Check => {
             let measure = measure_given(values)?;

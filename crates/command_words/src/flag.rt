@@ -45,6 +45,10 @@ pub enum Flag {
     Tail,
     /// How much that counts beside the mean.
     Weight,
+    /// The name of a file with a basis.
+    Basis,
+    /// The name of a file that `value` printed.
+    Measures,
 }
 
 /// Whether a word is two minuses and this name.

@@ -1,5 +1,5 @@
 //! The commands and their options, as a table. The exact reader reads by it; the library for command lines is told by it, and so is help.
-ghost use Rattle.std.specs.Prelude.{◌≡◌};
+ghost use Rattle.std.specs.Prelude.{◌≡◌, []};
 ghost use Rattle.command_words.specs.Table.{excludes, flag_text, further_flags, goes_with, value_kind, needed_flags, verb_text};
 
 use crate::command::Verb;
@@ -59,8 +59,8 @@ pub struct OptionRow {
     pub kind: ValueKind,
     /// The option without which it isn't taken, if there is one.
     pub with: Option<Flag>,
-    /// The option beside which it isn't taken, if there is one.
-    pub without: Option<Flag>,
+    /// The options beside which it isn't taken.
+    pub without: &'static [Flag],
     /// What its value says.
     pub help: &'static str,
 }
@@ -89,7 +89,7 @@ pub const VERBS: [Verb; 7] = [
 ];
 
 /// All options.
-pub const FLAGS: [Flag; 19] = [
+pub const FLAGS: [Flag; 21] = [
     Flag::Core,
     Flag::Time,
     Flag::Stoch,
@@ -109,30 +109,33 @@ pub const FLAGS: [Flag; 19] = [
     Flag::Text,
     Flag::Tail,
     Flag::Weight,
+    Flag::Basis,
+    Flag::Measures,
 ];
 
 /// An option whose value is the name of a file.
 fn file(name: &'static str, help: &'static str) -> OptionRow
-    ensures { (result.name ≡ name.entry) × (result.kind ≡ ValueKind.File) × (result.with ≡ None) × (result.without ≡ None) }
+    ensures { (result.name ≡ name.entry) × (result.kind ≡ ValueKind.File) × (result.with ≡ None) × (result.without.now ≡ []) }
 {
     OptionRow {
         name,
         kind: ValueKind::File,
         with: None,
-        without: None,
+        without: &[],
         help,
     }
 }
 
 /// An option whose value is a whole number.
 fn number(name: &'static str, least: u32, most: u32, help: &'static str) -> OptionRow
-    ensures { (result.name ≡ name.entry) × (result.kind ≡ ValueKind.Number least most) × (result.with ≡ None) × (result.without ≡ None) }
+    ensures { (result.name ≡ name.entry) × (result.kind ≡ ValueKind.Number least most) × (result.with ≡ None)
+        × (result.without.now ≡ []) }
 {
     OptionRow {
         name,
         kind: ValueKind::Number(least, most),
         with: None,
-        without: None,
+        without: &[],
         help,
     }
 }
@@ -143,16 +146,16 @@ impl Flag {
         ensures name { result.name.now ≡ flag_text self }
         ensures kind { result.kind ≡ value_kind self }
         ensures with { result.with ≡ goes_with self }
-        ensures without { result.without ≡ excludes self }
+        ensures without { result.without.now ≡ excludes self }
     {
         match self {
             Flag::Core => file("core", "the program, as of one period and one scenario"),
-            Flag::Time => file("time", "its periods; without one it has one"),
+            Flag::Time => file("time", "its periods, of which a core file alone has one"),
             Flag::Stoch => OptionRow {
                 name: "stoch",
                 kind: ValueKind::File,
                 with: Some(Flag::Time),
-                without: None,
+                without: &[],
                 help: "what is random; without one nothing is",
             },
             Flag::Edits => file("edits", "edits of the data, and where a report is wanted"),
@@ -161,7 +164,7 @@ impl Flag {
                 name: "whole",
                 kind: ValueKind::Yes,
                 with: None,
-                without: None,
+                without: &[],
                 help: "also beyond the limits of a core file, up to 10000000 entries",
             },
             Flag::Number => number(
@@ -174,7 +177,7 @@ impl Flag {
                 name: "form",
                 kind: ValueKind::Form,
                 with: None,
-                without: None,
+                without: &[],
                 help: "what is printed; else text",
             },
             Flag::Solves => number(
@@ -199,7 +202,7 @@ impl Flag {
                 name: "quiet",
                 kind: ValueKind::Yes,
                 with: None,
-                without: None,
+                without: &[],
                 help: "say nothing on standard error while it is solved",
             },
             Flag::Start => number("start", 0, 65_536, "what the program is drawn from"),
@@ -215,23 +218,34 @@ impl Flag {
                 name: "text",
                 kind: ValueKind::Page,
                 with: None,
-                without: None,
+                without: &[],
                 help: "the one of its three texts that is printed, in place of a summary",
             },
             Flag::Tail => OptionRow {
                 name: "tail",
                 kind: ValueKind::Level,
                 with: Some(Flag::Weight),
-                without: Some(Flag::Edits),
+                without: &[Flag::Edits],
                 help: "the level of a conditional value at risk that counts beside the mean",
             },
             Flag::Weight => OptionRow {
                 name: "weight",
                 kind: ValueKind::Weight,
                 with: Some(Flag::Tail),
-                without: None,
+                without: &[],
                 help: "how much it counts; the mean counts for the rest",
             },
+            Flag::Basis => OptionRow {
+                name: "basis",
+                kind: ValueKind::File,
+                with: None,
+                without: &[Flag::Edits, Flag::Tail],
+                help: "a basis of the program that flat prints, which is tried first",
+            },
+            Flag::Measures => file(
+                "value",
+                "what value printed for the program, shown beside the report",
+            ),
         }
     }
 }
@@ -252,6 +266,7 @@ impl Verb {
                     Flag::Time,
                     Flag::Stoch,
                     Flag::Edits,
+                    Flag::Basis,
                     Flag::Tail,
                     Flag::Weight,
                     Flag::Solves,
@@ -282,6 +297,7 @@ impl Verb {
                     Flag::Edits,
                     Flag::Number,
                     Flag::Form,
+                    Flag::Measures,
                 ],
             },
             Verb::Show => CommandRow {

@@ -58,6 +58,16 @@ impl Crew {
         self.table.workers() as u32
     }
 
+    /// Which round of the present run this is, counted from 1.
+    pub fn round(&self) -> u64 {
+        self.table.round()
+    }
+
+    /// How many nodes aren't fresh.
+    pub fn waiting(&self) -> u64 {
+        self.table.waiting()
+    }
+
     /// Whether every node is fresh with a point.
     pub fn is_closed(&self) -> bool
         ensures flag { result ≡ self.now.closed }

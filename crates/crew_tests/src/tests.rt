@@ -1,4 +1,4 @@
-// Reports of programs that several workers solve. Each has nodes enough that threads are started.
+// Reports of programs that several workers solve: some with nodes enough that threads are started, some with fewer nodes than workers.
 use frac128::{Frac, Memory, parse};
 use run_watch::{Unwatched, Watch};
 use scen_defs::{Finding, Program, Report};
@@ -7,7 +7,7 @@ use std::alloc::Global;
 use std::process::Abort;
 use std::test::Fail;
 use std::thread::Threads;
-use test_programs::{Source, read_source};
+use test_programs::{COVER, Source, read_source};
 use workload_maker::make;
 
 /// A workload, and its least cost, as QSopt_ex finds it of the program of all nodes.
@@ -76,14 +76,46 @@ fn is_least(report: &Report, cost: Frac) -> bool {
     is_optimal && is_end(report.lower, cost) && is_end(report.upper, cost)
 }
 
-fn expect(rt: &(impl Abort + Threads + Sync), alloc: Global, wanted: &Wanted) -> Result<(), Fail> {
-    let program = program_of(alloc, wanted)?;
-    let cost = parse(wanted.cost.as_bytes())?;
+fn expect_least(
+    rt: &(impl Abort + Threads + Sync),
+    alloc: Global,
+    program: &Program,
+    cost: &str,
+) -> Result<(), Fail> {
+    let cost = parse(cost.as_bytes())?;
     for workers in [1, 2, 4, 64] {
-        let report = report_of(rt, alloc, &program, workers)?;
+        let report = report_of(rt, alloc, program, workers)?;
         assert!(rt; is_least(&report, cost), "{workers} workers");
     }
     Ok(())
+}
+
+fn expect(rt: &(impl Abort + Threads + Sync), alloc: Global, wanted: &Wanted) -> Result<(), Fail> {
+    let program = program_of(alloc, wanted)?;
+    expect_least(rt, alloc, &program, wanted.cost)
+}
+
+/// A first amount X costs 1, and 3/2 where it is bought later; 2 or 6 are needed. With X = 2 that is 2 + 3/2 (6 - 2) / 2.
+#[test]
+fn fewer_nodes_than_workers(rt: HostRuntime) -> Result<(), Fail> {
+    let alloc = rt.alloc();
+    let cover = read_source(alloc, COVER)?.ok_or("no program")?;
+    assert_eq!(rt; cover.nodes.len(), 3);
+    expect_least(&rt, alloc, &cover, "5")
+}
+
+/// The first period alone: X costs 1.
+#[test]
+fn one_node(rt: HostRuntime) -> Result<(), Fail> {
+    let alloc = rt.alloc();
+    let alone = Source {
+        core: COVER.core,
+        time: "",
+        stoch: "",
+    };
+    let program = read_source(alloc, alone)?.ok_or("no program")?;
+    assert_eq!(rt; program.nodes.len(), 1);
+    expect_least(&rt, alloc, &program, "2")
 }
 
 #[test]

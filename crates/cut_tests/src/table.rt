@@ -68,11 +68,24 @@ fn answers(rt: &impl Abort, table: &Table, expected: (bool, bool), step: &str) {
     );
 }
 
+/// Which round of the run it is, and how many nodes wait.
+fn stands(rt: &impl Abort, table: &Table, expected: (u64, u64), step: &str) {
+    assert_eq!(rt; (table.round(), table.waiting()), expected, "{step}");
+}
+
+fn open(table: &mut Table) {
+    if table.places() > 0 && table.run() < 1000 {
+        table.open();
+    }
+}
+
 /// The root and its children once each: with an offer of node 1 added, the run is complete and isn't closed.
 fn first_round(rt: &impl Abort, table: &mut Table) {
+    stands(rt, table, (1, 3), "no node was solved");
     begins(rt, table, 0, Some(0), "the root");
     begins(rt, table, 1, None, "nothing beside the root");
     commit(table, 0, &[0, 0, 0], &read(0, 0), true);
+    stands(rt, table, (1, 2), "its children wait");
     begins(rt, table, 0, Some(1), "node 1");
     begins(rt, table, 1, Some(2), "node 2");
     commit(table, 0, &[0, 0, 0], &[], true);
@@ -81,6 +94,7 @@ fn first_round(rt: &impl Abort, table: &mut Table) {
     begins(rt, table, 0, None, "no round begins beside node 2");
     commit(table, 1, &[0, 1, 0], &[], true);
     answers(rt, table, (false, true), "each node once");
+    stands(rt, table, (1, 1), "the root waits");
 }
 
 /// The root again: its children are stale, and solved again they leave the run closed.
@@ -88,12 +102,14 @@ fn second_round(rt: &impl Abort, table: &mut Table) {
     begins(rt, table, 1, Some(0), "the root again");
     commit(table, 1, &[0, 1, 0], &read(1, 0), true);
     answers(rt, table, (false, false), "the root twice");
+    stands(rt, table, (2, 2), "its children wait again");
     begins(rt, table, 0, Some(1), "node 1 again");
     begins(rt, table, 1, Some(2), "node 2 again");
     commit(table, 1, &[0, 1, 0], &[], true);
     commit(table, 0, &[0, 1, 0], &[], true);
     answers(rt, table, (true, true), "each node twice");
     begins(rt, table, 0, None, "nothing more");
+    stands(rt, table, (2, 0), "no node waits");
 }
 
 /// The table of a root with two children, for two workers.
@@ -107,6 +123,8 @@ fn three_nodes(rt: HostRuntime) -> Result<(), Fail> {
     let mut table = start(rt.alloc())?;
     first_round(&rt, &mut table);
     second_round(&rt, &mut table);
+    open(&mut table);
+    stands(&rt, &table, (1, 3), "another run");
     Ok(())
 }
 

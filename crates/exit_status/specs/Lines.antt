@@ -9,7 +9,7 @@ use Rattle.core_defs.specs.declared.program.Core.{Core as CoreOf}
 use Rattle.frac128.specs.Text.{text_of}
 use Rattle.report_text.specs.Text.{operation_text}
 use Rattle.input_files.specs.declared.kind.FileKind.{FileKind}
-use Rattle.input_files.specs.declared.kind.FileKind.TheVariants.{Core, Time, Stoch, Edits, Report, Trace}
+use Rattle.input_files.specs.declared.kind.FileKind.TheVariants.{Core, Time, Stoch, Edits, Report, Basis, Measures}
 use Rattle.exit_status.specs.declared.status.Status.{Status}
 use Rattle.exit_status.specs.declared.status.Status.TheVariants.{Done, SomeOpen, Words, Refused, TooLong, ReadFault, WriteFault, Memory}
 
@@ -19,7 +19,8 @@ file_word Time = codes "time"
 file_word Stoch = codes "stoch"
 file_word Edits = codes "edits"
 file_word Report = codes "report"
-file_word Trace = codes "trace"
+file_word Basis = codes "basis"
+file_word Measures = codes "value"
 
 -- the names of a row and of a column, where the core is known
 abbrev pub row_name : Option CoreOf → ℕ → List ℕ

@@ -21,7 +21,8 @@ pub fn file_word(file: FileKind) -> &'static str
         FileKind::Stoch => "stoch",
         FileKind::Edits => "edits",
         FileKind::Report => "report",
-        FileKind::Trace => "trace",
+        FileKind::Basis => "basis",
+        FileKind::Measures => "value",
     }
 }
 
@@ -30,11 +31,12 @@ pub fn file_word(file: FileKind) -> &'static str
 pub enum Status {
     /// The command ended, and nothing is left open.
     Done,
-    /// The command ended, and a report is OPEN, or doesn't hold where reports are checked.
+    /// The command ended, and a report is OPEN, or doesn't hold where reports are checked or printed as tables, or a number of `value` is
+    /// none.
     SomeOpen,
     /// The words aren't those of a command.
     Words,
-    /// The file is refused at this line (counted from 1) for this cause.
+    /// The file is refused at this line (counted from 1; 0 for the file as a whole) for this cause.
     Refused(FileKind, u32, Cause),
     /// The file has more than 8,388,608 bytes.
     TooLong(FileKind),

@@ -57,6 +57,8 @@ pub(crate) fn meant(
         stoch: bytes_if(alloc, source.stoch)?,
         edits: bytes_if(alloc, edits)?,
         report: None,
+        basis: None,
+        measures: None,
     };
     match read_program(alloc, &texts) {
         Ok(program) => edited(alloc, &texts, program),

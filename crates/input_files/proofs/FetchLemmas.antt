@@ -7,6 +7,7 @@ use Rattle.smps_io.specs.Fetches.{FetchesPrefix}
 use Rattle.smps_io.specs.Files.{Files}
 use Rattle.command_words.specs.Commands.{FileNames}
 use Rattle.input_files.specs.declared.kind.FileKind.{FileKind}
+use Rattle.input_files.specs.declared.kind.FileKind.TheVariants as kind
 use Rattle.input_files.specs.declared.fetch.Unfetched.{Unfetched}
 use Rattle.input_files.specs.declared.fetch.Unfetched.TheVariants.{Failed, TooLong, Memory}
 use Rattle.input_files.specs.Fetched.{StopsAt, names_in_order, names_before, name_of}
@@ -40,74 +41,85 @@ with_more before first more now h =
 
 -- a prefix of the names up to a file is one of all names
 module _ (names : FileNames) (before now : List (List ℕ)) where
-  up_to_edits : FetchesPrefix before (names.core ∷ option_to_list names.time ++ option_to_list names.stoch ++ option_to_list names.edits) now
-      → FetchesPrefix before (names_in_order names) now
-  up_to_edits h = with_more before (names.core ∷ option_to_list names.time ++ option_to_list names.stoch ++ option_to_list names.edits)
-      (option_to_list names.report) now h
+  up_to_basis : FetchesPrefix before (names_before names kind.Measures) now → FetchesPrefix before (names_in_order names) now
+  up_to_basis h = with_more before (names_before names kind.Measures) (option_to_list names.measures) now h
 
-  up_to_stoch : FetchesPrefix before (names.core ∷ option_to_list names.time ++ option_to_list names.stoch) now
-      → FetchesPrefix before (names_in_order names) now
-  up_to_stoch h = up_to_edits (with_more before (names.core ∷ option_to_list names.time ++ option_to_list names.stoch)
-      (option_to_list names.edits) now h)
+  up_to_report : FetchesPrefix before (names_before names kind.Basis) now → FetchesPrefix before (names_in_order names) now
+  up_to_report h = up_to_basis (with_more before (names_before names kind.Basis) (option_to_list names.basis) now h)
 
-  up_to_time : FetchesPrefix before (names.core ∷ option_to_list names.time) now → FetchesPrefix before (names_in_order names) now
-  up_to_time h = up_to_stoch (with_more before (names.core ∷ option_to_list names.time) (option_to_list names.stoch) now h)
+  up_to_edits : FetchesPrefix before (names_before names kind.Report) now → FetchesPrefix before (names_in_order names) now
+  up_to_edits h = up_to_report (with_more before (names_before names kind.Report) (option_to_list names.report) now h)
+
+  up_to_stoch : FetchesPrefix before (names_before names kind.Edits) now → FetchesPrefix before (names_in_order names) now
+  up_to_stoch h = up_to_edits (with_more before (names_before names kind.Edits) (option_to_list names.edits) now h)
+
+  up_to_time : FetchesPrefix before (names_before names kind.Stoch) now → FetchesPrefix before (names_in_order names) now
+  up_to_time h = up_to_stoch (with_more before (names_before names kind.Stoch) (option_to_list names.stoch) now h)
+
+  up_to_core : FetchesPrefix before (names_before names kind.Time) now → FetchesPrefix before (names_in_order names) now
+  up_to_core h = up_to_time (with_more before (names_before names kind.Time) (option_to_list names.time) now h)
 
   pub in_core : FetchesPrefix before (names.core ∷ []) now → FetchesPrefix before (names_in_order names) now
-  in_core h = up_to_time (with_more before (names.core ∷ []) (option_to_list names.time) now h)
+  in_core h = up_to_core h
 
-  pub in_time : (mid : List (List ℕ)) → mid ≡ before ++ names.core ∷ [] → FetchesPrefix mid (option_to_list names.time) now
+  pub in_time : (mid : List (List ℕ)) → mid ≡ before ++ names_before names kind.Time → FetchesPrefix mid (option_to_list names.time) now
       → FetchesPrefix before (names_in_order names) now
-  in_time mid e h = up_to_time (fetched_behind before (names.core ∷ []) (option_to_list names.time) mid now e h)
+  in_time mid e h = up_to_time (fetched_behind before (names_before names kind.Time) (option_to_list names.time) mid now e h)
 
-  pub in_stoch : (mid : List (List ℕ)) → mid ≡ before ++ (names.core ∷ option_to_list names.time)
-      → FetchesPrefix mid (option_to_list names.stoch) now → FetchesPrefix before (names_in_order names) now
-  in_stoch mid e h = up_to_stoch
-      (fetched_behind before (names.core ∷ option_to_list names.time) (option_to_list names.stoch) mid now e h)
+  pub in_stoch : (mid : List (List ℕ)) → mid ≡ before ++ names_before names kind.Stoch → FetchesPrefix mid (option_to_list names.stoch) now
+      → FetchesPrefix before (names_in_order names) now
+  in_stoch mid e h = up_to_stoch (fetched_behind before (names_before names kind.Stoch) (option_to_list names.stoch) mid now e h)
 
-  pub in_edits : (mid : List (List ℕ)) → mid ≡ before ++ (names.core ∷ option_to_list names.time ++ option_to_list names.stoch)
-      → FetchesPrefix mid (option_to_list names.edits) now → FetchesPrefix before (names_in_order names) now
-  in_edits mid e h = up_to_edits
-      (fetched_behind before (names.core ∷ option_to_list names.time ++ option_to_list names.stoch) (option_to_list names.edits) mid now e h)
+  pub in_edits : (mid : List (List ℕ)) → mid ≡ before ++ names_before names kind.Edits → FetchesPrefix mid (option_to_list names.edits) now
+      → FetchesPrefix before (names_in_order names) now
+  in_edits mid e h = up_to_edits (fetched_behind before (names_before names kind.Edits) (option_to_list names.edits) mid now e h)
 
-  pub in_report : (mid : List (List ℕ))
-      → mid ≡ before ++ (names.core ∷ option_to_list names.time ++ option_to_list names.stoch ++ option_to_list names.edits)
-      → FetchesPrefix mid (option_to_list names.report) now → FetchesPrefix before (names_in_order names) now
-  in_report mid e h = fetched_behind before
-      (names.core ∷ option_to_list names.time ++ option_to_list names.stoch ++ option_to_list names.edits) (option_to_list names.report) mid now e h
+  pub in_report : (mid : List (List ℕ)) → mid ≡ before ++ names_before names kind.Report → FetchesPrefix mid (option_to_list names.report) now
+      → FetchesPrefix before (names_in_order names) now
+  in_report mid e h = up_to_report (fetched_behind before (names_before names kind.Report) (option_to_list names.report) mid now e h)
+
+  pub in_basis : (mid : List (List ℕ)) → mid ≡ before ++ names_before names kind.Basis → FetchesPrefix mid (option_to_list names.basis) now
+      → FetchesPrefix before (names_in_order names) now
+  in_basis mid e h = up_to_basis (fetched_behind before (names_before names kind.Basis) (option_to_list names.basis) mid now e h)
+
+  pub in_measures : (mid : List (List ℕ)) → mid ≡ before ++ names_before names kind.Measures → FetchesPrefix mid (option_to_list names.measures) now
+      → FetchesPrefix before (names_in_order names) now
+  in_measures mid e h = fetched_behind before (names_before names kind.Measures) (option_to_list names.measures) mid now e h
 
 -- the names that were fetched up to a file
 module _ (names : FileNames) (before one two : List (List ℕ)) where
-  pub to_time : one ≡ before ++ names.core ∷ [] → two ≡ one ++ option_to_list names.time → two ≡ before ++ (names.core ∷ option_to_list names.time)
-  to_time e f = names_behind before (names.core ∷ []) (option_to_list names.time) one two e f
+  pub to_time : one ≡ before ++ names_before names kind.Time → two ≡ one ++ option_to_list names.time → two ≡ before ++ names_before names kind.Stoch
+  to_time e f = names_behind before (names_before names kind.Time) (option_to_list names.time) one two e f
 
-  pub to_stoch : one ≡ before ++ (names.core ∷ option_to_list names.time) → two ≡ one ++ option_to_list names.stoch
-      → two ≡ before ++ (names.core ∷ option_to_list names.time ++ option_to_list names.stoch)
-  to_stoch e f = names_behind before (names.core ∷ option_to_list names.time) (option_to_list names.stoch) one two e f
+  pub to_stoch : one ≡ before ++ names_before names kind.Stoch → two ≡ one ++ option_to_list names.stoch → two ≡ before ++ names_before names kind.Edits
+  to_stoch e f = names_behind before (names_before names kind.Stoch) (option_to_list names.stoch) one two e f
 
-  pub to_edits : one ≡ before ++ (names.core ∷ option_to_list names.time ++ option_to_list names.stoch) → two ≡ one ++ option_to_list names.edits
-      → two ≡ before ++ (names.core ∷ option_to_list names.time ++ option_to_list names.stoch ++ option_to_list names.edits)
-  to_edits e f = names_behind before (names.core ∷ option_to_list names.time ++ option_to_list names.stoch) (option_to_list names.edits) one two e f
+  pub to_edits : one ≡ before ++ names_before names kind.Edits → two ≡ one ++ option_to_list names.edits → two ≡ before ++ names_before names kind.Report
+  to_edits e f = names_behind before (names_before names kind.Edits) (option_to_list names.edits) one two e f
 
-  pub to_report : one ≡ before ++ (names.core ∷ option_to_list names.time ++ option_to_list names.stoch ++ option_to_list names.edits)
-      → two ≡ one ++ option_to_list names.report → two ≡ before ++ names_in_order names
-  to_report e f = names_behind before (names.core ∷ option_to_list names.time ++ option_to_list names.stoch ++ option_to_list names.edits)
-      (option_to_list names.report) one two e f
+  pub to_report : one ≡ before ++ names_before names kind.Report → two ≡ one ++ option_to_list names.report → two ≡ before ++ names_before names kind.Basis
+  to_report e f = names_behind before (names_before names kind.Report) (option_to_list names.report) one two e f
+
+  pub to_basis : one ≡ before ++ names_before names kind.Basis → two ≡ one ++ option_to_list names.basis → two ≡ before ++ names_before names kind.Measures
+  to_basis e f = names_behind before (names_before names kind.Basis) (option_to_list names.basis) one two e f
+
+  pub to_measures : one ≡ before ++ names_before names kind.Measures → two ≡ one ++ option_to_list names.measures → two ≡ before ++ names_in_order names
+  to_measures e f = names_behind before (names_before names kind.Measures) (option_to_list names.measures) one two e f
 
 -- a fault of a file stops the fetches at it
-module _ (names : FileNames) (content : Option Files) (kind : FileKind) (before mid now : List (List ℕ)) (e : mid ≡ before ++ names_before names kind) where
-  stops_at : (of : FileKind) (name : List ℕ) → name_of names kind ≡ Some name → of ≡ kind → now ≡ mid ++ name ∷ [] → StopsAt names of before now
+module _ (names : FileNames) (content : Option Files) (file : FileKind) (before mid now : List (List ℕ)) (e : mid ≡ before ++ names_before names file) where
+  stops_at : (of : FileKind) (name : List ℕ) → name_of names file ≡ Some name → of ≡ file → now ≡ mid ++ name ∷ [] → StopsAt names of before now
   stops_at of name named same h =
       subst (λ (k : FileKind). StopsAt names k before now) (sym same)
-      (name, named, names_behind before (names_before names kind) (name ∷ []) mid now e h)
+      (name, named, names_behind before (names_before names file) (name ∷ []) mid now e h)
 
-  pub stops_of : (name : List ℕ) → name_of names kind ≡ Some name → (fault : Unfetched) → IsCauseOf content name kind fault
+  pub stops_of : (name : List ℕ) → name_of names file ≡ Some name → (fault : Unfetched) → IsCauseOf content name file fault
       → (fault ≢ Memory → now ≡ mid ++ name ∷ []) → StopsBy names fault before now
   stops_of name named (Failed of) cause h = stops_at of name named cause (h (λ e. cc))
   stops_of name named (TooLong of) cause h = stops_at of name named cause.0 (h (λ e. cc))
   stops_of name named Memory cause h = tt
 
-  pub stops_if : (named : Option (List ℕ)) → name_of names kind ≡ named → (fault : Unfetched) → IsCauseIf content named kind fault
+  pub stops_if : (named : Option (List ℕ)) → name_of names file ≡ named → (fault : Unfetched) → IsCauseIf content named file fault
       → (fault ≢ Memory → now ≡ mid ++ option_to_list named) → StopsBy names fault before now
   stops_if None is fault cause h = absurd cause
   stops_if (Some name) is fault cause h = stops_of name is fault cause h

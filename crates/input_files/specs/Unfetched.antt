@@ -22,6 +22,8 @@ texts_view t = record {
   stoch = given_bytes t.stoch;
   edits = given_bytes t.edits;
   report = given_bytes t.report;
+  basis = given_bytes t.basis;
+  measures = given_bytes t.measures;
 }
 
 -- what the fault of one file says of it

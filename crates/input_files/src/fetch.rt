@@ -25,6 +25,8 @@ pub struct Texts {
     pub stoch: Option<Vec<u8>>,
     pub edits: Option<Vec<u8>>,
     pub report: Option<Vec<u8>>,
+    pub basis: Option<Vec<u8>>,
+    pub measures: Option<Vec<u8>>,
 }
 
 /// Why a file wasn't fetched.
@@ -94,8 +96,8 @@ fn fetched_if<R: Files, H: Shelf>(
     }
 }
 
-/// The bytes of all files that are named. They are fetched in the order core, time, stoch, edits, report, each once, up to the first
-/// that isn't given.
+/// The bytes of all files that are named. They are fetched in the order core, time, stoch, edits, report, basis, measures, each once,
+/// up to the first that isn't given.
 pub fn fetched_texts<R: Files, H: Shelf>(
     rt: &R,
     alloc: Global,
@@ -127,13 +129,23 @@ pub fn fetched_texts<R: Files, H: Shelf>(
         Ok(bytes) => bytes,
         Err(fault) => return Err(fault),
     };
-    match fetched_if(rt, alloc, shelf, FileKind::Report, sources.report) {
-        Ok(report) => Ok(Texts {
+    let report = match fetched_if(rt, alloc, shelf, FileKind::Report, sources.report) {
+        Ok(bytes) => bytes,
+        Err(fault) => return Err(fault),
+    };
+    let basis = match fetched_if(rt, alloc, shelf, FileKind::Basis, sources.basis) {
+        Ok(bytes) => bytes,
+        Err(fault) => return Err(fault),
+    };
+    match fetched_if(rt, alloc, shelf, FileKind::Measures, sources.measures) {
+        Ok(measures) => Ok(Texts {
             core,
             time,
             stoch,
             edits,
             report,
+            basis,
+            measures,
         }),
         Err(fault) => Err(fault),
     }

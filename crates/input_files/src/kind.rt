@@ -8,5 +8,7 @@ pub enum FileKind {
     Stoch,
     Edits,
     Report,
-    Trace,
+    Basis,
+    /// What the command `value` printed.
+    Measures,
 }

@@ -70,12 +70,13 @@ also where a column has that name",
             "that scenario is the only one, so that it stays, and its probability is 1",
         Cause::ScriptLimit => "that command is the 10,001st, and an edit list has at most 10,000",
         Cause::Passes(_) => passing(file),
-        Cause::ReportBad => "a report has another line there, or no further report is asked for",
+        Cause::ReportBad => other_line(file),
         Cause::FlatLimit =>
             "all nodes together have more than 4,000 constraints, 4,000 columns or 100,000 entries, the most of a core file that is \
 read here; with --whole, for other solvers, more than 10,000,000 entries",
         Cause::TailName =>
             "a column is named TAIL_H or TAIL_U, or a row TAIL_R: names that --tail adds itself",
+        Cause::BasisBad => "that line isn't one of a basis of the program, or the file is cut off",
         Cause::TraceBad => "no command has that cause",
     }
 }
@@ -95,6 +96,14 @@ fn twice(file: FileKind) -> &'static str {
         FileKind::Stoch =>
             "that entry is set twice: in another block or entry of INDEP, or twice in this case or scenario",
         _ => "that row is named twice, in a column or in the set of RHS or RANGES that is used",
+    }
+}
+
+/// Which line doesn't stand where it stands.
+fn other_line(file: FileKind) -> &'static str {
+    match file {
+        FileKind::Measures => "value prints another line there, or its output is cut off",
+        _ => "a report has another line there, or no further report is asked for",
     }
 }
 

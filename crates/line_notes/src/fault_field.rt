@@ -99,7 +99,7 @@ fn where_at_fault(
         FileKind::Time => Some(Places::One(time_place(bases.core, at, cause)?)),
         FileKind::Stoch => stoch_places(bases, at, cause),
         FileKind::Edits => edit_places(at, cause),
-        FileKind::Report | FileKind::Trace => None,
+        FileKind::Report | FileKind::Basis | FileKind::Measures => None,
     }
 }
 

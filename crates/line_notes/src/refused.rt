@@ -102,7 +102,7 @@ fn stage_reason(
 /// Why a file of these bytes is refused.
 fn reason_of(file: FileKind, bytes: &[u8], number: u32, cause: Cause) -> &'static str {
     match cause {
-        Cause::ReportBad => report_fault(bytes, number),
+        Cause::ReportBad if matches!(file, FileKind::Report) => report_fault(bytes, number),
         _ => sentence(file, cause),
     }
 }

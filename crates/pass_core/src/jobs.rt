@@ -71,8 +71,11 @@ impl Job {
 }
 
 /// A thread is worth its start where it has so much to do: it starts in some 40 microseconds, and an entry is looked at in some 20
-/// nanoseconds.
-const WORTH: u64 = 20_000;
+/// nanoseconds. By measurement it pays from some 100 microseconds on.
+const WORTH: u64 = 5_000;
+
+/// What the smallest node has to do.
+const LEAST: u64 = 100;
 
 /// In how many threads they are worth solving: in one at least, and in as many as there are workers at most.
 fn threads_for(jobs: &[Job], workers: u32) -> usize
@@ -80,7 +83,7 @@ fn threads_for(jobs: &[Job], workers: u32) -> usize
 {
     let mut all: u64 = 0;
     for job in jobs {
-        all = all.saturating_add(effort(&job.begun.task));
+        all = all.saturating_add(effort(&job.begun.task).max(LEAST));
     }
     (all / WORTH).min(workers as u64).max(1) as usize
 }

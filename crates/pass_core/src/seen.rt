@@ -18,6 +18,8 @@ impl State {
     pub fn seen(&self) -> Seen {
         Seen {
             kind: self.kind,
+            round: self.table.round(),
+            waiting: self.table.waiting(),
             solves: self.counts.since_report,
             lower: self.ends.lower.as_ref().map(value),
             upper: self.ends.upper.as_ref().map(cost),

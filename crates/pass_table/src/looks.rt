@@ -82,3 +82,19 @@ pub fn are_good(nodes: &mut Marks, parents: &[u32], solves: &[Solve]) -> bool
     }
     true
 }
+
+/// How many nodes aren't fresh.
+pub fn count_waiting(parents: &[u32], solves: &[Solve]) -> u64
+    requires sizes { length solves.now ≡ length parents.now }
+    requires rising { IsRising parents.now }
+{
+    let mut waiting: u64 = 0;
+    for place in 0..parents.len() {
+        if let Ok(node) = u32::try_from(place) {
+            if !is_fresh(parents, solves, node) {
+                waiting = waiting.saturating_add(1);
+            }
+        }
+    }
+    waiting
+}

@@ -19,7 +19,12 @@ pub struct Rounds {
     waiting: Marks,
     met: Vec<bool>,
     waits: Vec<bool>,
+    /// Which round the present one is since the set was cleared. No contract sees it.
+    round: u64,
 }
+
+/// The round that begins where the set is cleared.
+const FIRST_ROUND: u64 = 1;
 
 impl Model for Rounds {
     ghost use Rattle.pass_table.specs.Rounds.{Round, either, IsSplit};
@@ -42,7 +47,13 @@ impl Rounds {
             waiting: Marks::new(alloc, bound)?,
             met: vec![in alloc; false; bound as usize]?,
             waits: vec![in alloc; false; bound as usize]?,
+            round: FIRST_ROUND,
         })
+    }
+
+    /// Which round the present one is since the set was cleared, counted from 1.
+    pub fn round(&self) -> u64 {
+        self.round
     }
 
     /// The number that comes first.
@@ -116,6 +127,7 @@ impl Rounds {
         if self.waits[number as usize] {
             mem::swap(&mut self.coming, &mut self.waiting);
             self.waits.as_mut_slice().fill(false);
+            self.round = self.round.saturating_add(1);
         }
         self.waits[number as usize] = true;
     }
@@ -141,5 +153,6 @@ impl Rounds {
         self.waiting.clear();
         self.met.as_mut_slice().fill(false);
         self.waits.as_mut_slice().fill(false);
+        self.round = FIRST_ROUND;
     }
 }

@@ -7,7 +7,7 @@ ghost use Rattle.pass_table.specs.Readings.{AreWithin};
 ghost use Rattle.pass_table.specs.Rounds.{root_round};
 
 use crate::flights::is_under_way;
-use crate::looks::{are_good, are_open, next_free};
+use crate::looks::{are_good, are_open, count_waiting, next_free};
 use crate::readings::{are_present, insert_family, insert_in_rounds};
 use crate::{Marks, Rounds};
 use std::alloc::{AllocError, Global};
@@ -148,6 +148,16 @@ impl Table {
         ensures { result ≡ self.now.run }
     {
         self.run
+    }
+
+    /// Which round of the present run this is, counted from 1.
+    pub fn round(&self) -> u64 {
+        self.candidates.round()
+    }
+
+    /// How many nodes aren't fresh.
+    pub fn waiting(&self) -> u64 {
+        count_waiting(&self.parents, &self.solves)
     }
 
     /// The worker's solve in flight.

@@ -21,6 +21,8 @@ pub record AreWithin (texts : Texts) : Type 0 where
   pub stoch : IfSome texts.stoch (λ text. length text ≤ file_limit)
   pub edits : IfSome texts.edits (λ text. length text ≤ file_limit)
   pub report : IfSome texts.report (λ text. length text ≤ file_limit)
+  pub basis : IfSome texts.basis (λ text. length text ≤ file_limit)
+  pub measures : IfSome texts.measures (λ text. length text ≤ file_limit)
 
 -- No line is at fault and no section is missing, and the text means this core.
 pub record MeansCore (text : List ℕ) (core : Core) : Type 0 where

@@ -55,3 +55,4 @@ number_of_cause cause.ReportBad = 58
 number_of_cause cause.TraceBad = 59
 number_of_cause cause.FlatLimit = 60
 number_of_cause cause.TailName = 61
+number_of_cause cause.BasisBad = 62

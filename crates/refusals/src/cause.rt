@@ -108,6 +108,8 @@ pub enum Cause {
     FlatLimit,
     /// 61: a name of the core is one that the program with tail risk needs.
     TailName,
+    /// 62: a line isn't one of a basis file of the program there, or a basis file is cut off.
+    BasisBad,
 }
 
 impl Cause {
@@ -169,6 +171,7 @@ impl Cause {
             Cause::TraceBad => 59,
             Cause::FlatLimit => 60,
             Cause::TailName => 61,
+            Cause::BasisBad => 62,
         }
     }
 }

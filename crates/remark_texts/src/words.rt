@@ -7,11 +7,14 @@ use std::test::Fail;
 const TAKEN: &str = "\
 solve --core F
 solve --core=F --time T --stoch=S --edits E --solves 3 --pivots=1000000000 --workers 1
+solve --core F --workers 64
 solve --core F --quiet
 solve --quiet --core F --solves 3
+solve --quiet=yes --core F
 show --edits=E --stoch S --time=T=1 --core a=b
 flat --core F --time=T --stoch S --edits E
 flat --whole --core F
+flat --core F --whole=yes
 value --core F --time T
 value --core F --quiet --time T
 value --workers 1 --pivots=7 --stoch S --solves 3 --time=T --core=F
@@ -20,11 +23,14 @@ check --report R --edits E --stoch S --time T --core F
 solve --core F --tail 1/2 --weight 1
 solve --weight=0.25 --core F --tail=0 --time T
 check --core F --report R --tail=0.95 --weight 1/4
+solve --core F --basis B
+solve --basis=B --time T --core F --solves 3 --quiet
 table --core F --report=R
 table --report R --edits E --stoch S --time T --core=F --number 1 --form text
 table --report R --core F --number=10001 --form=csv
 table --report R --core F --form json
 table --report R --core F --form=html
+table --report R --core F --form=html --value V
 make --start 0 --stages 2 --branches 2 --size 1
 make --start 0 --stages 2 --branches 2 --size 1 --quiet
 make --size=20 --branches=4 --stages=6 --start=65536 --text=core

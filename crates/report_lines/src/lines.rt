@@ -2,7 +2,9 @@
 use crate::amounts::{put, put_amount, put_whole};
 use crate::parts::{name_cell, put_columns, put_rows};
 use frac128::Memory;
-use report_table::{Table, finding_word, print_finding, put_count};
+use report_table::{
+    Table, are_of_other_program, finding_word, measure_lines, print_finding, put_count,
+};
 use report_values::{Amount, gap};
 use scen_defs::Scenario;
 use scen_nodes::find;
@@ -188,11 +190,38 @@ fn put_scenarios(alloc: Global, out: &mut Vec<u8>, table: &Table<'_>) -> Result<
     Ok(())
 }
 
+/// Appends what `value` printed, where that is shown: each number, and what it is.
+fn put_worth(alloc: Global, out: &mut Vec<u8>, table: &Table<'_>) -> Result<(), Memory> {
+    let Some(measures) = &table.measures else {
+        return Ok(());
+    };
+    put(
+        out,
+        "\nVALUE OF INFORMATION, read from what value printed, not proved by this run\n",
+    )?;
+    if are_of_other_program(measures, table.report) {
+        put(
+            out,
+            "of another program than this report: RP is another number than its least cost\n",
+        )?;
+    }
+    for line in &measure_lines(measures) {
+        put(out, line.name)?;
+        put(out, " ")?;
+        put_whole(alloc, out, line.amount)?;
+        put(out, ", ")?;
+        put(out, line.words)?;
+        put(out, "\n")?;
+    }
+    Ok(())
+}
+
 /// The table as text.
 pub fn print_text(alloc: Global, table: &Table<'_>) -> Result<Vec<u8>, Memory> {
     let mut out = Vec::new(alloc);
     put_outcome(alloc, &mut out, table)?;
     put_first(alloc, &mut out, table)?;
+    put_worth(alloc, &mut out, table)?;
     put_scenarios(alloc, &mut out, table)?;
     Ok(out)
 }

@@ -10,5 +10,6 @@ mod page;
 mod scale;
 mod tables;
 mod tree;
+mod worth;
 
 pub use page::print_page;

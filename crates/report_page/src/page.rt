@@ -4,6 +4,7 @@ use crate::escape::{put, put_escaped};
 use crate::frame::{BODY, HEAD, TAIL};
 use crate::tables::{put_columns, put_ends, put_first, put_first_period, put_rows, put_scenarios};
 use crate::tree::put_tree;
+use crate::worth::put_worth;
 use frac128::Memory;
 use report_table::{Table, finding_word, print_finding, put_count};
 use std::alloc::Global;
@@ -30,7 +31,7 @@ fn put_top(alloc: Global, out: &mut Vec<u8>, table: &Table<'_>) -> Result<(), Me
     put_ends(alloc, out, table)
 }
 
-/// Appends the first decisions, the tree and the scenarios.
+/// Appends the first decisions, the tree, what information and the model are worth, and the scenarios.
 fn put_overview(alloc: Global, out: &mut Vec<u8>, table: &Table<'_>) -> Result<(), Memory> {
     put(out, "<h2>First decisions, period ")?;
     put_first_period(alloc, out, table)?;
@@ -38,6 +39,7 @@ fn put_overview(alloc: Global, out: &mut Vec<u8>, table: &Table<'_>) -> Result<(
     put_first(alloc, out, table)?;
     put(out, "<h2>The tree</h2>\n")?;
     put_tree(alloc, out, table)?;
+    put_worth(alloc, out, table)?;
     put(
         out,
         "<h2>Costs by scenario</h2>\n<p>How likely a cost of at most so much is:</p>\n",

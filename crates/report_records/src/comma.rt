@@ -2,7 +2,8 @@
 use csv::{Terminator, Writer, WriterBuilder};
 use frac128::Memory;
 use report_table::{
-    Table, decimal_text, exact_text, finding_word, print_finding, put_count, shown_name,
+    MeasureLine, Table, are_of_other_program, decimal_text, exact_text, finding_word,
+    measure_lines, print_finding, put_count, shown_name,
 };
 use report_values::{Amount, ColumnCells, RowCells, gap};
 use scen_defs::Scenario;
@@ -180,6 +181,46 @@ fn put_report(alloc: Global, records: &mut Records, table: &Table<'_>) -> Result
     record_line(alloc, records, &head, &numbers, &words)
 }
 
+/// Writes the record of a number that `value` printed.
+fn put_measure(
+    alloc: Global,
+    records: &mut Records,
+    line: &MeasureLine,
+    source: &str,
+) -> Result<(), Memory> {
+    let head = Head {
+        kind: "measure",
+        name: line.name.as_bytes(),
+        node: None,
+        parent: None,
+        period: b"",
+        scenarios: None,
+    };
+    let numbers = Numbers {
+        value: line.amount,
+        ..NONE
+    };
+    let what = line.words;
+    let words = format!(in alloc; "{source}: {what}")?;
+    record_line(alloc, records, &head, &numbers, words.as_bytes())
+}
+
+/// Writes the records of the six numbers, where they are shown.
+fn put_measures(alloc: Global, records: &mut Records, table: &Table<'_>) -> Result<(), Memory> {
+    let Some(measures) = &table.measures else {
+        return Ok(());
+    };
+    let source = if are_of_other_program(measures, table.report) {
+        "read, not proved, of another program"
+    } else {
+        "read, not proved"
+    };
+    for line in &measure_lines(measures) {
+        put_measure(alloc, records, line, source)?;
+    }
+    Ok(())
+}
+
 /// Where a node stands.
 #[derive(Drop)]
 struct Spot<'a> {
@@ -334,12 +375,13 @@ fn put_fields(records: &mut Records) -> Result<(), Memory> {
     end(records)
 }
 
-/// The table as comma-separated values (RFC 4180): a record with the names of the fields, one for the report, one for each column and row
-/// of each node, by node, and one for each scenario.
+/// The table as comma-separated values (RFC 4180): a record with the names of the fields, one for the report, one for each number that
+/// `value` printed, where these are shown, one for each column and row of each node, by node, and one for each scenario.
 pub fn print_csv(alloc: Global, table: &Table<'_>) -> Result<Vec<u8>, Memory> {
     let mut records = csv_writer(alloc);
     put_fields(&mut records)?;
     put_report(alloc, &mut records, table)?;
+    put_measures(alloc, &mut records, table)?;
     put_nodes(alloc, &mut records, table)?;
     put_scenarios(alloc, &mut records, table)?;
     match records.into_inner() {

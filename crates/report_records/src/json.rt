@@ -1,7 +1,8 @@
 //! The table as one JSON object, written piece by piece, so that no tree of it is kept.
 use frac128::Memory;
 use report_table::{
-    Table, decimal_text, exact_text, finding_word, print_finding, put_count, shown_name,
+    Table, are_of_other_program, decimal_text, exact_text, finding_word, measure_lines,
+    print_finding, put_count, shown_name,
 };
 use report_values::{Amount, ColumnCells, RowCells, are_of_ray, gap};
 use scen_defs::{Node, Report, Scenario};
@@ -317,11 +318,31 @@ fn put_outcome(alloc: Global, out: &mut Vec<u8>, table: &Table<'_>) -> Result<()
     put(out, multiplier_word(table))
 }
 
+/// Appends what `value` printed, where that is shown.
+fn put_measures(alloc: Global, out: &mut Vec<u8>, table: &Table<'_>) -> Result<(), Memory> {
+    let Some(measures) = &table.measures else {
+        return Ok(());
+    };
+    let is_of_other_program = if are_of_other_program(measures, table.report) {
+        "true"
+    } else {
+        "false"
+    };
+    put_key(out, "measures")?;
+    put(out, "{\"proved\":false,\"other_program\":")?;
+    put(out, is_of_other_program)?;
+    for line in &measure_lines(measures) {
+        put_keyed(alloc, out, line.name, line.amount)?;
+    }
+    put(out, "}")
+}
+
 /// The table as one JSON object, with a line feed after it.
 pub fn print_json(alloc: Global, table: &Table<'_>) -> Result<Vec<u8>, Memory> {
     let names = quoted_names(alloc, table)?;
     let mut out = Vec::new(alloc);
     put_outcome(alloc, &mut out, table)?;
+    put_measures(alloc, &mut out, table)?;
     put_key(&mut out, "first")?;
     put_columns(alloc, &mut out, table, &names, 0)?;
     put_key(&mut out, "scenarios")?;

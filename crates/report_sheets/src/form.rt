@@ -7,15 +7,17 @@ use report_records::{print_csv, print_json};
 use report_table::Table;
 use scen_defs::{Program, Report};
 use std::alloc::Global;
+use value_reader::StatedMeasures;
 
-/// A report, and what follows of it for its program, in a form.
+/// A report, what follows of it for its program, and what `value` printed, where that is shown, in a form.
 pub(crate) fn formed(
     alloc: Global,
     program: &Program,
     report: &Report,
+    measures: Option<StatedMeasures>,
     form: SheetForm,
 ) -> Result<Vec<u8>, Memory> {
-    let table = Table::of(alloc, program, report)?;
+    let table = Table::of(alloc, program, report, measures)?;
     match form {
         SheetForm::Text => print_text(alloc, &table),
         SheetForm::Csv => print_csv(alloc, &table),

@@ -14,6 +14,7 @@ use frac128::Memory;
 use scen_defs::{Program, Report};
 use script_checks::{Checked, check_single};
 use std::alloc::Global;
+use value_reader::StatedMeasures;
 
 /// Why no report is shown.
 #[derive(Debug, Drop)]
@@ -27,7 +28,8 @@ pub enum NoSheet {
 }
 
 /// The report of a list that is asked for, in the form that is: tested against the program after the edits
-/// before its SOLVE, and shown only where all that it claims holds. The program is then as these edits left it.
+/// before its SOLVE, and shown only where all that it claims holds. The program is then as these edits left it. What `value` printed is
+/// shown beside it where it is given, and not tested.
 ///
 /// `Missing` comes where there is no such report, `Unproved` where a claim of it fails or an operation of the test passes 128 bits.
 pub fn print_sheet(
@@ -35,6 +37,7 @@ pub fn print_sheet(
     program: &mut Program,
     script: &Script,
     reports: &[Report],
+    measures: Option<StatedMeasures>,
     sheet: Sheet,
 ) -> Result<Vec<u8>, NoSheet>
     requires allowed { AreAllowed (content program.old) script.now.items.items }
@@ -46,7 +49,7 @@ pub fn print_sheet(
     };
     let report = &reports[place];
     match edit_up_to(alloc, program, script, place) {
-        Ok(()) => tested(alloc, program, report, sheet.form),
+        Ok(()) => tested(alloc, program, report, measures, sheet.form),
         Err(Memory) => Err(NoSheet::Memory),
     }
 }
@@ -56,13 +59,14 @@ fn tested(
     alloc: Global,
     program: &Program,
     report: &Report,
+    measures: Option<StatedMeasures>,
     form: SheetForm,
 ) -> Result<Vec<u8>, NoSheet>
     ensures shown { IfOk result (λ page. HoldsFor (content program.now) report.now) }
     ensures why { IfErr result (FailsTest (content program.now) report.now) }
 {
     match check_single(alloc, program, report) {
-        Ok(check) => judged(alloc, program, report, form, check),
+        Ok(check) => judged(alloc, program, report, measures, form, check),
         Err(Memory) => Err(NoSheet::Memory),
     }
 }
@@ -72,6 +76,7 @@ fn judged(
     alloc: Global,
     program: &Program,
     report: &Report,
+    measures: Option<StatedMeasures>,
     form: SheetForm,
     check: Checked,
 ) -> Result<Vec<u8>, NoSheet>
@@ -82,7 +87,7 @@ fn judged(
     if !check.holds() {
         return Err(NoSheet::Unproved(check));
     }
-    match formed(alloc, program, report, form) {
+    match formed(alloc, program, report, measures, form) {
         Ok(page) => Ok(page),
         Err(Memory) => Err(NoSheet::Memory),
     }

@@ -2,11 +2,13 @@
 //! words.
 #![tactic(auto)]
 
+mod measures;
 mod names;
 mod numbers;
 mod table;
 mod words;
 
+pub use measures::{MeasureLine, are_of_other_program, measure_lines};
 pub use names::{short_name, shown_name};
 pub use numbers::{decimal_text, exact_text, put_count};
 pub use table::Table;

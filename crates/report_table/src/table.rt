@@ -3,13 +3,15 @@ use frac128::Memory;
 use report_values::{ColumnCells, ReportValues, RowCells};
 use scen_defs::{Program, Report};
 use std::alloc::Global;
+use value_reader::StatedMeasures;
 
-/// A program, a report of it, and what a table shows of both.
+/// A program, a report of it, what a table shows of both, and what `value` printed, where that is shown too.
 #[derive(Drop)]
 pub struct Table<'a> {
     pub program: &'a Program,
     pub report: &'a Report,
     pub values: ReportValues,
+    pub measures: Option<StatedMeasures>,
 }
 
 impl<'a> Table<'a> {
@@ -18,12 +20,14 @@ impl<'a> Table<'a> {
         alloc: Global,
         program: &'a Program,
         report: &'a Report,
+        measures: Option<StatedMeasures>,
     ) -> Result<Table<'a>, Memory> {
         let values = ReportValues::of(alloc, program, report)?;
         Ok(Table {
             program,
             report,
             values,
+            measures,
         })
     }
 

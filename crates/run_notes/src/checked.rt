@@ -14,7 +14,7 @@ const PASSED: &str =
     "tidzgheba: whether a report holds isn't said: PASSED names an operation of the check whose result doesn't fit into 128 bits; \
 fewer significant digits in the report or in the data help\n";
 
-/// Appends what is said of reports that don't hold, of those of which it isn't said, and of those that are wanting.
+/// Appends what is said of reports that don't hold, of those of which it isn't said, and of those that are missing.
 pub fn put_checked(text: &mut String, fetched: &Fetched, found: &Checks) -> Result<(), AllocError> {
     if found
         .checks
@@ -29,19 +29,19 @@ pub fn put_checked(text: &mut String, fetched: &Fetched, found: &Checks) -> Resu
     let stated = found.checks.len() as u64;
     if stated < found.asked as u64 {
         put_file(text, fetched, FileKind::Report)?;
-        put_wanting(text, stated, found.asked)?;
+        put_missing(text, stated, found.asked)?;
     }
     Ok(())
 }
 
 /// Appends that a file has so many reports alone.
-fn put_wanting(text: &mut String, stated: u64, asked: u32) -> Result<(), AllocError> {
+fn put_missing(text: &mut String, stated: u64, asked: u32) -> Result<(), AllocError> {
     if stated == 0 {
         text.push_str(": no report is in the file, so nothing was checked\n")
     } else {
         writeln!(
             text,
-            ": reports are wanting: the edit list asks for {asked}, and those after number {stated} aren't in the file"
+            ": reports are missing: the edit list asks for {asked}, and those after number {stated} aren't in the file"
         )
     }
 }

@@ -1,4 +1,5 @@
 //! What standard error says of a run.
+use crate::based::put_without_basis;
 use crate::checked::put_checked;
 use crate::help::{ask_help, put_help};
 use crate::measured::put_measured;
@@ -9,7 +10,7 @@ use crate::whole::{put_only_whole, put_some_whole, put_whole};
 use crate::words::put_word_fault;
 use input_files::FileKind;
 use line_notes::{put_doubts, put_most_digits, put_unused};
-use smps_cli::{Fetched, Found, Ran, Status};
+use smps_cli::{Fetched, Found, Ran, Status, Told};
 use std::alloc::{AllocError, Global};
 use std::fs::Files;
 
@@ -93,11 +94,12 @@ fn put_found(
 ) -> Result<(), AllocError> {
     match found {
         Found::Reports(tolds) => {
-            if put_reported(alloc, text, tolds)? {
-                put_long_numbers(alloc, text, fetched)?;
-            }
-            put_skipped(alloc, text, fetched)?;
+            put_tolds(alloc, text, tolds, fetched)?;
             put_whole(text, tolds)
+        }
+        Found::WithoutBasis(tolds) => {
+            put_without_basis(text, fetched)?;
+            put_tolds(alloc, text, tolds, fetched)
         }
         Found::Checks(checks) => {
             put_checked(text, fetched, checks)?;
@@ -113,6 +115,19 @@ fn put_found(
         Found::Unproved(check) => put_unproved(alloc, text, fetched, check),
         _ => put_skipped(alloc, text, fetched),
     }
+}
+
+/// Appends what is said of reports.
+fn put_tolds(
+    alloc: Global,
+    text: &mut String,
+    tolds: &[Told],
+    fetched: &Fetched,
+) -> Result<(), AllocError> {
+    if put_reported(alloc, text, tolds)? {
+        put_long_numbers(alloc, text, fetched)?;
+    }
+    put_skipped(alloc, text, fetched)
 }
 
 /// Appends what is said of lines of the core file that aren't used, and of what it may mean otherwise than its writer thinks.

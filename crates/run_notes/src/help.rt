@@ -3,8 +3,9 @@ use command_words::{CommandRow, FORMS, Flag, PAGES, VERBS, ValueKind, Verb};
 use std::alloc::AllocError;
 use std::fmt::Write;
 
-const ABOUT: &str =
-    "Tidzgheba solves multistage stochastic linear programs exactly and proves each report that it prints.\n\n";
+/// What the program does.
+pub const ABOUT: &str =
+    "Tidzgheba solves multistage stochastic linear programs exactly and proves each report that it prints.";
 
 const FORM: &str = "
 An option is --name VALUE or --name=VALUE, in any order, each at most once; N is a whole number.
@@ -46,7 +47,7 @@ pub fn put_help(text: &mut String, words: &[String]) -> Result<(), AllocError> {
         }
         None => {
             text.push_str(ABOUT)?;
-            text.push_str("usage: tidzgheba COMMAND OPTIONS\n")?;
+            text.push_str("\n\nusage: tidzgheba COMMAND OPTIONS\n")?;
             for verb in VERBS.as_slice() {
                 text.push_str("\n")?;
                 put_command(text, verb.row())?;
@@ -83,7 +84,7 @@ fn put_option(text: &mut String, flag: Flag, needed: &str) -> Result<(), AllocEr
         let other = other.row().name;
         write!(text, "only with --{other}: ")?;
     }
-    if let Some(other) = row.without {
+    for other in row.without {
         let other = other.row().name;
         write!(text, "not with --{other}: ")?;
     }

@@ -1,6 +1,8 @@
 //! What is said on standard error of how a run ended.
 #![tactic(auto)]
 
+mod about;
+mod based;
 mod checked;
 mod distance;
 mod explain;

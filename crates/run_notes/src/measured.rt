@@ -1,4 +1,5 @@
 //! What standard error says of the measures of a program: why a number isn't there.
+use crate::about::put_floats;
 use crate::reported::put_opens;
 use scen_defs::Finding;
 use smps_cli::Measures;
@@ -30,6 +31,7 @@ pub fn put_measured(text: &mut String, measures: &Measures) -> Result<bool, Allo
     let passed = measures.numbers.passed.is_some();
     if passed {
         text.push_str(PASSED)?;
+        put_floats(text, measures)?;
     }
     let open = put_opens(text, measures)?;
     Ok(passed || open)

@@ -2,7 +2,7 @@
 use crate::unread::why_unread;
 use core_defs::Cause;
 use file_lines::Bases;
-use input_files::FileKind;
+use input_files::{FILE_LIMIT, FileKind};
 use line_notes::{put_cause, sentence};
 use smps_cli::Fetched;
 use std::alloc::{AllocError, Global};
@@ -66,10 +66,14 @@ pub fn put_too_long(
     file: FileKind,
 ) -> Result<(), AllocError> {
     put_file(text, fetched, file)?;
-    text.push_str(
-        ": the file has more than 8,388,608 bytes, the most that is read\n\
-         docs/CAUSES.md, \"A file that is too long\", says how to mend it\n",
-    )
+    let millions = FILE_LIMIT / 1_000_000;
+    let thousands = FILE_LIMIT / 1_000 % 1_000;
+    let ones = FILE_LIMIT % 1_000;
+    writeln!(
+        text,
+        ": the file has more than {millions},{thousands:03},{ones:03} bytes, the most that is read"
+    )?;
+    text.push_str("docs/CAUSES.md, \"A file that is too long\", says how to mend it\n")
 }
 
 /// Appends why a file can't be read.

@@ -1,6 +1,7 @@
 //! What standard error says where `table` prints no report.
 use crate::refusal::put_file;
 use certificate_check::print_verdict;
+use core_defs::Cause;
 use frac128::Memory;
 use input_files::FileKind;
 use smps_cli::{Checked, Fetched, Lack};
@@ -38,5 +39,6 @@ pub fn put_lack(
         text,
         ", line {line}: the report that is asked for isn't in the file, which has {count}"
     )?;
-    text.push_str("docs/CAUSES.md, cause 58, says how to mend it\n")
+    let number = Cause::ReportBad.number();
+    writeln!(text, "docs/CAUSES.md, cause {number}, says how to mend it")
 }

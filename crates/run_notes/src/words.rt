@@ -1,8 +1,10 @@
 //! What is said of words that aren't those of a command. Which words are a command's, `command_words` decides; the library for command
-//! lines says what is wrong with others, and how a command is called.
+//! lines is told of the commands by the same table, and says what is wrong with other words, and how a command is called.
+use crate::help::ABOUT;
 use clap::builder::ValueParser;
 use clap::error::ErrorKind;
-use clap::{Arg, ArgAction, Command, Error, value_parser};
+use clap::{Arg, Command, Error};
+use command_words::{CommandRow, FORMS, Flag, PAGES, VERBS, ValueKind, Verb, YES};
 use std::alloc::{AllocError, Global};
 use visible_text::push_line;
 
@@ -11,269 +13,96 @@ const TOO_LOOSE: &str =
     "each word is an option or its value, a file name isn't empty and doesn't begin with '-', and a number has digits alone, at most ten; \
 A of --tail is a number from 0 and below 1, W of --weight one from 0 to 1\n";
 
-/// An option whose value is a file's name.
-fn file<'a>(alloc: Global, name: &'static str, help: &'static str) -> Arg<'a> {
-    Arg::new(alloc, name)
-        .long(name)
-        .value_name("FILE")
-        .help(help)
+/// The values that the library takes: more than those of an option whose value is a file's name or a fraction.
+fn values<'a>(kind: ValueKind) -> ValueParser<'a> {
+    match kind {
+        ValueKind::Number(least, most) => ValueParser::signed(i64::from(least), i64::from(most)),
+        ValueKind::Page => ValueParser::Names(PAGES.as_slice()),
+        ValueKind::Form => ValueParser::Names(FORMS.as_slice()),
+        ValueKind::Yes => ValueParser::Names([YES].as_slice()),
+        ValueKind::File | ValueKind::Level | ValueKind::Weight => ValueParser::string(),
+    }
 }
 
-/// An option whose value is a whole number in a range.
-fn number<'a>(
+/// An option with its value, which need not be there where it is `YES`, and stands in the same word.
+fn with_value<'a>(option: Arg<'a>, kind: ValueKind) -> Arg<'a> {
+    let option = option.value_parser(values(kind));
+    match kind {
+        ValueKind::Yes => option
+            .value_name(YES)
+            .num_args(0..=1)
+            .require_equals(true)
+            .default_missing_value(YES),
+        _ => option.value_name(kind.word()),
+    }
+}
+
+/// An option that isn't taken without another one, if there is one.
+fn with_other<'a>(option: Arg<'a>, other: Option<Flag>) -> Result<Arg<'a>, AllocError> {
+    match other {
+        Some(other) => option.requires_arg(other.row().name),
+        None => Ok(option),
+    }
+}
+
+/// An option as the table has it.
+fn option<'a>(alloc: Global, flag: Flag, is_needed: bool) -> Result<Arg<'a>, AllocError> {
+    let row = flag.row();
+    let option = Arg::new(alloc, row.name)
+        .long(row.name)
+        .help(row.help)
+        .required(is_needed);
+    let mut option = with_other(with_value(option, row.kind), row.with)?;
+    for other in row.without {
+        option = option.conflicts_with(other.row().name)?;
+    }
+    Ok(option)
+}
+
+/// A command with some more options.
+fn with_options<'a>(
     alloc: Global,
-    name: &'static str,
-    least: i64,
-    most: i64,
-    help: &'static str,
-) -> Arg<'a> {
-    Arg::new(alloc, name)
-        .long(name)
-        .value_name("N")
-        .value_parser(value_parser!(u32).range(least..=most))
-        .help(help)
-}
-
-/// The option for the stoch file, which goes with a time file.
-fn stoch<'a>(alloc: Global) -> Result<Arg<'a>, AllocError> {
-    file(alloc, "stoch", "what is random; none: nothing").requires_arg("time")
-}
-
-/// The option for one of the texts of a program that is made.
-fn text<'a>(alloc: Global) -> Arg<'a> {
-    Arg::new(alloc, "text")
-        .long("text")
-        .value_name("TEXT")
-        .value_parser(ValueParser::Names(["core", "time", "stoch"].as_slice()))
-        .help("print this one of its texts alone")
-}
-
-/// An option whose value is a number as files have them.
-fn fraction<'a>(
-    alloc: Global,
-    name: &'static str,
-    value: &'static str,
-    help: &'static str,
-) -> Arg<'a> {
-    Arg::new(alloc, name)
-        .long(name)
-        .value_name(value)
-        .help(help)
-}
-
-/// The level of a risk measure, which goes with a weight and not with an edit list.
-fn tail<'a>(alloc: Global) -> Result<Arg<'a>, AllocError> {
-    let level = "the level of a conditional value at risk, from 0 and below 1";
-    let option = fraction(alloc, "tail", "A", level).requires_arg("weight")?;
-    option.conflicts_with("edits")
-}
-
-/// Its weight.
-fn weight<'a>(alloc: Global) -> Result<Arg<'a>, AllocError> {
-    let weight = "how much it counts beside the mean, from 0 to 1";
-    fraction(alloc, "weight", "W", weight).requires_arg("tail")
-}
-
-/// A command with the options of a risk measure.
-fn with_measure<'a>(alloc: Global, command: Command<'a>) -> Result<Command<'a>, AllocError> {
-    let command = with_option(command, tail(alloc))?;
-    with_option(command, weight(alloc))
-}
-
-/// A command with one more option.
-fn with_option<'a>(
-    command: Command<'a>,
-    option: Result<Arg<'a>, AllocError>,
+    mut command: Command<'a>,
+    flags: &[Flag],
+    are_needed: bool,
 ) -> Result<Command<'a>, AllocError> {
-    command.arg(option?)
+    for flag in flags {
+        let option = option(alloc, *flag, are_needed)?;
+        command = command.arg(option)?;
+    }
+    Ok(command)
 }
 
-/// A command with one more command below it.
-fn with_command<'a>(
-    command: Command<'a>,
-    other: Result<Command<'a>, AllocError>,
-) -> Result<Command<'a>, AllocError> {
-    command.subcommand(other?)
+/// A command without options.
+fn bare<'a>(alloc: Global, row: CommandRow) -> Command<'a> {
+    Command::new(alloc, row.name).about(row.about)
 }
 
-/// A task on the program of files.
-fn on_files<'a>(
-    alloc: Global,
-    name: &'static str,
-    about: &'static str,
-) -> Result<Command<'a>, AllocError> {
-    let core = file(alloc, "core", "the program as if nothing were random").required(true);
-    let command = Command::new(alloc, name).about(about).arg(core)?;
-    let command = command.arg(file(alloc, "time", "the periods; none: one period"))?;
-    let command = with_option(command, stoch(alloc))?;
-    command.arg(file(
-        alloc,
-        "edits",
-        "edits of the data, and where a report is wanted",
-    ))
+/// A command as the table has it.
+fn command<'a>(alloc: Global, verb: Verb) -> Result<Command<'a>, AllocError> {
+    let row = verb.row();
+    let command = with_options(alloc, bare(alloc, row), row.needs, true)?;
+    with_options(alloc, command, row.takes, false)
 }
 
-/// The option that leaves out what is said while a program is solved.
-fn quiet<'a>(alloc: Global) -> Arg<'a> {
-    Arg::new(alloc, "quiet")
-        .long("quiet")
-        .action(ArgAction::SetTrue)
-        .help("say nothing while it is solved")
-}
-
-/// A command with the options that say how much may be done for a report, and whether anything is said while it is.
-fn with_budget<'a>(alloc: Global, command: Command<'a>) -> Result<Command<'a>, AllocError> {
-    let solves = "at most so many solves of a node for a report";
-    let pivots = "at most so many pivots for a solve";
-    let command = command.arg(number(alloc, "solves", 1, 1_000_000_000, solves))?;
-    let command = command.arg(number(alloc, "pivots", 1, 1_000_000_000, pivots))?;
-    let command = command.arg(number(
-        alloc,
-        "workers",
-        1,
-        64,
-        "how many workers solve side by side",
-    ))?;
-    command.arg(quiet(alloc))
-}
-
-/// Solves a program.
-fn solve<'a>(alloc: Global) -> Result<Command<'a>, AllocError> {
-    let command = on_files(
-        alloc,
-        "solve",
-        "solve the program that the files mean, and print the report",
-    )?;
-    let command = with_measure(alloc, command)?;
-    with_budget(alloc, command)
-}
-
-/// Checks reports.
-fn check<'a>(alloc: Global) -> Result<Command<'a>, AllocError> {
-    let command = on_files(
-        alloc,
-        "check",
-        "test the reports of a file, and print for each whether it holds",
-    )?;
-    let command = with_measure(alloc, command)?;
-    command.arg(file(alloc, "report", "the reports").required(true))
-}
-
-/// The option for the form of a report.
-fn form<'a>(alloc: Global) -> Arg<'a> {
-    Arg::new(alloc, "form")
-        .long("form")
-        .value_name("FORM")
-        .value_parser(ValueParser::Names(["text", "csv", "json", "html"].as_slice()))
-        .help("what is printed; none: text")
-}
-
-/// Shows a report for planners.
-fn table<'a>(alloc: Global) -> Result<Command<'a>, AllocError> {
-    let command = on_files(
-        alloc,
-        "table",
-        "test a report of a file, and print it as a table",
-    )?;
-    let command = command.arg(file(alloc, "report", "the reports").required(true))?;
-    let number = number(
-        alloc,
-        "number",
-        1,
-        10_001,
-        "which report of the file; none: the last",
-    );
-    let command = command.arg(number)?;
-    command.arg(form(alloc))
-}
-
-/// Shows a tree.
-fn show<'a>(alloc: Global) -> Result<Command<'a>, AllocError> {
-    on_files(
-        alloc,
-        "show",
-        "print the tree that the files mean, after all edits",
-    )
-}
-
-/// The option that lifts the limits of one core file.
-fn whole<'a>(alloc: Global) -> Arg<'a> {
-    Arg::new(alloc, "whole")
-        .long("whole")
-        .action(ArgAction::SetTrue)
-        .help("beyond the limits of a core file")
-}
-
-/// Prints a program as one core file.
-fn flat<'a>(alloc: Global) -> Result<Command<'a>, AllocError> {
-    let command = on_files(
-        alloc,
-        "flat",
-        "print the program of all nodes as one core file, after all edits",
-    )?;
-    command.arg(whole(alloc))
-}
-
-/// Measures a program.
-fn value<'a>(alloc: Global) -> Result<Command<'a>, AllocError> {
-    let core = file(alloc, "core", "the program as if nothing were random").required(true);
-    let command = Command::new(alloc, "value")
-        .about("print what information and the stochastic model are worth")
-        .arg(core)?;
-    let command = command.arg(file(alloc, "time", "the periods").required(true))?;
-    let command = with_option(command, stoch(alloc))?;
-    with_budget(alloc, command)
-}
-
-/// Makes a program.
-fn make<'a>(alloc: Global) -> Result<Command<'a>, AllocError> {
-    let start = number(
-        alloc,
-        "start",
-        0,
-        65_536,
-        "where the numbers of the program begin",
-    );
-    let command = Command::new(alloc, "make")
-        .about("make a program from four numbers, and print a summary of its report")
-        .arg(start.required(true))?;
-    let command = command.arg(number(alloc, "stages", 2, 6, "its periods").required(true))?;
-    let command = command.arg(number(alloc, "branches", 2, 4, "its cases of each period").required(
-        true,
-    ))?;
-    let command = command.arg(number(alloc, "size", 1, 20, "its items").required(true))?;
-    let command = command.arg(text(alloc))?;
-    command.arg(quiet(alloc))
-}
-
-/// The program without its commands.
+/// The program with its commands.
 fn program<'a>(alloc: Global) -> Result<Command<'a>, AllocError> {
     let program = Command::new(alloc, "tidzgheba").bin_name("tidzgheba")?;
-    Ok(
-        program
-            .about(
-                "Solves multistage stochastic linear programs exactly and proves each report that it prints.",
-            )
-            .no_binary_name(true)
-            .disable_help_subcommand(true)
-            .subcommand_required(true),
-    )
-}
-
-/// The commands with their options.
-fn commands<'a>(alloc: Global) -> Result<Command<'a>, AllocError> {
-    let program = with_command(program(alloc)?, solve(alloc))?;
-    let program = with_command(program, check(alloc))?;
-    let program = with_command(program, table(alloc))?;
-    let program = with_command(program, show(alloc))?;
-    let program = with_command(program, flat(alloc))?;
-    let program = with_command(program, value(alloc))?;
-    with_command(program, make(alloc))
+    let mut program = program
+        .about(ABOUT)
+        .no_binary_name(true)
+        .disable_help_subcommand(true)
+        .subcommand_required(true);
+    for verb in VERBS.as_slice() {
+        let command = command(alloc, *verb)?;
+        program = program.subcommand(command)?;
+    }
+    Ok(program)
 }
 
 /// Fails where the library doesn't take the words.
 fn taken(alloc: Global, words: &[String]) -> Result<(), Error> {
-    let matches = commands(alloc)?.try_get_matches_from(words)?;
+    let matches = program(alloc)?.try_get_matches_from(words)?;
     drop(matches);
     Ok(())
 }

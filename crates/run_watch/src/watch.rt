@@ -9,6 +9,10 @@ use std::thread::Threads;
 pub struct Seen {
     /// What the method looks for at present.
     pub kind: Kind,
+    /// Which round over the tree this is since it looks for that, counted from 1.
+    pub round: u64,
+    /// How many nodes wait: their last solves didn't know what is known now, or there are none.
+    pub waiting: u64,
     /// How many nodes it solved since the last report, one as often as it was solved.
     pub solves: u64,
     /// The lower end of the least cost, where there is one so far.
@@ -31,7 +35,7 @@ pub trait Watch {
     /// The nested method goes on.
     fn see(&mut self, seen: Seen);
 
-    /// The nested method has stopped, and all nodes are solved together.
+    /// All nodes are solved together.
     fn see_whole(&mut self);
 
     /// The run has ended.

@@ -7,6 +7,7 @@ use Rattle.refusals.specs.declared.cause.Cause.TheVariants.{Passes}
 use Rattle.refusals.specs.declared.cause.Refusal.{Refusal}
 use Rattle.core_defs.specs.Fault.{IsCoreFile}
 use Rattle.core_defs.specs.declared.program.Core.{Core}
+use Rattle.command_words.specs.declared.command.Budget.{Budget}
 use Rattle.command_words.specs.declared.command.Task.TheVariants.{Solve}
 use Rattle.command_words.specs.Commands.{Asked}
 use Rattle.command_words.specs.Commands.Asked.{OnFiles}
@@ -40,15 +41,15 @@ module _ (content : Option Files) (words : List (List ℕ)) (asks : AsksForRepor
     refused file refusal known (inr (inl fault)) = let e = sym (not_there texts.edits given.edits) ∙ fault.text_is in absurd (cc)
     refused file refusal known (inr (inr fault)) = let e = sym (not_there texts.report given.report) ∙ fault.text_is in absurd (cc)
 
-    by_status : (status : Status) (output : List ℕ) → MayBeSolved asks.budget texts status output → EndsOrWantsMemory status
-    by_status Done output may = inl refl
-    by_status SomeOpen output may = inr (inl refl)
-    by_status Words output may = absurd may
-    by_status (Refused file line cause) output may = refused file (record { line = line; cause = cause }) may.known may.refused
-    by_status (TooLong file) output may = absurd may
-    by_status (ReadFault file) output may = absurd may
-    by_status WriteFault output may = absurd may
-    by_status Memory output may = inr (inr (inl refl))
+    by_status : (kept : Budget) (status : Status) (output : List ℕ) → MayBeSolved kept texts status output → EndsOrWantsMemory status
+    by_status kept Done output may = inl refl
+    by_status kept SomeOpen output may = inr (inl refl)
+    by_status kept Words output may = absurd may
+    by_status kept (Refused file line cause) output may = refused file (record { line = line; cause = cause }) may.known may.refused
+    by_status kept (TooLong file) output may = absurd may
+    by_status kept (ReadFault file) output may = absurd may
+    by_status kept WriteFault output may = absurd may
+    by_status kept Memory output may = inr (inr (inl refl))
 
   not_long : (k : FileKind) → IsLong (Some asks.files) (alone asks.name) k → ⊥
   not_long kind.Core long =
@@ -60,12 +61,13 @@ module _ (content : Option Files) (words : List (List ℕ)) (asks : AsksForRepor
   not_long kind.Stoch long = let e = long.1 in absurd (cc)
   not_long kind.Edits long = let e = long.1 in absurd (cc)
   not_long kind.Report long = let e = long.1 in absurd (cc)
-  not_long kind.Trace long = let e = long.1 in absurd (cc)
+  not_long kind.Basis long = let e = long.1 in absurd (cc)
+  not_long kind.Measures long = let e = long.1 in absurd (cc)
 
   by_command : (status : Status) (output : List ℕ) → ((file : FileKind) → status ≡ ReadFault file → ⊥) → MayAnswerFor (Some (OnFiles (alone asks.name) (Solve asks.budget))) (Some asks.files) status output → EndsOrWantsMemory status
   by_command status output given (inl fault) = absurd (given fault.0 fault.2)
   by_command status output given (inr (inl long)) = absurd (not_long long.0 long.1)
-  by_command status output given (inr (inr came)) = by_status came.0 came.1 status output came.2
+  by_command status output given (inr (inr came)) = by_status came.0 came.1 came.2.kept status output came.2.came
 
   pub comes_to_a_report : (status : Status) (output : List ℕ) → ((file : FileKind) → status ≡ ReadFault file → ⊥) → MayAnswer content words status output → EndsOrWantsMemory status
   comes_to_a_report status output given may =

@@ -19,4 +19,6 @@ given_within content names texts h = record {
   stoch = within_if content names.stoch texts.stoch h.stoch;
   edits = within_if content names.edits texts.edits h.edits;
   report = within_if content names.report texts.report h.report;
+  basis = within_if content names.basis texts.basis h.basis;
+  measures = within_if content names.measures texts.measures h.measures;
 }

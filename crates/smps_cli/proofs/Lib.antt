@@ -1,8 +1,10 @@
 pub mod AnswerLemmas
 pub mod CompleteLemmas
 pub mod MeantLemmas
+pub mod MeasureLemmas
 pub mod GivenLemmas
 pub mod EndLemmas
+pub mod WithinLemmas
 pub mod FlatLemmas
 pub mod TableLemmas
 pub mod Few
@@ -10,3 +12,5 @@ pub mod OnTrees
 pub mod WriteLemmas
 pub mod RiskPrograms
 pub mod RiskLemmas
+pub mod TruthLemmas
+pub mod BasedLemmas

@@ -33,11 +33,12 @@ use Rattle.smps_cli.specs.Checks.{PrintsChecks}
 use Rattle.smps_cli.specs.Ends.{MayEnd, RefusesTexts}
 use Rattle.smps_cli.specs.Flat.{FlatComes, MayBeFlat, RefusesFlat, flat_end, limits_of}
 use Rattle.smps_cli.specs.Tables.{MayBeTable, RefusesTable, TableComes, line_after}
-use Rattle.smps_cli.specs.Measured.{PrintsMeasures}
+use Rattle.smps_cli.specs.Measured.{PrintsMeasuresWithin}
 use Rattle.smps_cli.specs.Risks.{MayBeRiskSolved, MayBeRiskChecked, RefusesRiskSolve, RefusesRiskCheck}
 use Rattle.smps_cli.specs.Makes.{PrintsSummary, MayMake, workload, texts_of}
 use Rattle.smps_cli.specs.Shown.{PrintsProgram}
 use Rattle.smps_cli.specs.Solved.{PrintsReports}
+use Rattle.smps_cli.specs.Based.{MayBeBasisSolved, RefusesBasis}
 use Rattle.smps_cli.specs.Completes.{AsksOfProgram, EndsTask, IsPageOrMeant, AsksForWorkload, AnswersOrWantsMemory}
 use Rattle.smps_cli.proofs.RiskLemmas.{solve_ends, check_ends}
 
@@ -62,7 +63,9 @@ module _ (files : Files) where
       let stoch = given_if names.stoch texts.stoch other.stoch g.stoch h.stoch in
       let edits = given_if names.edits texts.edits other.edits g.edits h.edits in
       let report = given_if names.report texts.report other.report g.report h.report in
-      λ i. record { core = core i; time = time i; stoch = stoch i; edits = edits i; report = report i }
+      let basis = given_if names.basis texts.basis other.basis g.basis h.basis in
+      let measures = given_if names.measures texts.measures other.measures g.measures h.measures in
+      λ i. record { core = core i; time = time i; stoch = stoch i; edits = edits i; report = report i; basis = basis i; measures = measures i }
 
   not_over : (name bytes : List ℕ) → IsGiven (Some files) name bytes → file_limit < length (bytes_of files name) → ⊥
   not_over name bytes g over =
@@ -81,7 +84,8 @@ module _ (files : Files) where
   not_long names texts g kind.Stoch long = not_over_if names.stoch texts.stoch long.0 long.1 g.stoch long.2
   not_long names texts g kind.Edits long = not_over_if names.edits texts.edits long.0 long.1 g.edits long.2
   not_long names texts g kind.Report long = not_over_if names.report texts.report long.0 long.1 g.report long.2
-  not_long names texts g kind.Trace long = let e = long.1 in absurd (cc)
+  not_long names texts g kind.Basis long = not_over_if names.basis texts.basis long.0 long.1 g.basis long.2
+  not_long names texts g kind.Measures long = not_over_if names.measures texts.measures long.0 long.1 g.measures long.2
 
 -- ---- what the texts come to
 
@@ -129,18 +133,19 @@ module _ (texts : Texts) (sound : IsUnrefused texts) where
   by_sheet : (sheet : Sheet) (status : Status) (output : List ℕ) (line : ℕ) (end : Result (List ℕ) NoSheet) → TableComes line end status output
       → EndsTask (task.Table sheet) status
   by_sheet sheet status output line (Ok page) h = inl (inl h.0)
-  by_sheet sheet status output line (Err (no_sheet.Missing count)) h = inr (line, h.0)
+  by_sheet sheet status output line (Err (no_sheet.Missing count)) h = inr (inl (line, h.0))
   by_sheet sheet status output line (Err (no_sheet.Unproved check)) h = inl (inr (inl h.0))
   by_sheet sheet status output line (Err no_sheet.Memory) h = absurd h
 
-  by_lack : (sheet : Sheet) (file : FileKind) (line : ℕ) (cause : Cause) (output : List ℕ) → RefusesTable sheet.number texts file line cause output
+  by_lack : (sheet : Sheet) (file : FileKind) (line : ℕ) (cause : Cause) (output : List ℕ) → RefusesTable sheet texts file line cause output
       → EndsTask (task.Table sheet) (Refused file line cause)
   unfolding IsUnrefused
   by_lack sheet file line cause output (inl may) = absurd (sound file (record { line = line; cause = cause }) may.known may.refused)
-  by_lack sheet file line cause output (inr is) =
+  by_lack sheet file line cause output (inr (inl is)) =
       by_sheet sheet (Refused file line cause) output (line_after (or_empty texts.report)) is.end is.comes
+  by_lack sheet file line cause output (inr (inr is)) = inr (inr (is.0, (is.1.0, is.1.1, is.1.2)))
 
-  by_table : (sheet : Sheet) (status : Status) (output : List ℕ) → MayBeTable sheet.number texts status output → EndsTask (task.Table sheet) status
+  by_table : (sheet : Sheet) (status : Status) (output : List ℕ) → MayBeTable sheet texts status output → EndsTask (task.Table sheet) status
   by_table sheet Done output may = inl (inl refl)
   by_table sheet SomeOpen output may = inl (inr (inl refl))
   by_table sheet Words output may = absurd may
@@ -185,15 +190,34 @@ module _ (texts : Texts) (sound : IsUnrefused texts) where
   by_checks m WriteFault output may = absurd may
   by_checks m Memory output may = absurd may
 
+  -- there is a report, or a line of the basis file is refused
+  by_unbased : (budget : Budget) (file : FileKind) (line : ℕ) (cause : Cause) (output : List ℕ) → RefusesBasis texts file line cause output
+      → EndsTask (task.SolveBasis budget) (Refused file line cause)
+  unfolding IsUnrefused
+  by_unbased budget file line cause output (inl may) = absurd (sound file (record { line = line; cause = cause }) may.known may.refused)
+  by_unbased budget file line cause output (inr may) = inr (line, λ i. Refused (may.file_is i) line (may.cause_is i))
+
+  by_basis : (budget : Budget) (status : Status) (output : List ℕ) → MayBeBasisSolved budget texts status output
+      → EndsTask (task.SolveBasis budget) status
+  by_basis budget Done output may = inl (inl refl)
+  by_basis budget SomeOpen output may = inl (inr (inl refl))
+  by_basis budget Words output may = absurd may
+  by_basis budget (Refused file line cause) output may = by_unbased budget file line cause output may
+  by_basis budget (TooLong file) output may = absurd may
+  by_basis budget (ReadFault file) output may = absurd may
+  by_basis budget WriteFault output may = absurd may
+  by_basis budget Memory output may = absurd may
+
   by_task : (asked : Task) (status : Status) (output : List ℕ) → MayCome asked texts status output → EndsTask asked status
-  by_task (task.Solve budget) status output may = by_end (PrintsReports budget texts) status output may
+  by_task (task.Solve budget) status output may = by_end (PrintsReports may.kept texts) status output may.came
   by_task task.Check status output may = by_end (PrintsChecks texts) status output may
   by_task (task.Table sheet) status output may = by_table sheet status output may
   by_task task.Show status output may = by_end (PrintsProgram texts) status output may
   by_task (task.Flat size) status output may = by_flat size status output may
-  by_task (task.Value budget) status output may = by_end (PrintsMeasures budget texts) status output may
-  by_task (task.SolveRisk m budget) status output may = by_risk m budget status output may
+  by_task (task.Value budget) status output may = by_end (PrintsMeasuresWithin budget texts) status output may
+  by_task (task.SolveRisk m budget) status output may = by_risk m may.kept status output may.came
   by_task (task.CheckRisk m) status output may = by_checks m status output may
+  by_task (task.SolveBasis budget) status output may = by_basis may.kept status output may.came
 
 meant_unrefused : (texts : Texts) → AreMeant texts → IsUnrefused texts
 unfolding IsUnrefused
@@ -241,3 +265,4 @@ memory_ends (task.Flat size) = inl (inr (inr refl))
 memory_ends (task.Value budget) = inr (inr refl)
 memory_ends (task.SolveRisk m budget) = inl (inr (inr refl))
 memory_ends (task.CheckRisk m) = inl (inr (inr refl))
+memory_ends (task.SolveBasis budget) = inl (inr (inr refl))

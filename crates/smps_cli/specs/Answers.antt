@@ -4,7 +4,7 @@ use Rattle.smps_io.specs.Faults.{RoseBy}
 use Rattle.smps_io.specs.Files.{Files}
 use Rattle.smps_io.specs.Puts.{Appends, AppendsPrefix}
 use Rattle.command_words.specs.declared.command.Task.{Task}
-use Rattle.command_words.specs.declared.command.Task.TheVariants.{Solve, Check, Table, Show, Flat, Value, SolveRisk, CheckRisk}
+use Rattle.command_words.specs.declared.command.Task.TheVariants.{Solve, Check, Table, Show, Flat, Value, SolveRisk, CheckRisk, SolveBasis}
 use Rattle.command_words.specs.Commands.{FileNames, Asked, command_of}
 use Rattle.command_words.specs.Commands.Asked.{OnFiles, MakeThis}
 use Rattle.input_files.specs.declared.kind.FileKind.{FileKind}
@@ -17,20 +17,23 @@ use Rattle.smps_cli.specs.Flat.{MayBeFlat}
 use Rattle.smps_cli.specs.Measured.{MayBeMeasured}
 use Rattle.smps_cli.specs.Risks.{MayBeRiskSolved, MayBeRiskChecked}
 use Rattle.smps_cli.specs.Solved.{MayBeSolved}
+use Rattle.smps_cli.specs.Within.{ComesWithin}
+use Rattle.smps_cli.specs.Based.{MayBeBasisSolved}
 use Rattle.smps_cli.specs.Checks.{MayBeChecked}
 use Rattle.smps_cli.specs.Tables.{MayBeTable}
 use Rattle.smps_cli.specs.Makes.{MakesPlan}
 
 -- What a task may come to on the texts of its files.
 abbrev pub MayCome : Task → Texts → Status → List ℕ → Type 0
-MayCome (Solve budget) texts status output = MayBeSolved budget texts status output
+MayCome (Solve budget) texts status output = ComesWithin (λ kept. MayBeSolved kept texts) budget status output
 MayCome Check texts status output = MayBeChecked texts status output
-MayCome (Table sheet) texts status output = MayBeTable sheet.number texts status output
+MayCome (Table sheet) texts status output = MayBeTable sheet texts status output
 MayCome Show texts status output = MayBeShown texts status output
 MayCome (Flat extent) texts status output = MayBeFlat extent texts status output
 MayCome (Value budget) texts status output = MayBeMeasured budget texts status output
-MayCome (SolveRisk m budget) texts status output = MayBeRiskSolved m budget texts status output
+MayCome (SolveRisk m budget) texts status output = ComesWithin (λ kept. MayBeRiskSolved m kept texts) budget status output
 MayCome (CheckRisk m) texts status output = MayBeRiskChecked m texts status output
+MayCome (SolveBasis budget) texts status output = ComesWithin (λ kept. MayBeBasisSolved kept texts) budget status output
 
 -- A file is too long, and the line says so.
 abbrev pub SaysTooLong : Option Files → FileNames → Status → List ℕ → Type 0

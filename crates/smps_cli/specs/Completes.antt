@@ -1,20 +1,20 @@
 -- When a run must end with its whole output.
-use Rattle.std.specs.Prelude.{◌≡◌, ◌≤◌, ◌⊎◌, ⊤, ℕ, List, length, Option, Some, None}
+use Rattle.std.specs.Prelude.{◌≡◌, ◌≤◌, ◌⊎◌, ⊤, ℕ, true, List, length, Option, Some, None}
 use Rattle.smps_words.specs.Line.{reading_of}
 use Rattle.smps_io.specs.Files.{Files, bytes_of}
 use Rattle.refusals.specs.declared.cause.Cause.{Cause}
-use Rattle.refusals.specs.declared.cause.Cause.TheVariants.{FlatLimit, Passes, ReportBad, ScenarioLimit, TailName}
+use Rattle.refusals.specs.declared.cause.Cause.TheVariants.{BasisBad, FlatLimit, Passes, ReportBad, ScenarioLimit, TailName}
 use Rattle.core_defs.specs.Fault.{IsCoreFile}
 use Rattle.command_words.specs.declared.command.Budget.{Budget}
 use Rattle.command_words.specs.declared.command.Page.{Page}
 use Rattle.command_words.specs.declared.command.Plan.{Plan}
 use Rattle.command_words.specs.declared.command.Task.{Task}
-use Rattle.command_words.specs.declared.command.Task.TheVariants.{Solve, Check, Table, Show, Flat, Value, SolveRisk, CheckRisk}
+use Rattle.command_words.specs.declared.command.Task.TheVariants.{Solve, Check, Table, Show, Flat, Value, SolveRisk, CheckRisk, SolveBasis}
 use Rattle.command_words.specs.Commands.{FileNames, command_of}
 use Rattle.command_words.specs.Commands.Asked.{OnFiles, MakeThis}
 use Rattle.input_files.specs.Fetched.{Texts, AreGiven, file_limit}
 use Rattle.rationals.specs.Passes.{Operation}
-use Rattle.input_files.specs.declared.kind.FileKind.TheVariants.{Core, Report}
+use Rattle.input_files.specs.declared.kind.FileKind.TheVariants.{Basis, Core, Report, Measures}
 use Rattle.scen_defs.specs.Program.{Program}
 use Rattle.program_files.specs.Meant.{MeansProgram}
 use Rattle.program_files.specs.Edited.{AreMeant}
@@ -24,7 +24,7 @@ use Rattle.exit_status.specs.declared.status.Status.TheVariants.{Done, SomeOpen,
 
 -- a core file alone
 abbrev pub alone : List ℕ → FileNames
-alone name = record { core = name; time = None; stoch = None; edits = None; report = None }
+alone name = record { core = name; time = None; stoch = None; edits = None; report = None; basis = None; measures = None }
 
 -- The words ask for a core file that can be solved, and the shelf tells its bytes.
 pub record AsksForReport (content : Option Files) (words : List (List ℕ)) : Type 0 where
@@ -80,13 +80,16 @@ HasNoRisk status =
     (status ≡ Refused Core 0 TailName) ⊎ (status ≡ Refused Core 0 ScenarioLimit)
     ⊎ ((p : Operation) × (status ≡ Refused Core 0 (Passes p)))
 
--- So does each task; but `table` refuses a report file that has no report of the number that is asked for, and `flat` the core file where
--- the program of all nodes exceeds a limit of core files, or an operation passes. With a risk measure `solve` and `check` refuse the core
--- file where a name is taken, the program would be too large, or an operation passes; and `check` a report file with other names.
+-- So does each task; but `table` refuses a report file that has no report of the number that is asked for, and, where the words name one, a
+-- file that isn't what `value` printed; and `flat` the core file where the program of all nodes exceeds a limit of core files, or an
+-- operation passes. With a risk measure `solve` and `check` refuse the core file where a name is taken, the program would be too large, or
+-- an operation passes; and `check` a report file with other names. With a basis `solve` refuses a basis file that isn't one of the program.
 abbrev pub EndsTask : Task → Status → Type 0
 EndsTask (Solve budget) status = AnswersOrWantsMemory status
 EndsTask Check status = AnswersOrWantsMemory status
-EndsTask (Table sheet) status = AnswersOrWantsMemory status ⊎ ((line : ℕ) × (status ≡ Refused Report line ReportBad))
+EndsTask (Table sheet) status =
+    AnswersOrWantsMemory status ⊎ ((line : ℕ) × (status ≡ Refused Report line ReportBad))
+    ⊎ ((sheet.with_measures ≡ true) × ((line : ℕ) × (cause : Cause) × (status ≡ Refused Measures line cause)))
 EndsTask Show status = AnswersOrWantsMemory status
 EndsTask (Flat extent) status =
     AnswersOrWantsMemory status ⊎ (status ≡ Refused Core 0 FlatLimit) ⊎ ((p : Operation) × (status ≡ Refused Core 0 (Passes p)))
@@ -94,3 +97,4 @@ EndsTask (Value budget) status = AnswersOrWantsMemory status
 EndsTask (SolveRisk m budget) status = AnswersOrWantsMemory status ⊎ HasNoRisk status
 EndsTask (CheckRisk m) status =
     AnswersOrWantsMemory status ⊎ HasNoRisk status ⊎ ((line : ℕ) × (cause : Cause) × (status ≡ Refused Report line cause))
+EndsTask (SolveBasis budget) status = AnswersOrWantsMemory status ⊎ ((line : ℕ) × (status ≡ Refused Basis line BasisBad))

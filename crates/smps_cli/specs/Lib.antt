@@ -1,7 +1,9 @@
 pub mod Sources
 pub mod Ends
+pub mod Within
 pub mod Inputs
 pub mod Solved
+pub mod Based
 pub mod Checks
 pub mod Shown
 pub mod Flat
@@ -10,6 +12,7 @@ pub mod Risks
 pub mod Tables
 pub mod Makes
 pub mod Found
+pub mod Truths
 pub mod Answers
 pub mod Completes
 pub mod Runs

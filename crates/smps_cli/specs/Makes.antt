@@ -33,7 +33,15 @@ page_text made Stoch = made.stoch
 
 -- as the texts of files
 abbrev pub texts_of : Made → Texts
-texts_of made = record { core = made.core; time = Some made.time; stoch = Some made.stoch; edits = None; report = None }
+texts_of made = record {
+  core = made.core;
+  time = Some made.time;
+  stoch = Some made.stoch;
+  edits = None;
+  report = None;
+  basis = None;
+  measures = None;
+}
 
 -- the numbers of the plan
 abbrev pub plan_line : Plan → List ℕ

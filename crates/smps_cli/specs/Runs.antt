@@ -10,6 +10,7 @@ use Rattle.exit_status.specs.declared.status.Status.TheVariants.{Words, ReadFaul
 use Rattle.smps_cli.specs.Answers.{Answers}
 use Rattle.smps_cli.specs.Completes.{AsksForReport, EndsOrWantsMemory, AsksOfProgram, EndsTask, AsksForWorkload, AnswersOrWantsMemory}
 use Rattle.smps_cli.specs.Sources.{HasFetched, LastSaysLong, fetch_order}
+use Rattle.smps_cli.specs.Truths.{RunTruths}
 
 -- the fetches of a shelf, its faults, and what it gave last
 pub record ShelfState : Type 0 where
@@ -32,6 +33,8 @@ sink_state written faults taken = record { written = written; faults = faults; t
 -- A run of the words `call` came to this status.
 pub record IsRun (call : List (List ℕ)) (content : Option Files) (shelf shelf_after : ShelfState) (sink sink_after : SinkState)
     (status : Status) : Type 0 where
+  -- what `solve` printed, where it ends with status 0 or 1, is true of the program that the files mean
+  pub truths : RunTruths (command_of call) content sink.written sink_after.written sink.taken sink_after.taken status
   -- the words are refused only where they aren't those of a command, and then no file is fetched
   pub words : status ≡ Words → command_of call ≡ None
   pub none_fetched : command_of call ≡ None → shelf_after.fetches ≡ shelf.fetches
@@ -48,5 +51,5 @@ pub record IsRun (call : List (List ℕ)) (content : Option Files) (shelf shelf_
   pub ends : (asks : AsksOfProgram content call) → (Rose shelf.faults shelf_after.faults → ⊥) → (Rose sink.faults sink_after.faults → ⊥)
       → EndsTask asks.task status
   pub makes : AsksForWorkload call → (Rose sink.faults sink_after.faults → ⊥) → AnswersOrWantsMemory status
-  -- what was answered and written
+  -- what was answered and written, and how the method came to it
   pub answers : Answers content call sink.written sink_after.written sink.taken sink_after.taken status

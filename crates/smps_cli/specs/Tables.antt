@@ -1,5 +1,5 @@
 -- What `table` prints.
-use Rattle.std.specs.Prelude.{◌≡◌, ◌⊎◌, ℕ, ◌+◌, List, [], Option, None, Result, Ok, Err, nat_eq}
+use Rattle.std.specs.Prelude.{◌≡◌, ◌⊎◌, ℕ, ◌+◌, true, List, [], Option, None, Result, Ok, Err, nat_eq}
 use Rattle.std.specs.List.{count_by}
 use Rattle.refusals.specs.declared.cause.Cause.{Cause}
 use Rattle.refusals.specs.declared.cause.Cause.TheVariants.{ReportBad}
@@ -7,8 +7,9 @@ use Rattle.scen_defs.specs.Program.{Program, content}
 use Rattle.scen_defs.specs.declared.program.Program.{Program as ProgramOf}
 use Rattle.scen_defs.specs.declared.report.Report.{Report as ReportOf}
 use Rattle.edit_defs.specs.declared.edit.Item.{Item}
+use Rattle.command_words.specs.declared.command.Sheet.{Sheet}
 use Rattle.input_files.specs.declared.kind.FileKind.{FileKind}
-use Rattle.input_files.specs.declared.kind.FileKind.TheVariants.{Report}
+use Rattle.input_files.specs.declared.kind.FileKind.TheVariants.{Report, Measures}
 use Rattle.input_files.specs.Fetched.{Texts}
 use Rattle.program_files.specs.Meant.{MeansProgram}
 use Rattle.program_files.specs.Edited.{MeansScript, MeansReports, or_empty}
@@ -57,11 +58,17 @@ pub record IsTable (number : Option ℕ) (texts : Texts) (status : Status) (outp
   pub told : TellsSheet (content program) items reports number end
   pub comes : TableComes (line_after (or_empty texts.report)) end status output
 
--- The texts have a first fault; or the report file has no such report.
-abbrev pub RefusesTable : Option ℕ → Texts → FileKind → ℕ → Cause → List ℕ → Type 0
-RefusesTable number texts file line cause output =
-    RefusesTexts texts file line cause output ⊎ IsTable number texts (Refused file line cause) output
+-- the file that `value` printed is refused at a line, and the line says so
+abbrev pub RefusesMeasures : Status → List ℕ → Type 0
+RefusesMeasures status output =
+    (line : ℕ) × (cause : Cause) × (status ≡ Refused Measures line cause) × (output ≡ refused_text None Measures line cause)
+
+-- The texts have a first fault; or the report file has no such report; or the file that `value` printed is refused, where it is asked for.
+abbrev pub RefusesTable : Sheet → Texts → FileKind → ℕ → Cause → List ℕ → Type 0
+RefusesTable sheet texts file line cause output =
+    RefusesTexts texts file line cause output ⊎ IsTable sheet.number texts (Refused file line cause) output
+    ⊎ ((sheet.with_measures ≡ true) × RefusesMeasures (Refused file line cause) output)
 
 -- What the texts of the files may come to.
-abbrev pub MayBeTable : Option ℕ → Texts → Status → List ℕ → Type 0
-MayBeTable number texts = MayEnd (IsTable number texts) (RefusesTable number texts)
+abbrev pub MayBeTable : Sheet → Texts → Status → List ℕ → Type 0
+MayBeTable sheet texts = MayEnd (IsTable sheet.number texts) (RefusesTable sheet texts)

@@ -16,6 +16,7 @@ ghost use Rattle.smps_cli.specs.Makes.{MakesPlan};
 ghost use Rattle.smps_cli.specs.Sources.{HasFetched, LastSaysLong, StatusSaysLong, fetch_order};
 ghost use Rattle.exit_status.specs.Lines.{line_with, status_line};
 
+use crate::based::solved_by_basis;
 use crate::check::checked;
 use crate::fetched::{Fetched, FileNames};
 use crate::flat::flattened;
@@ -92,6 +93,7 @@ fn come<W: Watch>(alloc: Global, task: Task, texts: &Texts, watch: &mut W) -> Re
         Task::Value(budget) => valued(alloc, texts, budget, watch),
         Task::SolveRisk(measure, budget) => solved_risk(alloc, texts, measure, budget, watch),
         Task::CheckRisk(measure) => checked_risk(alloc, texts, measure),
+        Task::SolveBasis(budget) => solved_by_basis(alloc, texts, budget, watch),
     }
 }
 

@@ -18,6 +18,8 @@ pub(crate) struct FileNames {
     stoch: Option<String>,
     edits: Option<String>,
     report: Option<String>,
+    basis: Option<String>,
+    measures: Option<String>,
 }
 
 /// A name that need not be there.
@@ -37,6 +39,8 @@ impl FileNames {
             stoch: name_if(alloc, sources.stoch)?,
             edits: name_if(alloc, sources.edits)?,
             report: name_if(alloc, sources.report)?,
+            basis: name_if(alloc, sources.basis)?,
+            measures: name_if(alloc, sources.measures)?,
         })
     }
 }
@@ -50,7 +54,8 @@ impl Fetched {
             FileKind::Stoch => &self.names.stoch,
             FileKind::Edits => &self.names.edits,
             FileKind::Report => &self.names.report,
-            FileKind::Trace => return None,
+            FileKind::Basis => &self.names.basis,
+            FileKind::Measures => &self.names.measures,
         };
         match name {
             Some(name) => Some(name.as_str()),
@@ -69,7 +74,8 @@ impl Fetched {
             FileKind::Stoch => &texts.stoch,
             FileKind::Edits => &texts.edits,
             FileKind::Report => &texts.report,
-            FileKind::Trace => return None,
+            FileKind::Basis => &texts.basis,
+            FileKind::Measures => &texts.measures,
         };
         match text {
             Some(text) => Some(text.as_slice()),

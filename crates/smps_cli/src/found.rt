@@ -10,6 +10,10 @@ use value_measures::Measures;
 pub enum Found {
     /// `solve`: a report for each SOLVE.
     Reports(Vec<Told>),
+    /// The same, where all nodes were solved together from the start.
+    Together(Vec<Told>),
+    /// `solve` with a basis that shows no report: a report without it.
+    WithoutBasis(Vec<Told>),
     /// `check`: what the checks of reports came to.
     Checks(Checks),
     /// `table`: a report in the form that is asked for.
@@ -24,6 +28,8 @@ pub enum Found {
     Flat(Vec<u8>),
     /// `value`: what is measured of the program.
     Measures(Measures),
+    /// The same, where the nodes of each program were solved together from the start.
+    MeasuredTogether(Measures),
     /// `make`: a workload and its report.
     Summary(Summary),
     /// `make`: the text of a workload that is asked for.

@@ -2,6 +2,7 @@
 #![tactic(auto)]
 
 mod answer;
+mod based;
 mod check;
 mod fetched;
 mod flat;
@@ -15,6 +16,7 @@ mod solve;
 mod table;
 mod top_call;
 mod value;
+mod within;
 mod write;
 
 pub use answer::Ran;

@@ -63,6 +63,8 @@ fn texts_of(made: Made) -> Texts
         stoch: Some(made.stoch),
         edits: None,
         report: None,
+        basis: None,
+        measures: None,
     }
 }
 
@@ -90,6 +92,8 @@ fn are_within(texts: &Texts) -> bool
         && is_within_if(&texts.stoch)
         && is_within_if(&texts.edits)
         && is_within_if(&texts.report)
+        && is_within_if(&texts.basis)
+        && is_within_if(&texts.measures)
 }
 
 /// The answer for the texts of a workload: the summary, or their first fault, which never comes. That they are too long never comes

@@ -1,5 +1,5 @@
 //! The commands `solve` and `check` with a risk measure in place of the mean cost.
-ghost use Rattle.std.specs.Prelude.{◌≡◌, ◌∷◌, [], IfOk};
+ghost use Rattle.std.specs.Prelude.{◌≡◌, ◌∷◌, [], true, IfOk};
 ghost use Rattle.scen_defs.specs.Program.{content};
 ghost use Rattle.input_files.specs.Unfetched.{texts_view};
 ghost use Rattle.program_files.specs.Edited.{or_empty};
@@ -11,11 +11,13 @@ ghost use Rattle.smps_cli.specs.Flat.{RefusesCore};
 ghost use Rattle.smps_cli.specs.Found.{found_text};
 ghost use Rattle.smps_cli.specs.Risks.{ChecksRisk, IsRiskCheck, IsRiskProgram, IsRiskSolve, MayBeRiskChecked, MayBeRiskSolved};
 ghost use Rattle.smps_cli.specs.Risks.{PrintsRisk, PrintsRiskChecks, RefusesFail, RefusesRisk};
+ghost use Rattle.smps_cli.specs.Within.{ComesWithin, states_none};
 
 use crate::answer::{Answer, line_answer};
 use crate::found::{Checks, Found};
 use crate::refuse::stopped;
 use crate::solve::told;
+use crate::within::{Way, goes_together, without_solves};
 use command_words::{Budget, RiskMeasure};
 use core_defs::{Cause, ReadFail};
 use edit_defs::{Act, Item, Script};
@@ -74,30 +76,93 @@ pub(crate) fn solved_risk<W: Watch>(
 ) -> Result<Answer, Memory>
     requires within { AreWithin (texts_view texts.now) }
     requires range { IsRiskMeasure measure }
-    ensures { IfOk result (λ answer. MayBeRiskSolved measure budget (texts_view texts.now) answer.status (found_text answer.found)) }
+    ensures { IfOk result (λ answer.
+        ComesWithin (λ kept. MayBeRiskSolved measure kept (texts_view texts.now)) budget answer.status (found_text answer.found)) }
 {
     match read_program(alloc, texts) {
-        Ok(program) => solved_read(alloc, texts, &program, measure, budget, watch),
+        Ok(program) => solved_read(alloc, texts, &program, &measure, budget, watch),
         Err(unread) => stopped(alloc, unread),
     }
 }
 
-/// The answer for the program of the texts.
+/// The answer for the program of the texts. All nodes are solved together first, as by `solve` without a risk measure.
 fn solved_read<W: Watch>(
     alloc: Global,
     texts: &Texts,
     program: &Program,
-    measure: RiskMeasure,
+    measure: &RiskMeasure,
     budget: Budget,
     watch: &mut W,
 ) -> Result<Answer, Memory>
     requires means { MeansProgram (texts_view texts.now) (content program.now) }
-    requires range { IsRiskMeasure measure }
-    ensures { IfOk result (λ answer. IsRiskSolve measure budget (texts_view texts.now) answer.status (found_text answer.found)) }
+    requires range { IsRiskMeasure measure.now }
+    ensures { IfOk result (λ answer.
+        ComesWithin (λ kept. IsRiskSolve measure.now kept (texts_view texts.now)) budget answer.status (found_text answer.found)) }
+{
+    if goes_together(program, budget) {
+        solved_together(alloc, texts, program, measure, budget, watch)
+    } else {
+        solved_by_method(alloc, texts, program, measure, budget, watch)
+    }
+}
+
+/// The answer for the program of the texts, with all nodes together; by the method, if that leaves something open.
+fn solved_together<W: Watch>(
+    alloc: Global,
+    texts: &Texts,
+    program: &Program,
+    measure: &RiskMeasure,
+    budget: Budget,
+    watch: &mut W,
+) -> Result<Answer, Memory>
+    requires means { MeansProgram (texts_view texts.now) (content program.now) }
+    requires range { IsRiskMeasure measure.now }
+    requires none { states_none budget ≡ true }
+    ensures { IfOk result (λ answer.
+        ComesWithin (λ kept. IsRiskSolve measure.now kept (texts_view texts.now)) budget answer.status (found_text answer.found)) }
+{
+    let none = without_solves(budget);
+    let answer = solved_program(alloc, texts, program, measure, none, Way::Together, watch)?;
+    if answer.is_closed() {
+        Ok(answer)
+    } else {
+        solved_by_method(alloc, texts, program, measure, budget, watch)
+    }
+}
+
+/// The answer for the program of the texts, by the method.
+fn solved_by_method<W: Watch>(
+    alloc: Global,
+    texts: &Texts,
+    program: &Program,
+    measure: &RiskMeasure,
+    budget: Budget,
+    watch: &mut W,
+) -> Result<Answer, Memory>
+    requires means { MeansProgram (texts_view texts.now) (content program.now) }
+    requires range { IsRiskMeasure measure.now }
+    ensures { IfOk result (λ answer. IsRiskSolve measure.now budget (texts_view texts.now) answer.status (found_text answer.found)) }
+{
+    solved_program(alloc, texts, program, measure, budget, Way::Method, watch)
+}
+
+/// The answer for the program of the texts, within a budget.
+fn solved_program<W: Watch>(
+    alloc: Global,
+    texts: &Texts,
+    program: &Program,
+    measure: &RiskMeasure,
+    budget: Budget,
+    way: Way,
+    watch: &mut W,
+) -> Result<Answer, Memory>
+    requires means { MeansProgram (texts_view texts.now) (content program.now) }
+    requires range { IsRiskMeasure measure.now }
+    ensures { IfOk result (λ answer. IsRiskSolve measure.now budget (texts_view texts.now) answer.status (found_text answer.found)) }
 {
     let _core = texts.core.len();
     match tail_program(alloc, program, measure.level, measure.weight) {
-        Ok(made) => solved_made(alloc, made, program, measure, budget, watch),
+        Ok(made) => solved_made(alloc, made, program, measure, budget, way, watch),
         Err(fault) => unmade(alloc, fault),
     }
 }
@@ -107,15 +172,17 @@ fn solved_made<W: Watch>(
     alloc: Global,
     made: Program,
     read: &Program,
-    measure: RiskMeasure,
+    measure: &RiskMeasure,
     budget: Budget,
+    way: Way,
     watch: &mut W,
 ) -> Result<Answer, Memory>
-    requires { IsRiskProgram measure (content read.now) (content made) }
+    requires { IsRiskProgram measure.now (content read.now) (content made) }
     ensures { IfOk result (λ answer.
-        PrintsRisk measure budget (content read.now) (content made) answer.status (found_text answer.found)) }
+        PrintsRisk measure.now budget (content read.now) (content made) answer.status (found_text answer.found)) }
 {
     let _periods = read.periods.len();
+    let _level = measure.level;
     let stated = StatedLimits {
         solves: budget.solves_stated,
         pivots: budget.pivots_stated,
@@ -131,7 +198,7 @@ fn solved_made<W: Watch>(
         stated,
         watch,
     )?;
-    Ok(told(tolds))
+    Ok(told(tolds, way))
 }
 
 // ---- check

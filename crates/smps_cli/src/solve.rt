@@ -1,5 +1,5 @@
 //! The command `solve`.
-ghost use Rattle.std.specs.Prelude.{◌≡◌, IfOk};
+ghost use Rattle.std.specs.Prelude.{◌≡◌, true, IfOk};
 ghost use Rattle.std.specs.List.{flat_map};
 ghost use Rattle.input_files.specs.Unfetched.{texts_view};
 ghost use Rattle.program_files.specs.Meant.{AreWithin};
@@ -7,11 +7,13 @@ ghost use Rattle.exit_status.specs.Findings.{open_status};
 ghost use Rattle.smps_cli.specs.Found.{found_text};
 ghost use Rattle.smps_cli.specs.Inputs.{IsInput};
 ghost use Rattle.smps_cli.specs.Solved.{MayBeSolved, PrintsReports, told_text, any_open};
+ghost use Rattle.smps_cli.specs.Within.{ComesWithin, states_none};
 
 use crate::answer::Answer;
 use crate::found::Found;
 use crate::input::{Input, read_input};
 use crate::refuse::stopped;
+use crate::within::{Way, script_goes_together, without_solves};
 use command_words::Budget;
 use exit_status::{is_open, open_status};
 use frac128::Memory;
@@ -20,8 +22,69 @@ use run_watch::Watch;
 use smps_session::{StatedLimits, Told, scripted};
 use std::alloc::Global;
 
-/// The answer for the texts of the files: the reports of the program that they mean, or their first fault.
+/// The answer for the texts of the files: the reports of the program that they mean, or their first fault. All nodes are solved together
+/// first, where that pays and no limit was asked for; if that leaves something open, the method begins.
 pub(crate) fn solved<W: Watch>(
+    alloc: Global,
+    texts: &Texts,
+    budget: Budget,
+    watch: &mut W,
+) -> Result<Answer, Memory>
+    requires { AreWithin (texts_view texts.now) }
+    ensures { IfOk result (λ answer.
+        ComesWithin (λ kept. MayBeSolved kept (texts_view texts.now)) budget answer.status (found_text answer.found)) }
+{
+    match read_input(alloc, texts) {
+        Ok(mut input) => solved_some(alloc, texts, &mut input, budget, watch),
+        Err(unread) => stopped(alloc, unread),
+    }
+}
+
+/// The answer for the input of the texts, in one of both ways.
+fn solved_some<W: Watch>(
+    alloc: Global,
+    texts: &Texts,
+    input: &mut Input,
+    budget: Budget,
+    watch: &mut W,
+) -> Result<Answer, Memory>
+    requires within { AreWithin (texts_view texts.now) }
+    requires input { IsInput (texts_view texts.now) input.old }
+    ensures { IfOk result (λ answer.
+        ComesWithin (λ kept. MayBeSolved kept (texts_view texts.now)) budget answer.status (found_text answer.found)) }
+{
+    if script_goes_together(&input.program, &input.script, budget) {
+        solved_together(alloc, texts, input, budget, watch)
+    } else {
+        solved_input(alloc, texts, input, budget, Way::Method, watch)
+    }
+}
+
+/// The answer for the input of the texts, with all nodes together; by the method, if that leaves something open.
+fn solved_together<W: Watch>(
+    alloc: Global,
+    texts: &Texts,
+    input: &mut Input,
+    budget: Budget,
+    watch: &mut W,
+) -> Result<Answer, Memory>
+    requires within { AreWithin (texts_view texts.now) }
+    requires input { IsInput (texts_view texts.now) input.old }
+    requires none { states_none budget ≡ true }
+    ensures { IfOk result (λ answer.
+        ComesWithin (λ kept. MayBeSolved kept (texts_view texts.now)) budget answer.status (found_text answer.found)) }
+{
+    let none = without_solves(budget);
+    let answer = solved_input(alloc, texts, input, none, Way::Together, watch)?;
+    if answer.is_closed() {
+        Ok(answer)
+    } else {
+        solved_by_method(alloc, texts, budget, watch)
+    }
+}
+
+/// The answer for the texts of the files, by the method.
+fn solved_by_method<W: Watch>(
     alloc: Global,
     texts: &Texts,
     budget: Budget,
@@ -31,7 +94,7 @@ pub(crate) fn solved<W: Watch>(
     ensures { IfOk result (λ answer. MayBeSolved budget (texts_view texts.now) answer.status (found_text answer.found)) }
 {
     match read_input(alloc, texts) {
-        Ok(mut input) => solved_input(alloc, texts, &mut input, budget, watch),
+        Ok(mut input) => solved_input(alloc, texts, &mut input, budget, Way::Method, watch),
         Err(unread) => stopped(alloc, unread),
     }
 }
@@ -42,6 +105,7 @@ fn solved_input<W: Watch>(
     texts: &Texts,
     input: &mut Input,
     budget: Budget,
+    way: Way,
     watch: &mut W,
 ) -> Result<Answer, Memory>
     requires { IsInput (texts_view texts.now) input.old }
@@ -61,18 +125,20 @@ fn solved_input<W: Watch>(
         stated,
         watch,
     )?;
-    Ok(told(tolds))
+    Ok(told(tolds, way))
 }
 
 /// The answer of reports.
-pub(crate) fn told(tolds: Vec<Told>) -> Answer
+pub(crate) fn told(tolds: Vec<Told>, way: Way) -> Answer
     ensures text { found_text result.found ≡ flat_map told_text tolds.items }
     ensures ends { result.status ≡ open_status (any_open tolds.items) }
 {
-    Answer {
-        status: open_status(any_open(&tolds)),
-        found: Found::Reports(tolds),
-    }
+    let status = open_status(any_open(&tolds));
+    let found = match way {
+        Way::Together => Found::Together(tolds),
+        Way::Method => Found::Reports(tolds),
+    };
+    Answer { status, found }
 }
 
 /// Whether a report is open.

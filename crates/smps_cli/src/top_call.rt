@@ -18,7 +18,7 @@ use std::fs::Files;
 ///
 /// A core file within the limit whose rows' ends fit into 128 bits ends with a report where neither the shelf
 /// nor the sink fails, unless memory is wanting. So each command ends with its whole output, of files within the limit that mean
-/// a program, a script for it, and reports with its names; but `flat` refuses a program that has no text.
+/// a program, a script for it, and reports with its names; or as `EndsTask` of specs/Completes.antt says of its task.
 pub fn run<R: Files + Print, H: Shelf, K: Sink, W: Watch>(
     rt: &R,
     alloc: Global,

@@ -84,10 +84,15 @@ pub(crate) fn write_found<R: Print, K: Sink>(
     ensures cause { SinkHasCause (K.faults sink.old) (K.faults sink.new) result }
 {
     match found {
-        Found::Reports(tolds) => write_reports(rt, sink, tolds),
+        Found::Reports(tolds) | Found::Together(tolds) | Found::WithoutBasis(tolds) =>
+            write_reports(rt, sink, tolds),
         Found::Checks(checks) => write_made(rt, sink, lines(alloc, &checks.checks)),
         Found::Shown(program) => write_made(rt, sink, shown_text(alloc, program)),
-        Found::Measures(measures) => write_made(rt, sink, print_measures(alloc, measures)),
+        Found::Measures(measures) | Found::MeasuredTogether(measures) => write_made(
+            rt,
+            sink,
+            print_measures(alloc, measures),
+        ),
         Found::Summary(summary) => write_made(rt, sink, summary_text(alloc, summary)),
         Found::Unproved(_) => write_all(rt, sink, &[]),
         Found::Lacking(lack) => write_all(rt, sink, &lack.line),

@@ -1,5 +1,5 @@
 //! The files of the system, and standard output: the edges that no clause can see behind.
-ghost use Rattle.std.specs.Prelude.{◌≡◌, ◌<◌, ◌≤◌, ◌↔◌, None, IfOk, OnOk, IsErrOf, length, map, string_bytes};
+ghost use Rattle.std.specs.Prelude.{◌≡◌, ◌<◌, ◌≤◌, ◌↔◌, ◌++◌, None, IfOk, OnOk, IfSome, IsErrOf, length, map, string_bytes};
 ghost use Rattle.smps_io.specs.Fetches.{IsTooLong};
 ghost use Rattle.smps_io.specs.declared.shelf.ShelfFault.TheVariants.{Failed, TooLong};
 
@@ -84,7 +84,8 @@ fn file_within<R: Files>(
     bytes_within(alloc, &mut file, limit, given)
 }
 
-/// The bytes that a reader gives up to its end, at most `limit` of them. How many it gave is left in `given`.
+/// The bytes that a reader gives up to its end, at most `limit` of them: where it tells which these are, as a reader over memory does, they
+/// are these, and no others. How many it gave is left in `given`.
 fn bytes_within<F: Read>(
     alloc: Global,
     reader: &mut F,
@@ -94,6 +95,7 @@ fn bytes_within<F: Read>(
     ensures within { IfOk result (λ bytes. length bytes.items ≤ limit) }
     ensures too_long { IsTooLong limit given.new result }
     ensures bytes { IfOk result (λ bytes. length bytes.items ≡ given.new) }
+    ensures read { IfOk result (λ bytes. IfSome (F.remaining reader.old) (λ all. bytes.items ≡ all)) }
 {
     *given = 0;
     let mut bytes = Vec::new(alloc);
@@ -119,6 +121,7 @@ fn put_within(
     ensures too_long { IsErrOf result TooLong ↔ (limit < given.new) }
     ensures bytes { OnOk result (length bytes.new.items ≡ given.new) }
     ensures sure { ¬ IsErrOf result Failed }
+    ensures chunk { OnOk result (bytes.new.items ≡ bytes.old.items ++ chunk.now) }
 {
     *given = (bytes.len() + chunk.len()) as u64;
     if *given > limit {

@@ -45,7 +45,7 @@ use Rattle.progress_laws.proofs.Ways.{solves_keep_way, ways_have_numbers, begun_
 use Rattle.progress_laws.proofs.WhereMet.{reasons_were_met}
 use Rattle.smps_session.specs.Reasons.{told_reasons}
 use Rattle.smps_session.specs.Comes.{tells_solves, is_unfinished, ShowsClosing, ShowsFound, PassesInTestOf, WasReason, ComesOf, ComesOfAll, IsUnderWay}
-use Rattle.smps_session.specs.Whole.{IsOwnOrWhole}
+use Rattle.smps_session.specs.Shorter.{IsPrinted}
 use Rattle.smps_session.specs.declared.whole.StatedLimits.{StatedLimits}
 use Rattle.smps_session.specs.declared.whole.Answered.{Answered}
 use Rattle.smps_session.proofs.WayLemmas.{counted_within}
@@ -355,8 +355,8 @@ tells_cleared budget start came program (AtWork old) (AtWork mid) new report res
 
 pub comes_of_all : {E : Type 0} (budget : Budget) (stated : StatedLimits) (program : Program) (method next : Method) (own : Report) (result : Result Answered E)
     → Begins (content program) budget method → ComesOf budget (content program) 0 program method own next
-    → IfOk result (λ answered. IsOwnOrWhole answered.by_whole stated program own answered.report)
+    → IfOk result (λ answered. IsPrinted answered.by_whole stated program own answered.report)
     → IfOk result (λ answered. ComesOfAll budget stated program answered.report)
 comes_of_all budget stated program method next own (Ok answered) b c w =
-    record { method = method; next = next; begins = b; own = own; comes = c; by_whole = answered.by_whole; whole = w }
+    record { method = method; next = next; begins = b; own = own; comes = c; by_whole = answered.by_whole; printed = w }
 comes_of_all budget stated program method next own (Err e) b c w = tt

@@ -16,11 +16,12 @@ use Rattle.edit_script.specs.Allowed.{AreAllowed, IsAllowed}
 use Rattle.report_defs.specs.Truth.{IsTrue, HasCounts}
 use Rattle.report_text.specs.Text.{report_text}
 use Rattle.pass_core.specs.declared.budget.Budget.{Budget}
+use Rattle.smps_session.specs.Lists.{ListsAreOf}
 use Rattle.smps_session.specs.Reasons.{told_reasons}
 use Rattle.smps_session.specs.declared.told.Told.{Told}
 use Rattle.smps_session.specs.declared.whole.StatedLimits.{StatedLimits}
 use Rattle.smps_session.specs.declared.whole.Answered.{Answered}
-use Rattle.smps_session.specs.Whole.{IsOwnOrWhole}
+use Rattle.smps_session.specs.Shorter.{IsPrinted}
 use Rattle.proved_report.specs.Reports.{EqualIsOptimal}
 use Rattle.smps_session.specs.Told.{IsTold, AreTold}
 use Rattle.nested_method.specs.declared.method.Method.{Method}
@@ -37,10 +38,10 @@ on_ok (Err e) A a = tt
 is_told : (budget : Budget) (stated : StatedLimits) (start : Program) (came number : ℕ) (program : ProgramOf) (method next : Method) (own report : Report)
     (told : Told) → report.number ≡ number → told.text.items ≡ report_text program report → told.finding ≡ report.finding
     → HasCounts (view_of (content program)) report → IsTrue (view_of (content program)) (told_reasons program budget) report
-    → EqualIsOptimal report → (HasFewNodes (content program) → ComesOf budget start came program method own next)
-    → IsOwnOrWhole told.by_whole stated program own report
+    → ListsAreOf (content program) report → EqualIsOptimal report → (HasFewNodes (content program) → ComesOf budget start came program method own next)
+    → IsPrinted told.by_whole stated program own report
     → IsTold budget stated start came number (content program) method told next
-is_told budget stated start came number program method next own report told n t f counts truth equal comes whole = record {
+is_told budget stated start came number program method next own report told n t f counts truth lists equal comes printed = record {
   program = program;
   content_is = refl;
   report = report;
@@ -49,10 +50,11 @@ is_told budget stated start came number program method next own report told n t 
   finding = f;
   counts = counts;
   truth = truth;
+  lists = lists;
   equal = equal;
   own = own;
   comes = comes;
-  whole = whole;
+  printed = printed;
 }
 
 -- where it is printed
@@ -61,13 +63,13 @@ pub tells : {E : Type 0} (budget : Budget) (stated : StatedLimits) (start : Prog
     → IfOk result (λ told. told.text.items ≡ report_text program answered.report) → IfOk result (λ told. told.finding ≡ answered.report.finding)
     → IfOk result (λ told. told.by_whole ≡ answered.by_whole)
     → HasCounts (view_of (content program)) answered.report → IsTrue (view_of (content program)) (told_reasons program budget) answered.report
-    → EqualIsOptimal answered.report → (HasFewNodes (content program) → ComesOf budget start came program method own next)
-    → IsOwnOrWhole answered.by_whole stated program own answered.report
+    → ListsAreOf (content program) answered.report → EqualIsOptimal answered.report → (HasFewNodes (content program) → ComesOf budget start came program method own next)
+    → IsPrinted answered.by_whole stated program own answered.report
     → IfOk result (λ told. IsTold budget stated start came number (content program) method told next)
-tells budget stated start came number program method next own answered (Ok told) n t f b counts truth equal comes whole =
-    is_told budget stated start came number program method next own answered.report told n t f counts truth equal comes
-    (subst (λ (by_whole : Bool). IsOwnOrWhole by_whole stated program own answered.report) (sym b) whole)
-tells budget stated start came number program method next own answered (Err e) n t f b counts truth equal comes whole = tt
+tells budget stated start came number program method next own answered (Ok told) n t f b counts truth lists equal comes printed =
+    is_told budget stated start came number program method next own answered.report told n t f counts truth lists equal comes
+    (subst (λ (by_whole : Bool). IsPrinted by_whole stated program own answered.report) (sym b) printed)
+tells budget stated start came number program method next own answered (Err e) n t f b counts truth lists equal comes printed = tt
 
 -- a list of less than one item has none
 pub none_left : {A : Type 0} (xs : List A) → length xs < 1 → xs ≡ []

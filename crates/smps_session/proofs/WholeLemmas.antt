@@ -1,11 +1,12 @@
 -- A report of the whole program finds what its claim asks for.
-use Rattle.std.proofs.Common.{◌≡◌, ℕ, true, sym}
+use Rattle.std.proofs.Common.{◌≡◌, ℕ, true, sym, refl, ap, ◌∙◌}
 use Rattle.scen_defs.specs.declared.program.Program.{Program}
 use Rattle.scen_defs.specs.declared.report.Place.{Place}
 use Rattle.scen_defs.specs.declared.report.Finding.{Finding}
 use Rattle.scen_defs.specs.declared.report.Finding.TheVariants.{Optimal, Infeasible, Unbounded, OpenSolves, OpenPivots, OpenPassed}
 use Rattle.scen_defs.specs.declared.report.Report.{Report}
 use Rattle.proved_report.specs.declared.claim.Claim.{Claim}
+use Rattle.proved_report.specs.declared.claim.Claim.TheVariants.{Ends, Nowhere, Endless}
 use Rattle.proved_report.specs.declared.open.Open.{Open}
 use Rattle.proved_report.specs.Reports.{IsClaimed}
 use Rattle.claim_laws.specs.Held.{finding_for}
@@ -34,3 +35,12 @@ tells_whole program number place why solves claim report e c =
       solves = solves;
       tells = told;
     }
+
+-- what finds that isn't open
+pub whole_is_closed : (program : Program) (report : Report) → TellsWhole program report → isnt_open report.finding ≡ true
+whole_is_closed program report h = ap isnt_open h.finds ∙ go h.claim
+  where
+    go : (claim : Claim) → isnt_open (finding_for claim) ≡ true
+    go (Ends policy dual) = refl
+    go (Nowhere ray) = refl
+    go (Endless policy direction) = refl

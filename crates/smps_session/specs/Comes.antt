@@ -33,7 +33,7 @@ use Rattle.nested_method.specs.Stands.{CutPasses, CostPasses, OpeningPasses, Beg
 use Rattle.nested_method.specs.Stands.{is_spent, after_telling}
 use Rattle.progress_laws.specs.Ways.{AreFew, KeepsWay}
 use Rattle.progress_laws.specs.WhereMet.{WasMet}
-use Rattle.smps_session.specs.Whole.{IsOwnOrWhole}
+use Rattle.smps_session.specs.Shorter.{IsPrinted}
 use Rattle.smps_session.specs.declared.whole.StatedLimits.{StatedLimits}
 
 -- left open by the number of solves
@@ -107,7 +107,7 @@ ComesOf budget start came program (AtWork old) report next =
 ComesOf budget start came program (Idle why own) report next = next ≡ Idle why own
 
 -- The report comes of a method that begins with the program, and no item came before: it is the method's own one, or the method had
--- stopped, and a claim about the whole program was tested.
+-- stopped, and a claim about the whole program was tested; or it has a shorter ray than that.
 pub record ComesOfAll (budget : Budget) (stated : StatedLimits) (program : ProgramOf) (report : Report) : Type 0 where
   pub method : Method
   pub next : Method
@@ -115,7 +115,7 @@ pub record ComesOfAll (budget : Budget) (stated : StatedLimits) (program : Progr
   pub own : Report
   pub comes : ComesOf budget (content program) 0 program method own next
   pub by_whole : Bool
-  pub whole : IsOwnOrWhole by_whole stated program own report
+  pub printed : IsPrinted by_whole stated program own report
 
 -- no operation of the totals and shares of the program's nodes passes
 abbrev pub IsOnTree : Program → Type 0

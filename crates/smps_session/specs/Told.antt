@@ -13,8 +13,9 @@ use Rattle.pass_core.specs.declared.budget.Budget.{Budget}
 use Rattle.nested_method.specs.declared.method.Method.{Method}
 use Rattle.nested_method.specs.Stands.{HasFewNodes, Begins}
 use Rattle.smps_session.specs.Comes.{ComesOf, TakesEdit}
+use Rattle.smps_session.specs.Lists.{ListsAreOf}
 use Rattle.smps_session.specs.Reasons.{told_reasons}
-use Rattle.smps_session.specs.Whole.{IsOwnOrWhole}
+use Rattle.smps_session.specs.Shorter.{IsPrinted}
 use Rattle.smps_session.specs.declared.whole.StatedLimits.{StatedLimits}
 use Rattle.smps_session.specs.declared.told.Told.{Told}
 
@@ -32,13 +33,16 @@ pub record IsTold (budget : Budget) (stated : StatedLimits) (start : Program) (c
   -- its ends are shown by its lists, its finding by its reason; and its counts are the program's
   pub counts : HasCounts (view_of p) report
   pub truth : IsTrue (view_of p) (told_reasons program budget) report
+  -- its lists are in order, and stand at columns or rows of the program alone
+  pub lists : ListsAreOf p report
   -- it isn't left open where its ends are equal
   pub equal : EqualIsOptimal report
   -- the method's own report, which comes of solves of the nodes of the program, of which there are no more than have numbers
   pub own : Report
   pub comes : HasFewNodes p → ComesOf budget start came program method own next
-  -- it is the one that is printed, or the method had stopped, and a claim about the whole program was tested
-  pub whole : IsOwnOrWhole told.by_whole stated program own report
+  -- it is the one that is printed, or the method had stopped, and a claim about the whole program was tested; where that is INFEASIBLE the
+  -- ray that is printed may be a shorter one
+  pub printed : IsPrinted told.by_whole stated program own report
 
 -- a first one of a method, and those behind it of the method as it is then
 abbrev pub IsThen : (Told → Method → Type 0) → (Method → List Told → Type 0) → List Told → Type 0

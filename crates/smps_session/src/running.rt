@@ -5,10 +5,12 @@ ghost use Rattle.scen_defs.specs.Program.{content, view_of, Program as ProgramOf
 ghost use Rattle.report_defs.specs.Truth.{IsTrue, HasCounts};
 ghost use Rattle.proved_report.specs.Reports.{EqualIsOptimal};
 ghost use Rattle.nested_method.specs.Stands.{HasFewNodes, StandsOn, StandsCleared};
+ghost use Rattle.smps_session.specs.Lists.{ListsAreOf};
 ghost use Rattle.smps_session.specs.Reasons.{told_reasons};
 ghost use Rattle.smps_session.specs.Comes.{is_unfinished, ShowsFound, ComesOf, ComesOfAll, IsUnderWay};
 
-use crate::whole::{Answered, StatedLimits, own_or_whole};
+use crate::shorter::answer;
+use crate::whole::{Answered, StatedLimits};
 use frac128::Memory;
 use nested_method::Method;
 use pass_core::Budget;
@@ -36,6 +38,7 @@ pub fn session<W: Watch>(
     ensures number { IfOk result (λ answered. answered.report.number ≡ 1) }
     ensures counts { IfOk result (λ answered. HasCounts (view_of (content program.now)) answered.report) }
     ensures names { IfOk result (λ answered. ListsHaveNames program.now answered.report) }
+    ensures lists { IfOk result (λ answered. ListsAreOf (content program.now) answered.report) }
     ensures truth { let reasons = told_reasons program.now (record { solves = solves; pivots = pivots }) in
         IfOk result (λ answered. IsTrue (view_of (content program.now)) reasons answered.report) }
     ensures equal { IfOk result (λ answered. EqualIsOptimal answered.report) }
@@ -46,7 +49,7 @@ pub fn session<W: Watch>(
     let mut method = Method::begin(alloc, program, budget)?;
     let own = reported(alloc, program, &mut method, 1, budget, watch)?;
     let mut hint = WholeHint::empty(alloc);
-    own_or_whole(alloc, program, own, budget, stated, &mut hint, watch)
+    answer(alloc, program, own, budget, stated, &mut hint, watch)
 }
 
 /// The report of what the method finds of the program, where nothing is left to find. Where it is left open though no operation passed, no
@@ -62,6 +65,7 @@ pub(crate) fn reported<W: Watch>(
     ensures number { IfOk result (λ report. report.number ≡ number) }
     ensures counts { IfOk result (HasCounts (view_of (content program.now))) }
     ensures names { IfOk result (ListsHaveNames program.now) }
+    ensures lists { IfOk result (ListsAreOf (content program.now)) }
     ensures truth { let p = content program.now in StandsOn p budget method.old
         → IfOk result (IsTrue (view_of p) (told_reasons program.now budget)) }
     ensures equal { IfOk result EqualIsOptimal }
@@ -109,6 +113,7 @@ fn found<W: Watch>(
     ensures number { IfOk result (λ report. report.number ≡ number) }
     ensures counts { IfOk result (HasCounts (view_of (content program.now))) }
     ensures names { IfOk result (ListsHaveNames program.now) }
+    ensures lists { IfOk result (ListsAreOf (content program.now)) }
     ensures truth { let p = content program.now in StandsOn p budget method.old
         → IfOk result (IsTrue (view_of p) (told_reasons program.now budget)) }
     ensures equal { IfOk result EqualIsOptimal }

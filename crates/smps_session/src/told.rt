@@ -8,7 +8,8 @@ ghost use Rattle.smps_session.specs.Comes.{IsUnderWay};
 ghost use Rattle.smps_session.specs.Told.{IsTold};
 
 use crate::running::reported;
-use crate::whole::{StatedLimits, own_or_whole};
+use crate::shorter::answer;
+use crate::whole::StatedLimits;
 use frac128::{Frac, Memory};
 use nested_method::Method;
 use pass_core::Budget;
@@ -32,7 +33,7 @@ pub struct Told {
 }
 
 /// What is told of a report.
-fn printed(
+pub(crate) fn printed(
     alloc: Global,
     program: &Program,
     report: &Report,
@@ -76,6 +77,6 @@ pub(crate) fn told_one<W: Watch>(
         → OnOk result (IsUnderWay budget start (came + 1) p method.new) }
 {
     let own = reported(alloc, program, method, number, budget, watch)?;
-    let answered = own_or_whole(alloc, program, own, budget, stated, hint, watch)?;
+    let answered = answer(alloc, program, own, budget, stated, hint, watch)?;
     printed(alloc, program, &answered.report, answered.by_whole)
 }

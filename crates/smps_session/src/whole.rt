@@ -4,12 +4,13 @@ ghost use Rattle.scen_defs.specs.Fits.{ListsHaveNames};
 ghost use Rattle.scen_defs.specs.Program.{content, view_of};
 ghost use Rattle.report_defs.specs.Truth.{IsTrue, HasCounts};
 ghost use Rattle.proved_report.specs.Reports.{EqualIsOptimal};
+ghost use Rattle.smps_session.specs.Lists.{ListsAreOf};
 ghost use Rattle.smps_session.specs.Reasons.{told_reasons};
 ghost use Rattle.smps_session.specs.Whole.{asks_whole, isnt_open, TellsWhole, IsOwnOrWhole};
 
 use frac128::Memory;
 use pass_core::Budget;
-use proved_report::{Open, report};
+use proved_report::{Claim, Open, report};
 use run_watch::Watch;
 use scen_defs::{Finding, Place, Program, Report};
 use std::alloc::Global;
@@ -51,25 +52,23 @@ fn isnt_open(finding: Finding) -> bool
     }
 }
 
-/// The report of a claim about the whole program, where one is guessed and its test doesn't leave it open.
-fn whole(
+/// The report of a claim about the whole program, where its test doesn't leave it open.
+pub(crate) fn closed_report(
     alloc: Global,
     program: &Program,
     number: u32,
+    claim: Claim,
     budget: Budget,
-    hint: &mut WholeHint,
 ) -> Result<Option<Report>, Memory>
     ensures number { IfOk result (λ found. IfSome found (λ report. report.number ≡ number)) }
     ensures counts { IfOk result (λ found. IfSome found (HasCounts (view_of (content program.now)))) }
     ensures names { IfOk result (λ found. IfSome found (ListsHaveNames program.now)) }
+    ensures lists { IfOk result (λ found. IfSome found (ListsAreOf (content program.now))) }
     ensures truth { let p = content program.now in
         IfOk result (λ found. IfSome found (IsTrue (view_of p) (told_reasons program.now budget))) }
     ensures equal { IfOk result (λ found. IfSome found EqualIsOptimal) }
     ensures whole { IfOk result (λ found. IfSome found (TellsWhole program.now)) }
 {
-    let Some(claim) = guessed_claim(alloc, program, hint)? else {
-        return Ok(None);
-    };
     let why = Open::Solves(budget.solves);
     let tested = report(
         alloc,
@@ -87,6 +86,29 @@ fn whole(
     }
 }
 
+/// The same of a claim that is guessed, where one is.
+fn whole(
+    alloc: Global,
+    program: &Program,
+    number: u32,
+    budget: Budget,
+    hint: &mut WholeHint,
+) -> Result<Option<Report>, Memory>
+    ensures number { IfOk result (λ found. IfSome found (λ report. report.number ≡ number)) }
+    ensures counts { IfOk result (λ found. IfSome found (HasCounts (view_of (content program.now)))) }
+    ensures names { IfOk result (λ found. IfSome found (ListsHaveNames program.now)) }
+    ensures lists { IfOk result (λ found. IfSome found (ListsAreOf (content program.now))) }
+    ensures truth { let p = content program.now in
+        IfOk result (λ found. IfSome found (IsTrue (view_of p) (told_reasons program.now budget))) }
+    ensures equal { IfOk result (λ found. IfSome found EqualIsOptimal) }
+    ensures whole { IfOk result (λ found. IfSome found (TellsWhole program.now)) }
+{
+    match guessed_claim(alloc, program, hint)? {
+        Some(claim) => closed_report(alloc, program, number, claim, budget),
+        None => Ok(None),
+    }
+}
+
 /// The method's own report of the program, or that of a claim about the whole program, where the own one is left open since an operation
 /// passed, or since solves or pivots have ended whose number the words don't state. A claim whose test leaves its report open changes
 /// nothing.
@@ -101,11 +123,13 @@ pub(crate) fn own_or_whole<W: Watch>(
 ) -> Result<Answered, Memory>
     requires counts { HasCounts (view_of (content program.now)) own }
     requires names { ListsHaveNames program.now own }
+    requires lists { ListsAreOf (content program.now) own }
     requires truth { IsTrue (view_of (content program.now)) (told_reasons program.now budget) own }
     requires equal { EqualIsOptimal own }
     ensures number { IfOk result (λ answered. answered.report.number ≡ own.number) }
     ensures counts { IfOk result (λ answered. HasCounts (view_of (content program.now)) answered.report) }
     ensures names { IfOk result (λ answered. ListsHaveNames program.now answered.report) }
+    ensures lists { IfOk result (λ answered. ListsAreOf (content program.now) answered.report) }
     ensures truth { let p = content program.now in
         IfOk result (λ answered. IsTrue (view_of p) (told_reasons program.now budget) answered.report) }
     ensures equal { IfOk result (λ answered. EqualIsOptimal answered.report) }

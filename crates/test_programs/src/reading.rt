@@ -33,6 +33,8 @@ pub fn read_source(alloc: Global, source: Source<'_>) -> Result<Option<Program>,
         stoch: bytes_if(alloc, source.stoch)?,
         edits: None,
         report: None,
+        basis: None,
+        measures: None,
     };
     match read_program(alloc, &texts) {
         Ok(program) => Ok(Some(program)),

@@ -7,7 +7,7 @@ use Rattle.std.specs.declared.vec.IntoIter.{IntoIter}
 use Rattle.std.specs.Vec.Iter.{into_iter_items}
 use Rattle.smps_io.specs.Files.{Files}
 use Rattle.command_words.specs.declared.command.Task.{Task}
-use Rattle.command_words.specs.declared.command.Task.TheVariants.{Solve, Check, Table, Show, Flat, Value, SolveRisk, CheckRisk}
+use Rattle.command_words.specs.declared.command.Task.TheVariants.{Solve, Check, Table, Show, Flat, Value, SolveRisk, CheckRisk, SolveBasis}
 use Rattle.command_words.specs.Commands.{Asked, command_of}
 use Rattle.command_words.specs.Commands.Asked.{OnFiles, MakeThis}
 use Rattle.exit_status.specs.declared.status.Status.TheVariants.{Memory}
@@ -15,6 +15,7 @@ use Rattle.exit_status.specs.Lines.{status_number}
 use Rattle.smps_cli.specs.Completes.{EndsTask}
 use Rattle.smps_cli.specs.Runs.{IsRun, ShelfState, SinkState}
 use Rattle.smps_cli.specs.Sources.{LastSaysLong}
+use Rattle.smps_cli.proofs.TruthLemmas.{memory_tells_nothing}
 use Rattle.tidzgheba.specs.Ending.{EndsFor}
 
 says_nothing : (asked : Option Asked) (given : ℕ) → LastSaysLong asked Memory given
@@ -32,10 +33,12 @@ ends_so (Flat extent) = inl (inr (inr refl))
 ends_so (Value budget) = inr (inr refl)
 ends_so (SolveRisk measure budget) = inl (inr (inr refl))
 ends_so (CheckRisk measure) = inl (inr (inr refl))
+ends_so (SolveBasis budget) = inl (inr (inr refl))
 
 module _ (content : Option Files) (shelf : ShelfState) (sink : SinkState) where
   nothing_ran : (words : List (List ℕ)) → IsRun words content shelf shelf sink sink Memory
   nothing_ran words = record {
+    truths = λ told. absurd (memory_tells_nothing told);
     words = λ e. absurd (cc);
     none_fetched = λ e. refl;
     fetched = (0, sym (append-nil shelf.fetches));

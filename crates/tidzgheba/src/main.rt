@@ -50,7 +50,7 @@ fn ended<R: Files + Print + Eprint, H: Shelf, K: Sink, W: Watch>(
 {
     match arguments {
         Ok(arguments) => match words_of(alloc, arguments) {
-            Ok(words) => ended_so(rt, alloc, behind_first(&words), shelf, sink, watch),
+            Ok(words) => ended_told(rt, alloc, behind_first(&words), shelf, sink, watch),
             Err(AllocError) => unread(rt),
         },
         Err(error) if error.kind() == io::ErrorKind::OutOfMemory => unread(rt),
@@ -91,7 +91,7 @@ fn unread<R: Eprint>(rt: &R) -> u8
 }
 
 /// Runs the words; standard error says what their status means where the output doesn't say all.
-fn ended_so<R: Files + Print + Eprint, H: Shelf, K: Sink, W: Watch>(
+fn ended_told<R: Files + Print + Eprint, H: Shelf, K: Sink, W: Watch>(
     rt: &R,
     alloc: Global,
     words: &[String],

@@ -1,5 +1,6 @@
 -- What is measured of a program.
-use Rattle.std.specs.Prelude.{◌≡◌}
+use Rattle.std.specs.Prelude.{◌≡◌, IfSome}
+use Rattle.rationals.specs.Rational.{zero_ℚ, ◌≤ℚ◌}
 use Rattle.scen_defs.specs.Program.{Program}
 use Rattle.pass_core.specs.declared.budget.Budget.{Budget}
 use Rattle.smps_session.specs.declared.whole.StatedLimits.{StatedLimits}
@@ -14,3 +15,7 @@ pub record IsMeasured (budget : Budget) (stated : StatedLimits) (p : Program) (m
   pub means : IsOfMeans budget stated (means_of p) m.means
   pub fixed : IsOfFixed budget stated p (policy_of_means m.means) m.fixed
   pub numbers : m.numbers ≡ numbers_told m.whole m.scenarios.items m.means m.fixed
+  -- what it is worth to know what comes isn't below 0, where it is there,
+  pub information : IfSome m.numbers.information (λ v. zero_ℚ ≤ℚ v)
+  -- nor what it is worth to plan for all that may come
+  pub model : IfSome m.numbers.model (λ v. zero_ℚ ≤ℚ v)

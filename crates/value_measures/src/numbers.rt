@@ -9,7 +9,8 @@ use frac128::{Frac, Passed};
 use scen_defs::{Finding, Report};
 
 /// What the reports come to. A number isn't there where a report that it rests on isn't OPTIMAL or isn't there, where another number isn't
-/// there from which it is computed, or where an operation of its own sum passes.
+/// there from which it is computed, or where an operation of its own sum passes. In what `measure` gives, `information` and `model` aren't
+/// below 0.
 #[derive(Clone, Copy, Debug)]
 pub struct ValueNumbers {
     /// The least cost of the program (RP).

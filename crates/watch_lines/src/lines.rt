@@ -26,7 +26,7 @@ fn put_number(alloc: Global, value: Frac, line: &mut String) -> Result<(), Memor
 }
 
 /// Appends where the least cost lies.
-fn put_ends(alloc: Global, seen: Seen, line: &mut String) -> Result<(), Memory> {
+fn put_ends(alloc: Global, seen: &Seen, line: &mut String) -> Result<(), Memory> {
     match (seen.lower, seen.upper) {
         (Some(lower), Some(upper)) => {
             line.push_str("; it lies from ")?;
@@ -50,28 +50,46 @@ fn put_ends(alloc: Global, seen: Seen, line: &mut String) -> Result<(), Memory> 
     Ok(())
 }
 
+/// Appends which round it is, how many nodes wait, how many solves there were, and how many workers there are where it isn't one.
+fn put_work(alloc: Global, seen: &Seen, workers: u32, line: &mut String) -> Result<(), Memory> {
+    let round = seen.round;
+    let waiting = seen.waiting;
+    let solves = seen.solves;
+    let wait = if waiting == 1 {
+        "node waits"
+    } else {
+        "nodes wait"
+    };
+    let text = format!(in alloc; " (round {round}, {waiting} {wait}, {solves} solves")?;
+    line.push_str(text.as_str())?;
+    if workers > 1 {
+        let text = format!(in alloc; ", {workers} workers")?;
+        line.push_str(text.as_str())?;
+    }
+    line.push_str(")")?;
+    Ok(())
+}
+
 /// The start of a line.
 fn started(alloc: Global, seconds: u64) -> Result<String, Memory> {
     let text = format!(in alloc; "tidzgheba: {seconds} s: ")?;
     Ok(text)
 }
 
-/// What is said of the nested method after so many seconds.
-pub fn seen_line(alloc: Global, seconds: u64, seen: Seen) -> Result<String, Memory> {
+/// What is said of the nested method after so many seconds, with so many workers.
+pub fn seen_line(alloc: Global, seconds: u64, seen: Seen, workers: u32) -> Result<String, Memory> {
     let mut line = started(alloc, seconds)?;
     line.push_str(aim(seen.kind))?;
-    let solves = seen.solves;
-    let text = format!(in alloc; ", {solves} solves of nodes")?;
-    line.push_str(text.as_str())?;
-    put_ends(alloc, seen, &mut line)?;
+    put_work(alloc, &seen, workers, &mut line)?;
+    put_ends(alloc, &seen, &mut line)?;
     line.push_str("\n")?;
     Ok(line)
 }
 
-/// What is said where the method has stopped.
+/// What is said where all nodes are solved together.
 pub fn whole_line(alloc: Global, seconds: u64) -> Result<String, Memory> {
     let mut line = started(alloc, seconds)?;
-    line.push_str("the nested method has stopped; solving all nodes together\n")?;
+    line.push_str("solving all nodes together\n")?;
     Ok(line)
 }
 

@@ -73,7 +73,7 @@ impl<'a, R: Clock + Eprint + Threads + Sync> Watch for Watcher<'a, R> {
     }
 
     fn see(&mut self, seen: Seen) {
-        self.say(seen_line(self.alloc, self.seconds, seen));
+        self.say(seen_line(self.alloc, self.seconds, seen, self.workers));
     }
 
     fn see_whole(&mut self) {

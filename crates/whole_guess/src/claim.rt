@@ -20,14 +20,17 @@ const MOST_NODES: usize = 1_000_000;
 
 /// What is known of a program while it is guessed.
 #[derive(Drop)]
-struct Whole<'a> {
-    program: &'a Program,
-    tree: Tree,
-    layout: Layout,
+pub(crate) struct Whole<'a> {
+    pub(crate) program: &'a Program,
+    pub(crate) tree: Tree,
+    pub(crate) layout: Layout,
 }
 
 /// The program with its tree and its layout; none where it is too large, or has no tree.
-fn prepared<'a>(alloc: Global, program: &'a Program) -> Result<Option<Whole<'a>>, Memory> {
+pub(crate) fn prepared<'a>(
+    alloc: Global,
+    program: &'a Program,
+) -> Result<Option<Whole<'a>>, Memory> {
     if program.nodes.len() > MOST_NODES {
         return Ok(None);
     }
@@ -47,12 +50,16 @@ fn prepared<'a>(alloc: Global, program: &'a Program) -> Result<Option<Whole<'a>>
 }
 
 /// The program in a run of a kind.
-fn in_run(alloc: Global, whole: &Whole<'_>, kind: Kind) -> Result<Option<ExactProgram>, Memory> {
+pub(crate) fn in_run(
+    alloc: Global,
+    whole: &Whole<'_>,
+    kind: Kind,
+) -> Result<Option<ExactProgram>, Memory> {
     flat_program(alloc, whole.program, &whole.tree, &whole.layout, kind)
 }
 
 /// A policy, and multipliers that show that none is cheaper.
-fn ends(alloc: Global, whole: &Whole<'_>, solution: &Solution) -> Result<Claim, Memory> {
+pub(crate) fn ends(alloc: Global, whole: &Whole<'_>, solution: &Solution) -> Result<Claim, Memory> {
     let policy = point_list(alloc, whole.program, &whole.layout, &solution.point)?;
     let dual = row_list(alloc, whole.program, &solution.multipliers)?;
     Ok(Claim::Ends {

@@ -65,7 +65,7 @@ fn push_column(
 }
 
 /// Adds the columns of a node. False where a cost doesn't fit.
-fn push_columns(
+pub(crate) fn push_columns(
     exact: &mut ExactProgram,
     program: &Program,
     layout: &Layout,
@@ -120,7 +120,7 @@ fn end(kind: Kind, end: Option<Frac>) -> Option<Frac> {
 }
 
 /// Adds a row of a node.
-fn push_row(
+pub(crate) fn push_row(
     alloc: Global,
     exact: &mut ExactProgram,
     program: &Program,

@@ -68,6 +68,18 @@ impl Layout {
         Ok(layout)
     }
 
+    /// Lays out the columns of some nodes alone. From then on those of other nodes have no place.
+    pub(crate) fn take(&mut self, program: &Program, nodes: &[u32]) {
+        let mut next = 0u32;
+        for number in nodes {
+            let place = *number as usize;
+            if place < self.firsts.len() && place < program.nodes.len() {
+                self.firsts[place] = next;
+                next = next.saturating_add(self.width(&program.nodes[place]));
+            }
+        }
+    }
+
     /// How many columns a node has.
     fn width(&self, node: &Option<Node>) -> u32 {
         match node {
@@ -115,14 +127,18 @@ pub(crate) fn path_to(alloc: Global, program: &Program, node: u32) -> Result<Vec
     Ok(path)
 }
 
+/// The node of a number.
+pub(crate) fn node_of(program: &Program, number: u32) -> Option<&Node> {
+    let place = number as usize;
+    if place < program.nodes.len() {
+        program.nodes[place].as_ref()
+    } else {
+        None
+    }
+}
+
 /// The period and the parent of a node.
-fn position(program: &Program, node: u32) -> Option<(u32, Option<u32>)> {
-    let place = node as usize;
-    if place >= program.nodes.len() {
-        return None;
-    }
-    match &program.nodes[place] {
-        Some(node) => Some((node.stage, node.parent)),
-        None => None,
-    }
+fn position(program: &Program, number: u32) -> Option<(u32, Option<u32>)> {
+    let node = node_of(program, number)?;
+    Some((node.stage, node.parent))
 }

@@ -4,9 +4,14 @@
 
 mod claim;
 mod flat;
+mod given;
 mod hint;
 mod layout;
 mod lists;
+mod part;
+mod rays;
 
 pub use claim::guessed_claim;
+pub use given::given_claim;
 pub use hint::WholeHint;
+pub use rays::shorter_ray;

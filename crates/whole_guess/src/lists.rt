@@ -6,7 +6,7 @@ use scen_defs::{Node, Program, Values};
 use std::alloc::Global;
 
 /// The number at a place, 0 where there is none.
-fn number_at(numbers: &[Frac], place: usize) -> Frac {
+pub(crate) fn number_at(numbers: &[Frac], place: usize) -> Frac {
     if place < numbers.len() {
         numbers[place]
     } else {
@@ -15,7 +15,7 @@ fn number_at(numbers: &[Frac], place: usize) -> Frac {
 }
 
 /// Puts a number behind the others, unless it is 0.
-fn put(values: &mut Values, node: u32, index: u32, value: Frac) -> Result<(), Memory> {
+pub(crate) fn put(values: &mut Values, node: u32, index: u32, value: Frac) -> Result<(), Memory> {
     if !value.is_zero() && values.ends_before(node, index) {
         values.push(node, index, value)?;
     }

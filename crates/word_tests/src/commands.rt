@@ -3,12 +3,14 @@ use command_words::{
     Budget, Command, Extent, Page, PlainWords, Plan, RiskMeasure, Sheet, SheetForm, Sources, Task,
 };
 use std::alloc::{AllocError, Global};
+use std::fmt::Write;
 use std::process::Abort;
 use std::test::Fail;
 
-/// In each line the words, and after the bar what they ask for: the command; of a task on files the names of the files, and of
-/// `solve` and `value` the solves and the pivots, in brackets where the words don't state them, and before them the level and the weight,
-/// where there are some; of `make` its numbers and the text that is printed. Nothing where they are refused.
+/// In each line the words, and after the bar what they ask for: the command; of a task on files the names of the files, that of a basis or
+/// of measures where there is one, and of `solve` and `value` the solves and the pivots, in brackets where the words don't state them, and
+/// before them the level and the weight, where there are some; of `make` its numbers and the text that is printed. Behind these stand how
+/// many workers are asked for, where it isn't one, and whether nothing is to be said. Nothing where the words are refused.
 const WORDS: &str = "\
 solve --core F|solve F - - - - (100000) (100000)
 solve --core F --solves 100000|solve F - - - - 100000 (100000)
@@ -48,7 +50,10 @@ solve --core F --time T --solves=1000000000 --pivots 2|solve F T - - - 100000000
 solve --core F --solves 0|
 solve --core F --solves 1000000001|
 solve --core F --workers 65|
-solve --core F --workers 64|solve F - - - - (100000) (100000)
+solve --core F --workers 64|solve F - - - - (100000) (100000) workers 64
+solve --workers=2 --solves 7 --core F --quiet|solve F - - - - 7 (100000) workers 2 quiet
+solve --core F --workers 0000000003|solve F - - - - (100000) (100000) workers 3
+solve --core --workers=2|
 solve --core F --workers 0|
 show --core F --solves 3|
 show --core F --workers 1|
@@ -72,15 +77,15 @@ flat --core F --wholes|
 solve --core F --whole|
 show --whole --core F|
 flat --time T|
-solve --core F --quiet|solve F - - - - (100000) (100000)
-solve --quiet --core=F --solves 7|solve F - - - - 7 (100000)
-solve --core F --quiet=yes --time T|solve F T - - - (100000) (100000)
+solve --core F --quiet|solve F - - - - (100000) (100000) quiet
+solve --quiet --core=F --solves 7|solve F - - - - 7 (100000) quiet
+solve --core F --quiet=yes --time T|solve F T - - - (100000) (100000) quiet
 solve --core F --quiet=no|
 solve --core F --quiet no|
 solve --core F --quiet --quiet|
 check --core F --report R --quiet|
 show --core F --quiet|
-value --quiet --core F --time T|value F T - - - (100000) (100000)
+value --quiet --core F --time T|value F T - - - (100000) (100000) quiet
 value --core F --time T --quiet=|
 flat --core F --report R|
 flat --core F --solves 3|
@@ -88,6 +93,7 @@ flat --core F --stoch S|
 value --core F --time T|value F T - - - (100000) (100000)
 value --stoch=S --time=T --core=F --pivots 7|value F T S - - (100000) 7
 value --core F --time T --solves 3 --workers 1|value F T - - - 3 (100000)
+value --core F --time T --quiet=yes --workers=64|value F T - - - (100000) (100000) workers 64 quiet
 value|
 value --core F|
 value --time T|
@@ -105,7 +111,7 @@ check --core F --report R --solves 3|
 solve --core F --tail 1/2 --weight 1|solve F - - - - 1/2 1/1 (100000) (100000)
 solve --weight=0.25 --tail=.95 --core F --time T --pivots 7|solve F T - - - 19/20 1/4 (100000) 7
 solve --core F --tail 0 --weight 0|solve F - - - - 0/1 0/1 (100000) (100000)
-solve --core F --tail 5E-1 --weight 2/2 --quiet|solve F - - - - 1/2 1/1 (100000) (100000)
+solve --core F --tail 5E-1 --weight 2/2 --quiet|solve F - - - - 1/2 1/1 (100000) (100000) quiet
 solve --core F --tail 1 --weight 1|
 solve --core F --tail 1.5 --weight 1|
 solve --core F --tail 1/2 --weight 1.01|
@@ -119,6 +125,17 @@ solve --core F --weight 1|
 solve --core F --tail 1/2 --weight|
 solve --core F --tail 1/2 --tail 1/2 --weight 1|
 solve --core F --tail 1/2 --weight 1 --edits E|
+solve --core F --basis B|solve F - - - - B (100000) (100000)
+solve --basis=B --time T --core F --stoch S --solves 7|solve F T S - - B 7 (100000)
+solve --core F --basis B --edits E|
+solve --core F --tail 1/2 --weight 1 --basis B|
+solve --core F --basis B --basis B|
+solve --core F --basis|
+solve --core F --value V|
+check --core F --report R --basis B|
+check --core F --report R --value V|
+show --core F --basis B|
+value --core F --time T --value V|
 check --core F --report R --tail 1/2 --weight 1/4|check F - - - R 1/2 1/4
 check --core F --report R --tail 1/2|
 check --core F --report R --tail 1/2 --weight 1 --edits E|
@@ -131,6 +148,11 @@ table --form=csv --report=R --edits=E --stoch=S --time=T --core=F --number 1|tab
 table --core F --report R --number 10001 --form json|table F - - - R 10001 json
 table --core F --report R --number 0000000007 --form html|table F - - - R 7 html
 table --core F --report R --form text|table F - - - R - text
+table --core F --report R --value V --form html|table F - - - R V - html
+table --value=V --report R --core F --number 3|table F - - - R V 3 text
+table --core F --report R --value V --value V|
+table --core F --report R --value|
+table --core F --report R --basis B|
 table --core F|
 table --report R|
 table --core F --report R --number 0|
@@ -146,6 +168,8 @@ make --start 1 --stages 2 --branches 2 --size 1|make 1 2 2 1 -
 make --size=20 --branches=4 --stages=6 --start=65536 --text=stoch|make 65536 6 4 20 stoch
 make --start 0 --stages 3 --branches 3 --size 2 --text core|make 0 3 3 2 core
 make --start 0 --stages 3 --branches 3 --size 2 --text time|make 0 3 3 2 time
+make --quiet --start 1 --stages 2 --branches 2 --size 1|make 1 2 2 1 - quiet
+make --start 1 --stages 2 --branches 2 --size 1 --workers 2|
 make --start 0 --stages 3 --branches 3 --size 2 --text edits|
 make --start 65537 --stages 2 --branches 2 --size 1|
 make --start 1 --stages 1 --branches 2 --size 1|
@@ -168,11 +192,16 @@ show --core F --size 1|
 check --core F --report R --stages 2|
 solve --core F --branches 2|";
 
-/// What a command asks for, as the table says it.
+/// What a task on files asks for, as the table says it.
 fn told_on_files(alloc: Global, sources: Sources<'_>, task: Task) -> Result<String, AllocError> {
     let files = files(alloc, sources)?;
     match task {
-        Task::Solve(budget) => told_budget(alloc, "solve", files.as_str(), budget),
+        Task::Solve(budget) | Task::SolveBasis(budget) => told_budget(
+            alloc,
+            "solve",
+            files.as_str(),
+            budget,
+        ),
         Task::Check => format!(in alloc; "check {files}"),
         Task::Table(sheet) => told_sheet(alloc, files.as_str(), sheet),
         Task::Show => format!(in alloc; "show {files}"),
@@ -261,7 +290,11 @@ fn files(alloc: Global, sources: Sources<'_>) -> Result<String, AllocError> {
     let stoch = sources.stoch.unwrap_or("-");
     let edits = sources.edits.unwrap_or("-");
     let report = sources.report.unwrap_or("-");
-    format!(in alloc; "{core} {time} {stoch} {edits} {report}")
+    let files = format!(in alloc; "{core} {time} {stoch} {edits} {report}")?;
+    match sources.basis.or(sources.measures) {
+        Some(further) => format!(in alloc; "{files} {further}"),
+        None => Ok(files),
+    }
 }
 
 /// The words of a line.
@@ -273,14 +306,38 @@ fn words_of(alloc: Global, line: &str) -> Result<Vec<String>, AllocError> {
     Ok(words)
 }
 
+/// What the command of words asks for, as the table says it.
+fn told_command(alloc: Global, plain: &PlainWords) -> Result<String, AllocError> {
+    match plain.command(alloc) {
+        Ok(Command::OnFiles { sources, task }) => told_on_files(alloc, sources, task),
+        Ok(Command::Make(plan)) => told_plan(alloc, plan),
+        Err(error) => Err(error),
+    }
+}
+
+/// Appends how many workers are asked for, where it isn't one, and whether nothing is to be said.
+fn put_rest(text: &mut String, plain: &PlainWords) -> Result<(), AllocError> {
+    let workers = plain.workers();
+    if workers != 1 {
+        write!(text, " workers {workers}")?;
+    }
+    if plain.is_quiet() {
+        text.push_str(" quiet")?;
+    }
+    Ok(())
+}
+
+/// All that plain words ask for, as the table says it.
+fn told_all(alloc: Global, plain: &PlainWords) -> Result<String, AllocError> {
+    let mut text = told_command(alloc, plain)?;
+    put_rest(&mut text, plain)?;
+    Ok(text)
+}
+
 /// What words ask for, as the table says it; nothing where they are refused.
 fn asked(alloc: Global, words: &[String]) -> Result<String, AllocError> {
     match PlainWords::read(alloc, words)? {
-        Some(plain) => match plain.command(alloc) {
-            Ok(Command::OnFiles { sources, task }) => told_on_files(alloc, sources, task),
-            Ok(Command::Make(plan)) => told_plan(alloc, plan),
-            Err(error) => Err(error),
-        },
+        Some(plain) => told_all(alloc, &plain),
         None => Ok(String::new(alloc)),
     }
 }

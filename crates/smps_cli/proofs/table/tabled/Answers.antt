@@ -6,7 +6,7 @@ use Rattle.smps_cli.proofs.TableLemmas.{table_refused}
 use Rattle.smps_cli.proofs.table.tabled.Goals as goal
 
 pub returns-in-Err : goal.returns-in-Err
-returns-in-Err c = IfOk-weaker c.stopped.result _ (λ answer. MayBeTable c.args.sheet.number (texts_view c.args.texts.now) answer.status (found_text answer.found))
-    (λ answer h. table_refused c.args.sheet.number (texts_view c.args.texts.now) answer.status (found_text answer.found)
+returns-in-Err c = IfOk-weaker c.stopped.result _ (λ answer. MayBeTable c.args.sheet (texts_view c.args.texts.now) answer.status (found_text answer.found))
+    (λ answer h. table_refused c.args.sheet (texts_view c.args.texts.now) answer.status (found_text answer.found)
     c.in-Err.unread c.in-Err.ensures.refused h)
     c.stopped.ensures

@@ -4,19 +4,13 @@ use Rattle.edit_script.specs.Solves.{solve_count}
 use Rattle.smps_cli.specs.Found.{found_text}
 use Rattle.smps_cli.specs.Tables.{MayBeTable}
 use Rattle.smps_cli.proofs.EndLemmas.{reports_refuse}
-use Rattle.smps_cli.proofs.TableLemmas.{table_may, table_refused}
+use Rattle.smps_cli.proofs.TableLemmas.{table_refused}
 use Rattle.smps_cli.proofs.table.tabled_input.Goals as goal
-
-pub returns-in-Ok : goal.returns-in-Ok
-returns-in-Ok c = IfOk-weaker c.tabled_report.result _
-    (λ answer. MayBeTable c.args.sheet.number (texts_view c.args.texts.now) answer.status (found_text answer.found))
-    (λ answer h. table_may c.args.sheet.number (texts_view c.args.texts.now) answer.status (found_text answer.found) h)
-    c.tabled_report.ensures
 
 pub returns-in-Err : goal.returns-in-Err
 returns-in-Err c = IfOk-weaker c.stopped.result _
-    (λ answer. MayBeTable c.args.sheet.number (texts_view c.args.texts.now) answer.status (found_text answer.found))
-    (λ answer h. table_refused c.args.sheet.number (texts_view c.args.texts.now) answer.status (found_text answer.found)
+    (λ answer. MayBeTable c.args.sheet (texts_view c.args.texts.now) answer.status (found_text answer.found))
+    (λ answer h. table_refused c.args.sheet (texts_view c.args.texts.now) answer.status (found_text answer.found)
     c.in-Err.unread (reports_refuse (texts_view c.args.texts.now) (solve_count c.args.input.now.script.items.items) c.args.input.now.program
     c.in-Err.unread c.in-Err.ensures) h)
     c.stopped.ensures

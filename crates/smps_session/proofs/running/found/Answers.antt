@@ -1,6 +1,8 @@
+use Rattle.std.proofs.Common.{IfOk, rules}
 use Rattle.scen_defs.specs.Program.{content}
 use Rattle.nested_method.specs.Stands.{StandsOn}
 use Rattle.smps_session.proofs.ComeLemmas.{shows_found}
+use Rattle.smps_session.proofs.ListLemmas.{HasOrder, lists_found}
 use Rattle.smps_session.proofs.ReasonLemmas.{true_told}
 use Rattle.smps_session.proofs.ToldLemmas.{on_ok}
 use Rattle.smps_session.proofs.running.found.Goals as goal
@@ -13,6 +15,12 @@ returns-clause-counts g c = c.report.ensures.counts
 
 pub returns-clause-names : goal.returns-clause-names
 returns-clause-names g c = c.report.ensures.names
+
+pub returns-clause-lists : goal.returns-clause-lists
+returns-clause-lists g c =
+    let order : IfOk c.report.result HasOrder = search rules in
+    lists_found c.args.program.now c.args.number c.in_ok-found.found.place c.in_ok-found.found.why c.args.budget.solves c.in_ok-found.found.claim
+    c.report.result c.report.ensures.exact order
 
 pub returns-clause-truth : goal.returns-clause-truth
 returns-clause-truth g c = λ stands. true_told c.args.program.now c.args.budget c.in_ok-found.found c.args.number c.report.result

@@ -11,6 +11,7 @@ loop-init g c = record {
   number = c.in_ok-report.ensures.number;
   counts = c.in_ok-report.ensures.counts;
   names = c.in_ok-report.ensures.names;
+  lists = c.in_ok-report.ensures.lists;
   truth = λ stands. c.in_ok-report.ensures.truth stands;
   equal = c.in_ok-report.ensures.equal;
   stands = λ stands. c.in_ok-report.ensures.stands stands;
@@ -28,6 +29,7 @@ loop-preserved g c =
       number = c.in_ok-report-2.ensures.number;
       counts = c.in_ok-report-2.ensures.counts;
       names = c.in_ok-report-2.ensures.names;
+      lists = c.in_ok-report-2.ensures.lists;
       truth = λ stands.
           c.in_ok-report-2.ensures.truth (c.in_ok-start_over.ensures.stays budget left.1 (c.loop.invariant.stands stands));
       equal = c.in_ok-report-2.ensures.equal;

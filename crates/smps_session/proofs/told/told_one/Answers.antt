@@ -2,8 +2,8 @@ use Rattle.std.proofs.Common.{◌∙◌}
 use Rattle.smps_session.proofs.ToldLemmas.{tells, on_ok}
 use Rattle.smps_session.proofs.told.told_one.Goals as goal
 
-pub own_or_whole-requires-clause-truth : goal.own_or_whole-requires-clause-truth
-own_or_whole-requires-clause-truth g c κs within = c.in_ok-own.ensures.truth c.requires.stands
+pub answer-requires-clause-truth : goal.answer-requires-clause-truth
+answer-requires-clause-truth g c κs within = c.in_ok-own.ensures.truth c.requires.stands
 
 pub returns-clause-told : goal.returns-clause-told
 returns-clause-told g c = λ start came way.
@@ -13,9 +13,10 @@ returns-clause-told g c = λ start came way.
     c.printed.ensures.text c.printed.ensures.finding c.printed.ensures.by_whole
     c.in_ok-answered.ensures.counts
     c.in_ok-answered.ensures.truth
+    c.in_ok-answered.ensures.lists
     c.in_ok-answered.ensures.equal
     (λ few. c.in_ok-own.ensures.comes start came few c.requires.stands (c.requires.cleared few) way)
-    c.in_ok-answered.ensures.whole
+    c.in_ok-answered.ensures.printed
 
 pub returns-clause-stands : goal.returns-clause-stands
 returns-clause-stands g c = on_ok c.printed.result _ (c.in_ok-own.ensures.stands c.requires.stands)
