@@ -1,8 +1,8 @@
 -- A report whose claims all hold is true.
-use Rattle.std.proofs.Common.{◌≡◌, ℕ, suc, Bool, true, false, List, [], ◌∷◌, Option, Some, None, Result, Ok, Err, length, refl, sym, subst, ap, ◌∙◌}
+use Rattle.std.proofs.Common.{◌≡◌, ℕ, suc, Bool, true, false, List, [], ◌∷◌, Option, Some, None, Result, Ok, Err, IfOk, IfSome, length, refl, sym, subst, ap, ◌∙◌}
 use Rattle.std.specs.Prelude.{not, ◌&&◌, eqb, is_some}
 use Rattle.std.proofs.lemmas.Bool.{eqb-true}
-use Rattle.rationals.specs.Rational.{ℚ, zero_ℚ, one_ℚ, ◌-ℚ◌, ◌≤ℚ◌, ◌<ℚ◌, at_most, at_most_false, by_facts, terms, not_le_of_lt_ℚ, zero_lt_one_ℚ}
+use Rattle.rationals.specs.Rational.{ℚ, zero_ℚ, one_ℚ, ◌-ℚ◌, ◌≤ℚ◌, ◌<ℚ◌, at_most, at_most_true, at_most_false, le_trans_ℚ, le_of_same_ℚ, by_facts, terms, not_le_of_lt_ℚ, zero_lt_one_ℚ}
 use Rattle.rationals.specs.Ring.Facts.{by_le, end}
 use Rattle.rationals.specs.Order.{same}
 use Rattle.rationals.specs.OrderLaws.{same_means}
@@ -18,7 +18,10 @@ use Rattle.scen_defs.specs.declared.report.Halt.{Halt}
 use Rattle.scen_defs.specs.declared.report.Report.{Report}
 use Rattle.scen_defs.proofs.Duality.{weak_duality, infeasibility_shown}
 use Rattle.scen_defs.proofs.Directions.{unboundedness_shown}
-use Rattle.scen_model.specs.Answers.{Answers}
+use Rattle.scen_model.specs.Answers.{Answers, HaltOf}
+use Rattle.scen_defs.specs.declared.report.Halt.TheVariants.{Passed, Memory}
+use Rattle.scen_defs.specs.declared.report.Place.{Place}
+use Rattle.scen_defs.specs.declared.report.Place.TheVariants.{Solve, Cut, Cost, Ground, Dual, Check}
 use Rattle.scen_model.specs.declared.stop.Stop.{Stop}
 use Rattle.scen_model.specs.declared.stop.Stop.TheVariants.{Decided, Passed as PassedStop}
 use Rattle.scen_model.specs.Walks.{cost_walk, dual_walk, feasible_walk, direction_walk}
@@ -33,7 +36,7 @@ use Rattle.certificate_check.specs.declared.verdict.Claim.{Claim}
 use Rattle.certificate_check.specs.declared.verdict.Claim.TheVariants as claim
 use Rattle.certificate_check.specs.declared.verdict.Verdict.{Verdict}
 use Rattle.certificate_check.specs.declared.verdict.Verdict.TheVariants.{Holds, Fails}
-use Rattle.certificate_check.specs.Verdicts.{decided, and_then, tested, summed, agree, has_counts, has_parts, lists_fit, has_shape, policy_verdict, worth_verdict, dual_verdict, above_verdict, ray_verdict}
+use Rattle.certificate_check.specs.Verdicts.{decided, and_then, tested, summed, at_most_summed, agree, has_counts, has_parts, lists_fit, has_shape, policy_verdict, worth_verdict, dual_verdict, above_verdict, ray_verdict}
 use Rattle.certificate_check.specs.Verdicts.{direction_verdict, ends_meet, has_ends, late_verdict, end_verdict, bound_verdict, list_verdict, verdict_of}
 use Rattle.certificate_check.specs.Shown.{unchecked, HasRay, IsShown, IfHolds}
 
@@ -89,8 +92,12 @@ not_false : (b : Bool) → not b ≡ true → b ≡ false
 not_false true e = cc
 not_false false e = refl
 
-worth_holds : (lower : ℚ) (w : Result ℚ Stop) → worth_verdict lower w ≡ Ok Holds → w ≡ Ok lower
-worth_holds lower (Ok worth) e = ap Ok ((same_means worth lower).0 (decided_holds claim.Lower (same worth lower) e))
+most_holds : (c : Claim) (number : ℚ) (w : Result ℚ Operation) → at_most_summed c number w ≡ Ok Holds → (q : ℚ) × (w ≡ Ok q) × (q ≤ℚ number)
+most_holds c number (Ok sum) e = (sum, refl, at_most_true sum number (decided_holds c (at_most sum number) e))
+most_holds c number (Err p) e = cc
+
+worth_holds : (lower : ℚ) (w : Result ℚ Stop) → worth_verdict lower w ≡ Ok Holds → (q : ℚ) × (w ≡ Ok q) × (lower ≤ℚ q)
+worth_holds lower (Ok worth) e = (worth, refl, at_most_true lower worth (decided_holds claim.Lower (at_most lower worth) e))
 worth_holds lower (Err Decided) e = cc
 worth_holds lower (Err (PassedStop p)) e = cc
 
@@ -103,29 +110,29 @@ above_holds number (Err (PassedStop p)) e = cc
 
 -- ---- what the lists show
 module _ (program : Program) (tree : IsTree (seen program)) where
-  lower_shown : (lower : Option ℚ) (dual : Option (List At)) → is_some dual ≡ is_some lower → dual_verdict program dual lower ≡ Ok Holds → Together (ShowsLower (seen program)) lower dual
+  pub lower_shown : (lower : Option ℚ) (dual : Option (List At)) → is_some dual ≡ is_some lower → dual_verdict program dual lower ≡ Ok Holds → Together (ShowsLower (seen program)) lower dual
   lower_shown None None s e = tt
   lower_shown None (Some dual) s e = cc
   lower_shown (Some lower) None s e = cc
   lower_shown (Some lower) (Some dual) s e =
       let v : View = seen program in
-      let w : dual_walk v (at dual) ≡ Ok lower = worth_holds lower (dual_walk v (at dual)) e in
-      let worth : value v (at dual) ≡ lower = sym (dual_is.value v (at dual) lower w) in
+      let w = worth_holds lower (dual_walk v (at dual)) e in
+      let worth : lower ≤ℚ value v (at dual) = le_trans_ℚ w.2 (le_of_same_ℚ (dual_is.value v (at dual) w.0 w.1)) in
       record {
-        good = dual_is.good v (at dual) lower w;
+        good = dual_is.good v (at dual) w.0 w.1;
         worth = worth;
-        bound = λ x feasible. subst (λ (r : ℚ). r ≤ℚ cost v x) worth (weak_duality v x (at dual) tree feasible (dual_is.good v (at dual) lower w));
+        bound = λ x feasible. le_trans_ℚ worth (weak_duality v x (at dual) tree feasible (dual_is.good v (at dual) w.0 w.1));
       }
 
-  upper_shown : (upper : Option ℚ) (policy : Option (List At)) → is_some policy ≡ is_some upper → policy_verdict program policy upper ≡ Ok Holds → Together (ShowsUpper (seen program)) upper policy
+  pub upper_shown : (upper : Option ℚ) (policy : Option (List At)) → is_some policy ≡ is_some upper → policy_verdict program policy upper ≡ Ok Holds → Together (ShowsUpper (seen program)) upper policy
   upper_shown None None s e = tt
   upper_shown None (Some policy) s e = cc
   upper_shown (Some upper) None s e = cc
   upper_shown (Some upper) (Some policy) s e =
       let v : View = seen program in
       let met : feasible_walk v (at policy) ≡ Ok tt = tested_holds claim.Policy (feasible_walk v (at policy)) (first_holds _ _ e) in
-      let w : cost_walk v (at policy) ≡ Ok upper = summed_holds claim.Cost upper (cost_walk v (at policy)) (rest_holds (tested claim.Policy (feasible_walk v (at policy))) _ e) in
-      record { feasible = feasible_is.yes v (at policy) met; costs = sym (cost_is v (at policy) upper tree w) }
+      let w = most_holds claim.Cost upper (cost_walk v (at policy)) (rest_holds (tested claim.Policy (feasible_walk v (at policy))) _ e) in
+      record { feasible = feasible_is.yes v (at policy) met; costs = le_trans_ℚ (le_of_same_ℚ (sym (cost_is v (at policy) w.0 tree w.1))) w.2 }
 
   ray_shown : (number : Option ℚ) (ray : Option (List At)) → true ≡ is_some ray → true ≡ is_some number → ray_verdict program ray number ≡ Ok Holds
       → (n : ℚ) × (number ≡ Some n) × (r : List At) × (ray ≡ Some r) × ShowsNothing (seen program) n r
@@ -185,19 +192,16 @@ record Parts (program : Program) (report : Report) : Type 0 where
   direction : is_some report.direction ≡ has_direction report.finding
   ray : is_some report.ray ≡ has_ray report.finding
   extra : is_some report.extra ≡ has_extra report.finding
-  policy_holds : policy_verdict program report.policy report.upper ≡ Ok Holds
-  dual_holds : dual_verdict program report.dual report.lower ≡ Ok Holds
+  low : Together (ShowsLower (seen program)) report.lower report.dual
+  high : Together (ShowsUpper (seen program)) report.upper report.policy
   ends : has_ends report.finding report.lower report.upper ≡ true
   ray_holds : ray_verdict program report.ray report.extra ≡ Ok Holds
   direction_holds : direction_verdict program report.direction report.extra ≡ Ok Holds
 
-parts : (program : Program) (report : Report) → verdict_of program report ≡ Ok Holds → Parts program report
-parts program report e =
-    let shape : has_shape program report ≡ true = decided_holds claim.Shape (has_shape program report) (first_holds _ _ e) in
-    let lists : list_verdict program report ≡ Ok Holds = rest_holds (decided claim.Shape (has_shape program report)) _ e in
-    let bounds : bound_verdict program report ≡ Ok Holds = rest_holds (policy_verdict program report.policy report.upper) _ lists in
-    let ends : end_verdict program report ≡ Ok Holds = rest_holds (dual_verdict program report.dual report.lower) _ bounds in
-    let late : late_verdict program report ≡ Ok Holds = rest_holds (decided claim.Ends (has_ends report.finding report.lower report.upper)) _ ends in
+parts_of : (program : Program) (report : Report) → has_shape program report ≡ true → Together (ShowsLower (seen program)) report.lower report.dual
+    → Together (ShowsUpper (seen program)) report.upper report.policy → has_ends report.finding report.lower report.upper ≡ true
+    → late_verdict program report ≡ Ok Holds → Parts program report
+parts_of program report shape low high ends late =
     let front : (has_counts program report && has_parts report) ≡ true = left_true (has_counts program report && has_parts report) (lists_fit program report) shape in
     let five : has_parts report ≡ true = right_true (has_counts program report) (has_parts report) front in
     let p1 : Bool = agree (is_some report.policy) (is_some report.upper) in
@@ -215,20 +219,34 @@ parts program report e =
       direction = agree_same _ _ (right_true (p1 && p2) p3 three);
       ray = agree_same _ _ (right_true (p1 && p2 && p3) p4 four);
       extra = agree_same _ _ (right_true (p1 && p2 && p3 && p4) p5 five);
-      policy_holds = first_holds _ _ lists;
-      dual_holds = first_holds _ _ bounds;
-      ends = decided_holds claim.Ends _ (first_holds _ _ ends);
+      low = low;
+      high = high;
+      ends = ends;
       ray_holds = first_holds _ _ late;
       direction_holds = rest_holds (ray_verdict program report.ray report.extra) _ late;
     }
 
+parts : (program : Program) (report : Report) → IsTree (seen program) → verdict_of program report ≡ Ok Holds → Parts program report
+parts program report tree e =
+    let shape : has_shape program report ≡ true = decided_holds claim.Shape (has_shape program report) (first_holds _ _ e) in
+    let lists : list_verdict program report ≡ Ok Holds = rest_holds (decided claim.Shape (has_shape program report)) _ e in
+    let bounds : bound_verdict program report ≡ Ok Holds = rest_holds (policy_verdict program report.policy report.upper) _ lists in
+    let ends : end_verdict program report ≡ Ok Holds = rest_holds (dual_verdict program report.dual report.lower) _ bounds in
+    let late : late_verdict program report ≡ Ok Holds = rest_holds (decided claim.Ends (has_ends report.finding report.lower report.upper)) _ ends in
+    let front : (has_counts program report && has_parts report) ≡ true = left_true (has_counts program report && has_parts report) (lists_fit program report) shape in
+    let five : has_parts report ≡ true = right_true (has_counts program report) (has_parts report) front in
+    let p1 : Bool = agree (is_some report.policy) (is_some report.upper) in
+    let p2 : Bool = agree (is_some report.dual) (is_some report.lower) in
+    let p3 : Bool = agree (is_some report.direction) (has_direction report.finding) in
+    let p4 : Bool = agree (is_some report.ray) (has_ray report.finding) in
+    let p5 : Bool = agree (is_some report.extra) (has_extra report.finding) in
+    let two : (p1 && p2) ≡ true = left_true (p1 && p2) p3 (left_true (p1 && p2 && p3) p4 (left_true (p1 && p2 && p3 && p4) p5 five)) in
+    parts_of program report shape
+    (lower_shown program tree report.lower report.dual (agree_same _ _ (right_true p1 p2 two)) (first_holds _ _ bounds))
+    (upper_shown program tree report.upper report.policy (agree_same _ _ (left_true p1 p2 two)) (first_holds _ _ lists))
+    (decided_holds claim.Ends _ (first_holds _ _ ends)) late
+
 module _ (program : Program) (report : Report) (tree : IsTree (seen program)) (p : Parts program report) where
-  low : Together (ShowsLower (seen program)) report.lower report.dual
-  low = lower_shown program tree report.lower report.dual p.dual p.dual_holds
-
-  high : Together (ShowsUpper (seen program)) report.upper report.policy
-  high = upper_shown program tree report.upper report.policy p.policy p.policy_holds
-
   has_ray_of : report.finding ≡ Infeasible → HasRay (seen program) report
   has_ray_of f =
       let s = ray_shown program tree report.extra report.ray (sym (p.ray ∙ ap has_ray f)) (sym (p.extra ∙ ap has_extra f)) p.ray_holds in
@@ -240,14 +258,14 @@ module _ (program : Program) (report : Report) (tree : IsTree (seen program)) (p
       record { cost = s.0; lower = s.1; upper = s.2 }
   explained Infeasible f none =
       let r = has_ray_of f in
-      record { lower_is = none f; upper_is = no_upper (seen program) report.upper report.policy r.value r.ray high r.shows; value = r.value; value_is = r.value_is; ray = r.ray; ray_is = r.ray_is; shows = r.shows }
+      record { lower_is = none f; upper_is = no_upper (seen program) report.upper report.policy r.value r.ray p.high r.shows; value = r.value; value_is = r.value_is; ray = r.ray; ray_is = r.ray_is; shows = r.shows }
   explained Unbounded f none =
       let has_upper : is_some report.upper ≡ true = subst (λ (g : Finding). has_ends g report.lower report.upper ≡ true) f p.ends in
-      let s = slope_shown program tree report.upper report.extra report.policy report.direction (sym (p.direction ∙ ap has_direction f)) (sym (p.extra ∙ ap has_extra f)) (sym has_upper) high p.direction_holds in
+      let s = slope_shown program tree report.upper report.extra report.policy report.direction (sym (p.direction ∙ ap has_direction f)) (sym (p.extra ∙ ap has_extra f)) (sym has_upper) p.high p.direction_holds in
       record {
         upper = s.0;
         upper_is = s.1;
-        lower_is = no_lower (seen program) report.lower report.dual s.2 s.4 low s.6;
+        lower_is = no_lower (seen program) report.lower report.dual s.2 s.4 p.low s.6;
         slope = s.2;
         slope_is = s.3;
         direction = s.4;
@@ -267,9 +285,29 @@ module _ (program : Program) (report : Report) (tree : IsTree (seen program)) (p
   from_parts : IsShown (seen program) report
   from_parts = record {
     counts = counted;
-    truth = λ none. record { lower = low; upper = high; finding = explained report.finding refl none; direction = p.direction; ray = p.ray; extra = p.extra };
+    truth = λ none. record { lower = p.low; upper = p.high; finding = explained report.finding refl none; direction = p.direction; ray = p.ray; extra = p.extra };
     ray = has_ray_of;
   }
 
 pub shown : (program : Program) (report : Report) → IsTree (seen program) → verdict_of program report ≡ Ok Holds → IsShown (seen program) report
-shown program report tree e = from_parts program report tree (parts program report e)
+shown program report tree e = from_parts program report tree (parts program report tree e)
+
+-- the same by the parts of the claims
+pub shown_by : (program : Program) (report : Report) → IsTree (seen program) → has_shape program report ≡ true → has_ends report.finding report.lower report.upper ≡ true
+    → Together (ShowsUpper (seen program)) report.upper report.policy → Together (ShowsLower (seen program)) report.lower report.dual
+    → late_verdict program report ≡ Ok Holds → IsShown (seen program) report
+shown_by program report tree shape ends high low late = from_parts program report tree (parts_of program report shape low high ends late)
+
+-- a check that ends early names the operation in which the walk ends
+pub halted : {X : Type 0} (walk : Result X Operation) (h : Halt) (place : Place) (p : Operation) → HaltOf walk h → h ≡ Passed place p → walk ≡ Err p
+halted walk (Passed Check q) place p h e = let same : q ≡ p = cc in h ∙ ap Err same
+halted walk (Passed (Solve k) q) place p h e = absurd h
+halted walk (Passed (Cut k) q) place p h e = absurd h
+halted walk (Passed (Cost k) q) place p h e = absurd h
+halted walk (Passed Ground q) place p h e = absurd h
+halted walk (Passed Dual q) place p h e = absurd h
+halted walk Memory place p h e = absurd (cc)
+
+-- what a number is that was found
+pub of_some : {E : Type 0} (r : Result (Option ℚ) E) (P : ℚ → Type 0) (q : ℚ) → r ≡ Ok (Some q) → IfOk r (λ found. IfSome found P) → P q
+of_some r P q e h = subst (λ x. IfOk x (λ found. IfSome found P)) e h

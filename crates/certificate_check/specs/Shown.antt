@@ -1,6 +1,8 @@
 -- What a report says of its program where all its claims hold.
-use Rattle.std.specs.Prelude.{◌≡◌, List, Some, None, Result, Ok, Err}
+use Rattle.std.specs.Prelude.{◌≡◌, ◌⊎◌, List, Some, None, Result, Ok, Err}
 use Rattle.rationals.specs.Rational.{ℚ}
+use Rattle.rationals.specs.Passes.{Operation}
+use Rattle.scen_model.specs.Answers.{Answers}
 use Rattle.scen_defs.specs.Values.{At}
 use Rattle.scen_defs.specs.Program.{View}
 use Rattle.scen_defs.specs.declared.report.Finding.TheVariants.{Infeasible}
@@ -35,3 +37,7 @@ abbrev pub IfHolds : Result Verdict Halt → Type 0 → Type 0
 IfHolds (Ok Holds) P = P
 IfHolds (Ok (Fails c)) P = Unit {0}
 IfHolds (Err h) P = Unit {0}
+
+-- The answer is what the claims come to, operation by operation; or, where that ends in an operation that passes, that all of them hold.
+abbrev pub JudgedBy : Result Verdict Operation → Result Verdict Halt → Type 0
+JudgedBy walk result = Answers walk result ⊎ ((result ≡ Ok Holds) × ((p : Operation) × (walk ≡ Err p)))

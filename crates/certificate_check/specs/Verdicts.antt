@@ -46,6 +46,11 @@ abbrev pub summed : Claim → ℚ → Result ℚ Operation → Result Verdict Op
 summed c number (Ok sum) = decided c (same sum number)
 summed c number (Err p) = Err p
 
+-- a claim that a sum is at most this number
+abbrev pub at_most_summed : Claim → ℚ → Result ℚ Operation → Result Verdict Operation
+at_most_summed c number (Ok sum) = decided c (at_most sum number)
+at_most_summed c number (Err p) = Err p
+
 -- ---- SHAPE
 
 -- both hold, or neither
@@ -75,17 +80,17 @@ has_shape program report = has_counts program report && has_parts report && list
 
 -- ---- the claims of lists; of a list that isn't there they hold
 
--- POLICY: it is feasible; COST: it costs the upper end
+-- POLICY: it is feasible; COST: it costs at most the upper end
 abbrev pub policy_verdict : Program → Option (List At) → Option ℚ → Result Verdict Operation
 policy_verdict program None upper = Ok Holds
 policy_verdict program (Some policy) None = Ok Holds
 policy_verdict program (Some policy) (Some upper) =
-    and_then (tested claim.Policy (feasible_walk (seen program) (at policy))) (summed claim.Cost upper (cost_walk
+    and_then (tested claim.Policy (feasible_walk (seen program) (at policy))) (at_most_summed claim.Cost upper (cost_walk
     (seen program) (at policy)))
 
--- DUAL: the ends that are used are finite; LOWER: it is worth the lower end
+-- DUAL: the ends that are used are finite; LOWER: it is worth at least the lower end
 abbrev pub worth_verdict : ℚ → Result ℚ Stop → Result Verdict Operation
-worth_verdict lower (Ok worth) = decided claim.Lower (same worth lower)
+worth_verdict lower (Ok worth) = decided claim.Lower (at_most lower worth)
 worth_verdict lower (Err Decided) = Ok (Fails claim.Dual)
 worth_verdict lower (Err (PassedStop p)) = Err p
 

@@ -4,6 +4,7 @@
 mod claims;
 mod ends;
 mod lists;
+mod rounding;
 mod shape;
 mod text;
 mod verdict;

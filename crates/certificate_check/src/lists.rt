@@ -7,8 +7,8 @@ ghost use Rattle.scen_defs.specs.Flat.{without_costs};
 ghost use Rattle.scen_model.specs.Answers.{Answers};
 ghost use Rattle.scen_model.specs.Walks.{cost_walk, feasible_walk, direction_walk, dual_walk};
 ghost use Rattle.report_defs.specs.Seen.{seen};
-ghost use Rattle.certificate_check.specs.Verdicts.{decided, and_then, tested, summed, policy_verdict, worth_verdict, dual_verdict};
-ghost use Rattle.certificate_check.specs.Verdicts.{above_verdict, ray_verdict, direction_verdict};
+ghost use Rattle.certificate_check.specs.Verdicts.{decided, and_then, tested, summed, at_most_summed, policy_verdict, worth_verdict};
+ghost use Rattle.certificate_check.specs.Verdicts.{dual_verdict, above_verdict, ray_verdict, direction_verdict};
 
 use crate::verdict::{Claim, Verdict};
 use frac128::Frac;
@@ -41,6 +41,20 @@ fn test_cost(
     Ok(decided(claim, cost == number))
 }
 
+/// Whether a list costs at most this number.
+fn test_most(
+    alloc: Global,
+    program: &Program,
+    values: &Values,
+    claim: Claim,
+    number: Frac,
+) -> Result<Verdict, Halt>
+    ensures { Answers (at_most_summed claim number (cost_walk (seen program.now) (at values.now))) result }
+{
+    let cost = cost(alloc, program, values)?;
+    Ok(decided(claim, is_at_most(cost, number)))
+}
+
 /// `Policy`, then `Cost`.
 fn test_policy(
     alloc: Global,
@@ -51,7 +65,7 @@ fn test_policy(
     ensures { Answers (policy_verdict program.now (Some policy.now) (Some upper)) result }
 {
     if feasible(alloc, program, policy)? {
-        test_cost(alloc, program, policy, Claim::Cost, upper)
+        test_most(alloc, program, policy, Claim::Cost, upper)
     } else {
         Ok(Verdict::Fails(Claim::Policy))
     }
@@ -78,9 +92,15 @@ fn test_dual(alloc: Global, program: &Program, dual: &Values, lower: Frac) -> Re
     ensures { Answers (worth_verdict lower (dual_walk (seen program.now) (at dual.now))) result }
 {
     match dual_value(alloc, program, dual)? {
-        Some(worth) => Ok(decided(Claim::Lower, worth == lower)),
+        Some(worth) => Ok(decided(Claim::Lower, is_at_most(lower, worth))),
         None => Ok(Verdict::Fails(Claim::Dual)),
     }
+}
+
+fn is_at_most(a: Frac, b: Frac) -> bool
+    ensures { result ≡ at_most a b }
+{
+    a <= b
 }
 
 fn is_at_most_zero(number: Frac) -> bool

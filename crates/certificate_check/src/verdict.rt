@@ -8,11 +8,11 @@ pub enum Claim {
     Shape,
     /// The policy is feasible.
     Policy,
-    /// The policy costs the upper end.
+    /// The policy costs at most the upper end.
     Cost,
     /// Each end and bound that the dual uses is finite.
     Dual,
-    /// The dual is worth the lower end.
+    /// The dual is worth at least the lower end.
     Lower,
     /// An optimal report has both ends, and they are equal; an unbounded one has its upper end.
     Ends,

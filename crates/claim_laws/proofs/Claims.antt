@@ -25,8 +25,12 @@ use Rattle.proved_report.specs.declared.open.Open.{Open}
 use Rattle.proved_report.specs.declared.claim.Claim.{Claim}
 use Rattle.proved_report.specs.declared.claim.Claim.TheVariants.{Ends, Nowhere, Endless}
 use Rattle.proved_report.specs.Open.{finding_of}
-use Rattle.proved_report.specs.Tested.{or_before, by_cost, policy_test, dual_test, direction_test, ray_test}
-use Rattle.proved_report.specs.Reports.{ends_report, ray_report, falling_report, claimed_report}
+use Rattle.report_defs.specs.Shows.{ShowsLower, ShowsUpper}
+use Rattle.proved_report.specs.declared.tested.Tested.{Tested}
+use Rattle.proved_report.specs.Rounded.{IsRounded}
+use Rattle.proved_report.specs.Tested.{or_before, shown_number, by_cost, policy_test, dual_test, direction_test, ray_test}
+use Rattle.proved_report.specs.Reports.{Rounds, AreRounds, ends_finding, ends_report, ray_report, falling_report, claimed_report}
+use Rattle.claim_laws.proofs.EndFindings.{ends_is, found_from, kept_test}
 use Rattle.claim_laws.specs.Held.{OptimumHolds, RayHolds, CostFalls, ClaimHolds, finding_for, TellsTest}
 use Rattle.claim_laws.proofs.Passing.{IsWide}
 use Rattle.claim_laws.proofs.Tests.{ComesTo, policy_comes, dual_comes, direction_comes, ray_comes}
@@ -76,7 +80,7 @@ by_one tested shows passes found asked there (inl e) is told = inl (ap found e �
 by_one tested shows passes found asked there (inr p) is told = inr (p.0, p.1, ap found p.1 ∙ told p.0 p.2)
 
 -- ---- claims
-module _ (program : Program) (number nodes scenarios : ℕ) (place : Place) (why : Open) (solves : ℕ) (tree : IsTree (seen program)) where
+module _ (program : Program) (number nodes scenarios : ℕ) (place : Place) (why : Open) (solves : ℕ) (tree : IsTree (seen program)) (rounds : Rounds) where
   abbrev v : View
   v = seen program
 
@@ -84,7 +88,7 @@ module _ (program : Program) (number nodes scenarios : ℕ) (place : Place) (why
   IsShownBy claim report = (report.finding ≡ finding_for claim) ⊎ TellsTest program place claim report
 
   abbrev report_of : Claim → Report
-  report_of claim = claimed_report program number nodes scenarios place why solves claim
+  report_of claim = claimed_report program number nodes scenarios place why solves rounds claim
 
   ends_told : (policy dual : List At) → let made : Report = report_of (Ends (Some policy) (Some dual)) in
       (made.finding ≡ Optimal)
@@ -94,18 +98,48 @@ module _ (program : Program) (number nodes scenarios : ℕ) (place : Place) (why
   ends_told policy dual (inr (o, inl a)) = inr (record { told = place; operation = o; finding = a.1; passes = inl (refl, a.0) })
   ends_told policy dual (inr (o, inr b)) = inr (record { told = Dual; operation = o; finding = b.1; passes = inr (refl, b.0, b.2) })
 
-  by_ends : (policy dual : List At) → OptimumHolds program policy dual
+  -- where both tests show their numbers, these are printed; else the finding is OPTIMAL, or that of the first operation that passes
+  abbrev left_of : Tested → Tested → Finding
+  left_of t u = finding_of (or_before t place (or_before u Dual why)) solves
+
+  abbrev told_of : Tested → Tested → Finding
+  told_of t u = (ends_report (blank_report number nodes scenarios (left_of t u)) rounds.upper rounds.lower).finding
+
+  abbrev IsOf : Tested → Tested → Type 0
+  IsOf t u = (told_of t u ≡ Optimal) ⊎ IsToldOf (λ o. by_cost [] (Err o)) t u place Dual (told_of t u)
+
+  first : (t u : Tested) (o : Operation) → t ≡ by_cost [] (Err o) → left_of t u ≡ OpenPassed place o → (told_of t u ≡ Optimal) ⊎ (told_of t u ≡ left_of t u) → IsOf t u
+  first t u o e is (inl x) = inl x
+  first t u o e is (inr x) = inr (o, inl (e, x ∙ is))
+
+  second : (t u : Tested) (o : Operation) → u ≡ by_cost [] (Err o) → ((p : Operation) → t ≡ by_cost [] (Err p) → ⊥) → left_of t u ≡ OpenPassed Dual o
+      → (told_of t u ≡ Optimal) ⊎ (told_of t u ≡ left_of t u) → IsOf t u
+  second t u o e none is (inl x) = inl x
+  second t u o e none is (inr x) = inr (o, inr (e, x ∙ is, none))
+
+  ends_by : (policy dual : List At) (t u : Tested) (c w : ℚ) (p d : List At) → same w c ≡ true → ComesTo t (by_cost p (Ok c)) (λ o. by_cost [] (Err o)) → ComesTo u (by_cost d (Ok w)) (λ o. by_cost [] (Err o))
+      → IsRounded (ShowsUpper (seen program)) (Some policy) t rounds.upper → IsRounded (ShowsLower (seen program)) (Some dual) u rounds.lower → IsOf t u
+  ends_by policy dual t u c w p d equal (inl e) (inl k) r s =
+      let upper_is : rounds.upper ≡ by_cost p (Ok c) = kept_test _ _ t rounds.upper (λ o h. apart c p o (sym e ∙ h)) r ∙ e in
+      let lower_is : rounds.lower ≡ by_cost d (Ok w) = kept_test _ _ u rounds.lower (λ o h. apart w d o (sym k ∙ h)) s ∙ k in
+      inl (ends_is (blank_report number nodes scenarios (left_of t u)) rounds.upper rounds.lower
+      ∙ ap₂ (λ (x y : Tested). ends_finding (shown_number y) (shown_number x) (left_of t u)) upper_is lower_is
+      ∙ ap (λ (b : Bool). pick b Optimal (left_of t u)) equal)
+  ends_by policy dual t u c w p d equal (inl e) (inr q) r s =
+      second t u q.0 q.1 (λ o h. apart c p o (sym e ∙ h))
+      (ap₂ (λ (x y : Tested). finding_of (or_before x place (or_before y Dual why)) solves) e q.1 ∙ is_told Dual q.0 solves q.2)
+      (found_from (blank_report number nodes scenarios (left_of t u)) rounds.upper rounds.lower)
+  ends_by policy dual t u c w p d equal (inr q) k r s =
+      first t u q.0 q.1 (ap (λ (x : Tested). finding_of (or_before x place (or_before u Dual why)) solves) q.1 ∙ is_told place q.0 solves q.2)
+      (found_from (blank_report number nodes scenarios (left_of t u)) rounds.upper rounds.lower)
+
+  by_ends : (policy dual : List At) → AreRounds program (Ends (Some policy) (Some dual)) rounds → OptimumHolds program policy dual
       → IsShownBy (Ends (Some policy) (Some dual)) (report_of (Ends (Some policy) (Some dual)))
-  by_ends policy dual h =
+  by_ends policy dual are h =
       let equal : same (value v (at dual)) (cost v (at policy)) ≡ true = is_same (value v (at dual)) (cost v (at policy))
       (le_antisym_ℚ (weak_duality v (at policy) (at dual) tree h.feasible h.good) h.meet) in
-      ends_told policy dual (by_two (policy_test program policy) (dual_test program dual) (by_cost policy (Ok (cost v (at policy))))
-      (by_cost dual (Ok (value v (at dual)))) (λ o. by_cost [] (Err o))
-      (λ t u. (ends_report
-      (blank_report number nodes scenarios (finding_of (or_before t place (or_before u Dual why)) solves)) t u).finding)
-      Optimal place Dual (policy_comes program tree policy h.policy_fits h.feasible) (dual_comes program tree dual h.dual_fits h.good)
-      (ap (λ (b : Bool). pick b Optimal (finding_of why solves)) equal) (apart (cost v (at policy)) policy)
-      (λ o k. is_told Dual o solves k) (λ o k. is_told place o solves k) (λ o p k. is_told place o solves k))
+      ends_told policy dual (ends_by policy dual (policy_test program policy) (dual_test program dual) (cost v (at policy)) (value v (at dual)) policy dual equal
+      (policy_comes program tree policy h.policy_fits h.feasible) (dual_comes program tree dual h.dual_fits h.good) are.0 are.1)
 
   ray_told : (ray : List At) → let made : Report = report_of (Nowhere ray) in
       (made.finding ≡ Infeasible)
@@ -137,9 +171,9 @@ module _ (program : Program) (number nodes scenarios : ℕ) (place : Place) (why
       (direction_comes program tree direction h.direction_fits h.falls) refl (apart (cost v (at policy)) policy)
       (λ o k. is_told place o solves k) (λ o k. is_told place o solves k) (λ o p k. is_told place o solves k))
 
-  pub claim_shown : (claim : Claim) → ClaimHolds program claim → IsShownBy claim (report_of claim)
-  claim_shown (Ends (Some policy) (Some dual)) h = by_ends policy dual h
-  claim_shown (Ends (Some policy) None) h = absurd h
-  claim_shown (Ends None dual) h = absurd h
-  claim_shown (Nowhere ray) h = by_ray ray h
-  claim_shown (Endless policy direction) h = by_fall policy direction h
+  pub claim_shown : (claim : Claim) → AreRounds program claim rounds → ClaimHolds program claim → IsShownBy claim (report_of claim)
+  claim_shown (Ends (Some policy) (Some dual)) are h = by_ends policy dual are h
+  claim_shown (Ends (Some policy) None) are h = absurd h
+  claim_shown (Ends None dual) are h = absurd h
+  claim_shown (Nowhere ray) are h = by_ray ray h
+  claim_shown (Endless policy direction) are h = by_fall policy direction h

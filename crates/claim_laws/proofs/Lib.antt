@@ -1,3 +1,4 @@
+pub mod EndFindings
 pub mod Directions
 pub mod Passing
 pub mod Tests

@@ -27,7 +27,9 @@ use Rattle.proved_report.specs.declared.tested.Tested.TheVariants.{Shows, Fails,
 use Rattle.proved_report.specs.Open.{finding_of}
 use Rattle.proved_report.specs.Tested.{where_fits, where_meets, where_above, by_cost, by_value, or_before}
 use Rattle.proved_report.specs.Tested.{policy_test, dual_test, direction_test, ray_test, some_policy_test, some_dual_test}
-use Rattle.proved_report.specs.Reports.{ends_report, ray_report, falling_report, claimed_report}
+use Rattle.proved_report.specs.Reports.{Rounds, AreRounds, ends_report, ray_report, falling_report, claimed_report}
+use Rattle.report_defs.specs.Shows.{ShowsLower, ShowsUpper}
+use Rattle.proved_report.specs.Rounded.{IsRounded}
 use Rattle.claim_laws.specs.Held.{FitsColumns, FitsRows}
 use Rattle.claim_laws.specs.Tells.{PrintsOnly, PrintsClaimed}
 
@@ -222,23 +224,49 @@ module _ (number nodes scenarios : ℕ) (finding : Finding) where
   falling_lists Fails slope = record { policy_is = refl; dual_is = refl; ray_is = refl; direction_is = refl }
   falling_lists (Passes o) slope = record { policy_is = refl; dual_is = refl; ray_is = refl; direction_is = refl }
 
+-- ---- lists that are printed with a rounded number
+fits_of : (b : Bool) (t : Tested) (o : Operation) → where_fits b t ≡ Passes o → b ≡ true
+fits_of true t o e = refl
+fits_of false t o e = absurd (cc)
+
+rounded_prints : (Shown : ℚ → List At → Type 0) (Fits : List At → Type 0) (list : Option (List At)) (t u : Tested) → IsRounded Shown list t u
+    → ((values : List At) (o : Operation) → list ≡ Some values → t ≡ Passes o → Fits values) → PrintsOnly Fits list (shown_list t) → PrintsOnly Fits list (shown_list u)
+rounded_prints Shown Fits list t u (inl e) fits h = subst (λ (x : Tested). PrintsOnly Fits list (shown_list x)) (sym e) h
+rounded_prints Shown Fits list t u (inr r) fits h = subst (λ (x : Tested). PrintsOnly Fits list (shown_list x)) (sym r.printed_is) (λ x e.
+    let same : r.values ≡ x = same_some r.values x e in
+    (r.list_is ∙ ap (λ (l : List At). Some l) same, subst Fits same (fits r.values r.operation r.list_is r.passes)))
+
+rounded_or : (Shown : ℚ → List At → Type 0) (list : Option (List At)) (t u : Tested) (R : Type 0) (values : List At) → IsRounded Shown list t u → list ≡ Some values
+    → (shown_list t ≡ Some values) ⊎ R → (shown_list u ≡ Some values) ⊎ R
+rounded_or Shown list t u R values (inl e) c h = subst (λ (x : Tested). (shown_list x ≡ Some values) ⊎ R) (sym e) h
+rounded_or Shown list t u R values (inr r) c h = inl (ap shown_list r.printed_is ∙ sym r.list_is ∙ c)
+
+module _ (program : Program) where
+  policy_fits : (policy : Option (List At)) (values : List At) (o : Operation) → policy ≡ Some values → some_policy_test program policy ≡ Passes o → FitsColumns program values
+  policy_fits policy values o e h = fits_of (all_fit (content program) false values) _ o (ap (some_policy_test program) (sym e) ∙ h)
+
+  dual_fits : (dual : Option (List At)) (values : List At) (o : Operation) → dual ≡ Some values → some_dual_test program dual ≡ Passes o → FitsRows program values
+  dual_fits dual values o e h = fits_of (all_fit (content program) true values) _ o (ap (some_dual_test program) (sym e) ∙ h)
+
 -- ---- claims
-module _ (program : Program) (number nodes scenarios : ℕ) (place : Place) (why : Open) (solves : ℕ) where
-  pub lists_claimed : (claim : Claim)
-      → PrintsClaimed program claim (claimed_report program number nodes scenarios place why solves claim)
-  lists_claimed (Ends policy dual) =
+module _ (program : Program) (number nodes scenarios : ℕ) (place : Place) (why : Open) (solves : ℕ) (rounds : Rounds) where
+  pub lists_claimed : (claim : Claim) → AreRounds program claim rounds
+      → PrintsClaimed program claim (claimed_report program number nodes scenarios place why solves rounds claim)
+  lists_claimed (Ends policy dual) are =
       let upper : Tested = some_policy_test program policy in
       let lower : Tested = some_dual_test program dual in
-      let has = ends_lists number nodes scenarios (finding_of (or_before upper place (or_before lower Dual why)) solves) upper lower in
+      let has = ends_lists number nodes scenarios (finding_of (or_before upper place (or_before lower Dual why)) solves) rounds.upper rounds.lower in
       record {
-        policy = λ x e. some_policy_prints program policy x (sym has.policy_is ∙ e);
-        dual = λ x e. some_dual_prints program dual x (sym has.dual_is ∙ e);
+        policy = λ x e. rounded_prints (ShowsUpper (seen program)) (FitsColumns program) policy upper rounds.upper are.0 (policy_fits program policy) (some_policy_prints program policy) x (sym has.policy_is ∙ e);
+        dual = λ x e. rounded_prints (ShowsLower (seen program)) (FitsRows program) dual lower rounds.lower are.1 (dual_fits program dual) (some_dual_prints program dual) x (sym has.dual_is ∙ e);
         ray = λ x e. prints_none (FitsRows program) None x (sym has.ray_is ∙ e);
         direction = λ x e. prints_none (FitsColumns program) None x (sym has.direction_is ∙ e);
-        feasible = subst (PrintsFeasible program policy) (sym has.policy_is) (feasible_prints program policy);
-        good = subst (PrintsGood program dual) (sym has.dual_is) (good_prints program dual);
+        feasible = subst (PrintsFeasible program policy) (sym has.policy_is) (λ values e fits feasible.
+            rounded_or (ShowsUpper (seen program)) policy upper rounds.upper _ values are.0 e (feasible_prints program policy values e fits feasible));
+        good = subst (PrintsGood program dual) (sym has.dual_is) (λ values e fits good.
+            rounded_or (ShowsLower (seen program)) dual lower rounds.lower _ values are.1 e (good_prints program dual values e fits good));
       }
-  lists_claimed (Nowhere ray) =
+  lists_claimed (Nowhere ray) are =
       let shown : Tested = ray_test program ray in
       let has = ray_lists number nodes scenarios (finding_of (or_before shown Dual why) solves) shown in
       record {
@@ -249,7 +277,7 @@ module _ (program : Program) (number nodes scenarios : ℕ) (place : Place) (why
         feasible = none_feasible program _;
         good = none_good program _;
       }
-  lists_claimed (Endless policy direction) =
+  lists_claimed (Endless policy direction) are =
       let upper : Tested = policy_test program policy in
       let slope : Tested = direction_test program direction in
       let has = falling_lists number nodes scenarios (finding_of (or_before upper place (or_before slope place why)) solves) upper slope in

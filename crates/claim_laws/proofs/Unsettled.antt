@@ -28,8 +28,8 @@ use Rattle.proved_report.specs.declared.tested.Tested.TheVariants.{Shows, Fails,
 use Rattle.proved_report.specs.Open.{finding_of}
 use Rattle.proved_report.specs.Tested.{where_fits, where_meets, where_above, by_cost, by_value, shown_number, or_before}
 use Rattle.proved_report.specs.Tested.{policy_test, dual_test, direction_test, ray_test, some_policy_test, some_dual_test}
-use Rattle.proved_report.specs.Reports.{ends_finding, upper_report, lower_report, ends_report, ray_report}
-use Rattle.proved_report.specs.Reports.{falling_report, claimed_report}
+use Rattle.proved_report.specs.Reports.{Rounds, ends_report, ray_report, falling_report, claimed_report}
+use Rattle.claim_laws.proofs.EndFindings.{found_from}
 use Rattle.claim_laws.specs.Held.{PassesInClaim}
 use Rattle.claim_laws.specs.Tells.{IsForSolves, IsFindingOf}
 use Rattle.claim_laws.proofs.Claims.{is_told}
@@ -69,37 +69,6 @@ value_wide values (Err Decided) h = tt
 value_wide values (Err (PassedStop o)) h = h
 
 -- ---- the findings of reports
--- ends are OPTIMAL where they are equal
-ends_from : (lower upper : Option ℚ) (finding : Finding)
-    → (ends_finding lower upper finding ≡ Optimal) ⊎ (ends_finding lower upper finding ≡ finding)
-ends_from None upper finding = inr refl
-ends_from (Some lower) None finding = inr refl
-ends_from (Some lower) (Some upper) finding = go (same lower upper)
-  where
-    go : (b : Bool) → (pick b Optimal finding ≡ Optimal) ⊎ (pick b Optimal finding ≡ finding)
-    go true = inl refl
-    go false = inr refl
-
-no_upper : (lower : Option ℚ) (finding : Finding) → ends_finding lower None finding ≡ finding
-no_upper None finding = refl
-no_upper (Some lower) finding = refl
-
-upper_finding : (report : Report) (t : Tested) → (upper_report report t).finding ≡ report.finding
-upper_finding report (Shows cost policy) = refl
-upper_finding report Fails = refl
-upper_finding report (Passes o) = refl
-
-lower_finding : (report : Report) (t : Tested) → (lower_report report t).finding ≡ report.finding
-lower_finding report (Shows value dual) = refl
-lower_finding report Fails = refl
-lower_finding report (Passes o) = refl
-
-ends_is : (blank : Report) (upper lower : Tested)
-    → (ends_report blank upper lower).finding ≡ ends_finding (shown_number lower) (shown_number upper) blank.finding
-ends_is blank upper lower =
-    let told : Finding = ends_finding (shown_number lower) (shown_number upper) blank.finding in
-    lower_finding (upper_report (record blank { finding = told }) upper) lower ∙ upper_finding (record blank { finding = told }) upper
-
 ray_from : (blank : Report) (t : Tested) → ((ray_report blank t).finding ≡ Infeasible) ⊎ ((ray_report blank t).finding ≡ blank.finding)
 ray_from blank (Shows number ray) = inl refl
 ray_from blank Fails = inr refl
@@ -176,12 +145,12 @@ module _ (program : Program) (place : Place) (why : Open) (solves : ℕ) (claim 
   by_test Fails told left wide met behind = behind (λ o e. cc)
   by_test (Passes o) told left wide met behind = subst IsFound (sym (is_told told o solves wide)) (inr (met o refl))
 
-module _ (program : Program) (number nodes scenarios : ℕ) (place : Place) (why : Open) (solves : ℕ) where
+module _ (program : Program) (number nodes scenarios : ℕ) (place : Place) (why : Open) (solves : ℕ) (rounds : Rounds) where
   abbrev blank : Open → Report
   blank left = blank_report number nodes scenarios (finding_of left solves)
 
   abbrev report_of : Claim → Report
-  report_of claim = claimed_report program number nodes scenarios place why solves claim
+  report_of claim = claimed_report program number nodes scenarios place why solves rounds claim
 
   pub finding_so : (claim : Claim) → IsFindingOf program place why solves claim (report_of claim).finding
   finding_so (Ends policy dual) =
@@ -193,11 +162,10 @@ module _ (program : Program) (number nodes scenarios : ℕ) (place : Place) (why
       by_test program place why solves claim upper place (or_before lower Dual why) (some_policy_wide program policy) (λ o e. inl (refl, e))
       (λ none. by_test program place why solves claim lower Dual why (some_dual_wide program dual) (λ o e. inr (refl, e, none))
       (λ _. by_reason program place why solves claim why refl)) in
-      subst (IsFindingOf program place why solves claim) (sym (ends_is (blank left) upper lower))
-      (elim (ends_from (shown_number lower) (shown_number upper) (finding_of left solves)) [
+      elim (found_from (blank left) rounds.upper rounds.lower) [
         | inl e ↦ subst (IsFindingOf program place why solves claim) (sym e) refl
         | inr e ↦ subst (IsFindingOf program place why solves claim) (sym e) open_so
-      ])
+      ]
   finding_so (Nowhere ray) =
       let claim : Claim = Nowhere ray in
       let shown : Tested = ray_test program ray in
@@ -227,28 +195,35 @@ module _ (program : Program) (number nodes scenarios : ℕ) (place : Place) (why
   at_place : (here told : Place) (o : Operation) (finding : Finding) → told ≡ here → finding ≡ OpenPassed here o → finding ≡ OpenPassed told o
   at_place here told o finding e is = is ∙ ap (λ (p : Place). OpenPassed p o) (sym e)
 
-  -- the first of two tests, and the second one where the first ends in none
-  ends_first : (upper lower : Tested) (o : Operation) → EndsWide upper → upper ≡ Passes o
-      → (ends_report (blank (or_before upper place (or_before lower Dual why))) upper lower).finding ≡ OpenPassed place o
-  ends_first upper lower o wide e =
-      let rest : Open = or_before lower Dual why in
-      let left : Open = or_before upper place rest in
-      ends_is (blank left) upper lower
-      ∙ ap (λ (t : Tested). ends_finding (shown_number lower) (shown_number t) (finding_of left solves)) e
-      ∙ no_upper (shown_number lower) (finding_of left solves)
-      ∙ ap (λ (t : Tested). finding_of (or_before t place rest) solves) e
-      ∙ is_told place o solves (subst EndsWide e wide)
+  -- the first of two tests, and the second one where the first ends in none; unless the ends are equal all the same
+  abbrev ToldOr : Finding → Place → Operation → Type 0
+  ToldOr finding told o = (finding ≡ OpenPassed told o) ⊎ (finding ≡ Optimal)
 
-  ends_second : (upper lower : Tested) (o : Operation) → EndsWide lower → lower ≡ Passes o → ((p : Operation) → upper ≡ Passes p → ⊥)
-      → (ends_report (blank (or_before upper place (or_before lower Dual why))) upper lower).finding ≡ OpenPassed Dual o
-  ends_second upper lower o wide e none =
+  told_or : (left : Open) (here told : Place) (o : Operation) → told ≡ here → finding_of left solves ≡ OpenPassed here o
+      → ((ends_report (blank left) rounds.upper rounds.lower).finding ≡ Optimal) ⊎ ((ends_report (blank left) rounds.upper rounds.lower).finding ≡ finding_of left solves)
+      → ToldOr (ends_report (blank left) rounds.upper rounds.lower).finding told o
+  told_or left here told o e is (inl x) = inr x
+  told_or left here told o e is (inr x) = inl (at_place here told o _ e (x ∙ is))
+
+  ends_first : (upper lower : Tested) (told : Place) (o : Operation) → told ≡ place → EndsWide upper → upper ≡ Passes o
+      → ToldOr (ends_report (blank (or_before upper place (or_before lower Dual why))) rounds.upper rounds.lower).finding told o
+  ends_first upper lower told o at wide e =
       let rest : Open = or_before lower Dual why in
       let left : Open = or_before upper place rest in
-      ends_is (blank left) upper lower
-      ∙ ap (λ (t : Tested). ends_finding (shown_number t) (shown_number upper) (finding_of left solves)) e
-      ∙ ap (λ (w : Open). finding_of w solves) (not_before upper place rest none)
+      told_or left place told o at
+      (ap (λ (t : Tested). finding_of (or_before t place rest) solves) e ∙ is_told place o solves (subst EndsWide e wide))
+      (found_from (blank left) rounds.upper rounds.lower)
+
+  ends_second : (upper lower : Tested) (told : Place) (o : Operation) → told ≡ Dual → EndsWide lower → lower ≡ Passes o → ((p : Operation) → upper ≡ Passes p → ⊥)
+      → ToldOr (ends_report (blank (or_before upper place (or_before lower Dual why))) rounds.upper rounds.lower).finding told o
+  ends_second upper lower told o at wide e none =
+      let rest : Open = or_before lower Dual why in
+      let left : Open = or_before upper place rest in
+      told_or left Dual told o at
+      (ap (λ (w : Open). finding_of w solves) (not_before upper place rest none)
       ∙ ap (λ (t : Tested). finding_of (or_before t Dual why) solves) e
-      ∙ is_told Dual o solves (subst EndsWide e wide)
+      ∙ is_told Dual o solves (subst EndsWide e wide))
+      (found_from (blank left) rounds.upper rounds.lower)
 
   ray_only : (shown : Tested) (o : Operation) → EndsWide shown → shown ≡ Passes o
       → (ray_report (blank (or_before shown Dual why)) shown).finding ≡ OpenPassed Dual o
@@ -273,13 +248,13 @@ module _ (program : Program) (number nodes scenarios : ℕ) (place : Place) (why
       ∙ is_told place o solves (subst EndsWide e wide)
 
   pub test_told : (claim : Claim) (told : Place) (o : Operation) → PassesInClaim program place claim told o
-      → (report_of claim).finding ≡ OpenPassed told o
-  test_told (Ends policy dual) told o (inl h) = at_place place told o _ h.0
-      (ends_first (some_policy_test program policy) (some_dual_test program dual) o (some_policy_wide program policy) h.1)
-  test_told (Ends policy dual) told o (inr h) = at_place Dual told o _ h.0
-      (ends_second (some_policy_test program policy) (some_dual_test program dual) o (some_dual_wide program dual) h.1 h.2)
-  test_told (Nowhere ray) told o h = at_place Dual told o _ h.0 (ray_only (ray_test program ray) o (ray_wide program ray) h.1)
-  test_told (Endless policy direction) told o h = at_place place told o _ h.0 (elim h.1 [
+      → ToldOr (report_of claim).finding told o
+  test_told (Ends policy dual) told o (inl h) =
+      ends_first (some_policy_test program policy) (some_dual_test program dual) told o h.0 (some_policy_wide program policy) h.1
+  test_told (Ends policy dual) told o (inr h) =
+      ends_second (some_policy_test program policy) (some_dual_test program dual) told o h.0 (some_dual_wide program dual) h.1 h.2
+  test_told (Nowhere ray) told o h = inl (at_place Dual told o _ h.0 (ray_only (ray_test program ray) o (ray_wide program ray) h.1))
+  test_told (Endless policy direction) told o h = inl (at_place place told o _ h.0 (elim h.1 [
     | inl e ↦ falling_first (policy_test program policy) (direction_test program direction) o (policy_wide program policy) e
     | inr e ↦ falling_second (policy_test program policy) (direction_test program direction) o (direction_wide program direction) e.0 e.1
-  ])
+  ]))

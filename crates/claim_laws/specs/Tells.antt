@@ -74,8 +74,9 @@ pub record PrintsClaimed (program : Program) (claim : Claim) (report : Report) :
 pub record TellsClaim (program : Program) (place : Place) (why : Open) (solves : ℕ) (claim : Claim) (report : Report) : Type 0 where
   -- where the claim holds, the report finds what it asks for, or it tells an operation of the claim's tests
   pub holds : ClaimHolds program claim → (report.finding ≡ finding_for claim) ⊎ TellsTest program place claim report
-  -- the first operation that passes in these tests is told, whatever the claim is
-  pub tests : (told : Place) (o : Operation) → PassesInClaim program place claim told o → report.finding ≡ OpenPassed told o
+  -- the first operation that passes in these tests is told, whatever the claim is; unless the ends are equal all the same
+  pub tests : (told : Place) (o : Operation) → PassesInClaim program place claim told o
+      → (report.finding ≡ OpenPassed told o) ⊎ (report.finding ≡ Optimal)
   -- whatever is found is the claim's, or it is by the reason or for such an operation
   pub finding : IsFindingOf program place why solves claim report.finding
   pub lists : PrintsClaimed program claim report

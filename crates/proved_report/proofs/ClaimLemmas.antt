@@ -18,7 +18,10 @@ use Rattle.proved_report.specs.declared.tested.Tested.{Tested}
 use Rattle.proved_report.specs.declared.tested.Tested.TheVariants.{Shows, Fails, Passes}
 use Rattle.proved_report.specs.Open.{given, finding_of}
 use Rattle.proved_report.specs.Tested.{or_before, policy_test, direction_test, ray_test, some_policy_test, some_dual_test}
-use Rattle.proved_report.specs.Reports.{IsFilled, IsClaimed, claimed_report, ends_report, ray_report, falling_report}
+use Rattle.report_defs.specs.Shows.{ShowsLower, ShowsUpper}
+use Rattle.proved_report.specs.Rounded.{IsRounded}
+use Rattle.proved_report.proofs.RoundLemmas.{rounded-shown, policy-rounded-names, dual-rounded-names}
+use Rattle.proved_report.specs.Reports.{IsFilled, IsClaimed, Rounds, AreRounds, no_rounds, claimed_report, ends_report, ray_report, falling_report}
 use Rattle.proved_report.proofs.ShownLemmas.{policy-shown, direction-shown, ray-shown, some-policy-shown, some-dual-shown, policy-names, direction-names, ray-names, some-policy-names, some-dual-names}
 use Rattle.proved_report.proofs.ReportLemmas.{IsLeftOpen, left-open, before-given, ends_true, ends_names, nowhere_true, nowhere_names, endless_true, endless_names}
 
@@ -31,21 +34,24 @@ left-by-two s t place other why solves =
     before-given t other why solves (finding_of (or_before s place (or_before t other why)) solves) (left-by-one s place (or_before t other why) solves)
 
 module _ (program : Program) (number nodes scenarios : ℕ) (place : Place) (why : Open) (solves : ℕ) where
-  pub claimed_true : (claim : Claim) → IsTree (seen program) → IsTrue (seen program) (given why solves) (claimed_report program number nodes scenarios place why solves claim)
-  claimed_true (Ends policy dual) tree =
+  pub claimed_true : (rounds : Rounds) (claim : Claim) → AreRounds program claim rounds → IsTree (seen program)
+      → IsTrue (seen program) (given why solves) (claimed_report program number nodes scenarios place why solves rounds claim)
+  claimed_true rounds (Ends policy dual) are tree =
       ends_true (seen program) (given why solves) number nodes scenarios _ (left-by-two (some_policy_test program policy) (some_dual_test program dual) place Dual why solves)
-      (some_policy_test program policy) (some_dual_test program dual) (some-policy-shown program tree policy) (some-dual-shown program tree dual)
-  claimed_true (Nowhere ray) tree =
+      rounds.upper rounds.lower (rounded-shown (ShowsUpper (seen program)) policy (some_policy_test program policy) rounds.upper are.0 (some-policy-shown program tree policy))
+      (rounded-shown (ShowsLower (seen program)) dual (some_dual_test program dual) rounds.lower are.1 (some-dual-shown program tree dual))
+  claimed_true rounds (Nowhere ray) are tree =
       nowhere_true (seen program) (given why solves) number nodes scenarios _ (left-by-one (ray_test program ray) Dual why solves) (ray_test program ray) (ray-shown program tree ray)
-  claimed_true (Endless policy direction) tree =
+  claimed_true rounds (Endless policy direction) are tree =
       endless_true (seen program) (given why solves) number nodes scenarios _ (left-by-two (policy_test program policy) (direction_test program direction) place place why solves)
       tree (policy_test program policy) (direction_test program direction) (policy-shown program tree policy) (direction-shown program tree direction)
 
-  pub claimed_names : (claim : Claim) → ListsHaveNames program (claimed_report program number nodes scenarios place why solves claim)
-  claimed_names (Ends policy dual) =
-      ends_names program number nodes scenarios _ (some_policy_test program policy) (some_dual_test program dual) (some-policy-names program policy) (some-dual-names program dual)
-  claimed_names (Nowhere ray) = nowhere_names program number nodes scenarios _ (ray_test program ray) (ray-names program ray)
-  claimed_names (Endless policy direction) =
+  pub claimed_names : (rounds : Rounds) (claim : Claim) → AreRounds program claim rounds
+      → ListsHaveNames program (claimed_report program number nodes scenarios place why solves rounds claim)
+  claimed_names rounds (Ends policy dual) are =
+      ends_names program number nodes scenarios _ rounds.upper rounds.lower (policy-rounded-names program policy rounds.upper are.0) (dual-rounded-names program dual rounds.lower are.1)
+  claimed_names rounds (Nowhere ray) are = nowhere_names program number nodes scenarios _ (ray_test program ray) (ray-names program ray)
+  claimed_names rounds (Endless policy direction) are =
       endless_names program number nodes scenarios _ (policy_test program policy) (direction_test program direction) (policy-names program policy) (direction-names program direction)
 
 -- ---- the report that is made of tests
@@ -77,13 +83,18 @@ blank-by : (b r : Report) (number : ℕ) (finding : Finding) → b.number ≡ nu
 blank-by b r number finding e f g is =
     is ∙ ap (λ (n : ℕ). blank_report n b.nodes b.scenarios finding) e ∙ ap (λ (n : ℕ). blank_report number n b.scenarios finding) (sym f) ∙ ap (λ (n : ℕ). blank_report number r.nodes n finding) (sym g)
 
-pub ends_claimed : (program : Program) (number : ℕ) (policy dual : Option (List At)) (place : Place) (why : Open) (solves : ℕ) (b r : Report) → IsFilled program number b
-    → b ≡ blank_report b.number b.nodes b.scenarios (finding_of (or_before (some_policy_test program policy) place (or_before (some_dual_test program dual) Dual why)) solves) → r ≡ ends_report b (some_policy_test program policy) (some_dual_test program dual) → IsClaimed program number place why solves (Ends policy dual) r
-ends_claimed program number policy dual place why solves b r filled is e =
-    let counts = ends_counts b (some_policy_test program policy) (some_dual_test program dual) in
+pub ends_claimed : (program : Program) (number : ℕ) (policy dual : Option (List At)) (place : Place) (why : Open) (solves : ℕ) (upper lower : Tested) (b r : Report)
+    → IsRounded (ShowsUpper (seen program)) policy (some_policy_test program policy) upper → IsRounded (ShowsLower (seen program)) dual (some_dual_test program dual) lower → IsFilled program number b
+    → b ≡ blank_report b.number b.nodes b.scenarios (finding_of (or_before (some_policy_test program policy) place (or_before (some_dual_test program dual) Dual why)) solves) → r ≡ ends_report b upper lower → IsClaimed program number place why solves (Ends policy dual) r
+ends_claimed program number policy dual place why solves upper lower b r high low filled is e =
+    let counts = ends_counts b upper lower in
     let nodes : r.nodes ≡ b.nodes = ap (λ (x : Report). x.nodes) e ∙ counts.1 in
     let scenarios : r.scenarios ≡ b.scenarios = ap (λ (x : Report). x.scenarios) e ∙ counts.2 in
-    record { is = e ∙ ap (λ (x : Report). ends_report x (some_policy_test program policy) (some_dual_test program dual)) (blank-by b r number _ filled.number_is nodes scenarios is) }
+    record {
+      rounds = record { upper = upper; lower = lower };
+      are = (high, low);
+      is = e ∙ ap (λ (x : Report). ends_report x upper lower) (blank-by b r number _ filled.number_is nodes scenarios is);
+    }
 
 pub nowhere_claimed : (program : Program) (number : ℕ) (ray : List At) (why : Open) (solves : ℕ) (b r : Report) → IsFilled program number b
     → b ≡ blank_report b.number b.nodes b.scenarios (finding_of (or_before (ray_test program ray) Dual why) solves) → r ≡ ray_report b (ray_test program ray) → IsClaimed program number Dual why solves (Nowhere ray) r
@@ -91,7 +102,7 @@ nowhere_claimed program number ray why solves b r filled is e =
     let counts = nowhere_counts b (ray_test program ray) in
     let nodes : r.nodes ≡ b.nodes = ap (λ (x : Report). x.nodes) e ∙ counts.1 in
     let scenarios : r.scenarios ≡ b.scenarios = ap (λ (x : Report). x.scenarios) e ∙ counts.2 in
-    record { is = e ∙ ap (λ (x : Report). ray_report x (ray_test program ray)) (blank-by b r number _ filled.number_is nodes scenarios is) }
+    record { rounds = no_rounds; are = tt; is = e ∙ ap (λ (x : Report). ray_report x (ray_test program ray)) (blank-by b r number _ filled.number_is nodes scenarios is) }
 
 pub endless_claimed : (program : Program) (number : ℕ) (policy direction : List At) (place : Place) (why : Open) (solves : ℕ) (b r : Report) → IsFilled program number b
     → b ≡ blank_report b.number b.nodes b.scenarios (finding_of (or_before (policy_test program policy) place (or_before (direction_test program direction) place why)) solves) → r ≡ falling_report b (policy_test program policy) (direction_test program direction) → IsClaimed program number place why solves (Endless policy direction) r
@@ -99,4 +110,4 @@ endless_claimed program number policy direction place why solves b r filled is e
     let counts = endless_counts b (policy_test program policy) (direction_test program direction) in
     let nodes : r.nodes ≡ b.nodes = ap (λ (x : Report). x.nodes) e ∙ counts.1 in
     let scenarios : r.scenarios ≡ b.scenarios = ap (λ (x : Report). x.scenarios) e ∙ counts.2 in
-    record { is = e ∙ ap (λ (x : Report). falling_report x (policy_test program policy) (direction_test program direction)) (blank-by b r number _ filled.number_is nodes scenarios is) }
+    record { rounds = no_rounds; are = tt; is = e ∙ ap (λ (x : Report). falling_report x (policy_test program policy) (direction_test program direction)) (blank-by b r number _ filled.number_is nodes scenarios is) }

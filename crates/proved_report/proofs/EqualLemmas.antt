@@ -16,7 +16,7 @@ use Rattle.proved_report.specs.declared.open.Open.{Open}
 use Rattle.proved_report.specs.declared.claim.Claim.{Claim}
 use Rattle.proved_report.specs.declared.claim.Claim.TheVariants.{Ends, Nowhere, Endless}
 use Rattle.proved_report.specs.Open.{finding_of}
-use Rattle.proved_report.specs.Reports.{ends_report, ray_report, falling_report, claimed_report, IsClaimed, EqualIsOptimal}
+use Rattle.proved_report.specs.Reports.{Rounds, ends_report, ray_report, falling_report, claimed_report, IsClaimed, EqualIsOptimal}
 use Rattle.proved_report.specs.Tested.{or_before, policy_test, direction_test, ray_test, some_policy_test, some_dual_test}
 
 none_some : {A : Type 0} (x : A) → ◌≡◌ {A = Option A} None (Some x) → ⊥
@@ -54,16 +54,16 @@ falling_equal number nodes scenarios finding (Shows cost policy) (Passes o) = λ
 falling_equal number nodes scenarios finding Fails d = λ lower upper a b s. absurd (none_some lower a)
 falling_equal number nodes scenarios finding (Passes o) d = λ lower upper a b s. absurd (none_some lower a)
 
-claim_equal : (program : Program) (number nodes scenarios : ℕ) (place : Place) (why : Open) (solves : ℕ) (claim : Claim)
-    → EqualIsOptimal (claimed_report program number nodes scenarios place why solves claim)
-claim_equal program number nodes scenarios place why solves (Ends policy dual) =
+claim_equal : (program : Program) (number nodes scenarios : ℕ) (place : Place) (why : Open) (solves : ℕ) (rounds : Rounds) (claim : Claim)
+    → EqualIsOptimal (claimed_report program number nodes scenarios place why solves rounds claim)
+claim_equal program number nodes scenarios place why solves rounds (Ends policy dual) =
     let u = some_policy_test program policy in
     let l = some_dual_test program dual in
-    ends_equal number nodes scenarios (finding_of (or_before u place (or_before l Dual why)) solves) u l
-claim_equal program number nodes scenarios place why solves (Nowhere ray) =
+    ends_equal number nodes scenarios (finding_of (or_before u place (or_before l Dual why)) solves) rounds.upper rounds.lower
+claim_equal program number nodes scenarios place why solves rounds (Nowhere ray) =
     let r = ray_test program ray in
     ray_equal number nodes scenarios (finding_of (or_before r Dual why) solves) r
-claim_equal program number nodes scenarios place why solves (Endless policy direction) =
+claim_equal program number nodes scenarios place why solves rounds (Endless policy direction) =
     let u = policy_test program policy in
     let d = direction_test program direction in
     falling_equal number nodes scenarios (finding_of (or_before u place (or_before d place why)) solves) u d
@@ -71,5 +71,5 @@ claim_equal program number nodes scenarios place why solves (Endless policy dire
 pub claimed_equal : {E : Type 0} (program : Program) (number : ℕ) (place : Place) (why : Open) (solves : ℕ) (claim : Claim) (r : Result Report E)
     → IfOk r (IsClaimed program number place why solves claim) → IfOk r EqualIsOptimal
 claimed_equal program number place why solves claim (Ok report) h =
-    subst EqualIsOptimal (sym h.is) (claim_equal program number report.nodes report.scenarios place why solves claim)
+    subst EqualIsOptimal (sym h.is) (claim_equal program number report.nodes report.scenarios place why solves h.rounds claim)
 claimed_equal program number place why solves claim (Err e) h = tt

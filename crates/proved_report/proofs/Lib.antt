@@ -1,5 +1,6 @@
 pub mod FitLemmas
 pub mod ShownLemmas
+pub mod RoundLemmas
 pub mod PassLemmas
 pub mod ReportLemmas
 pub mod CountLemmas

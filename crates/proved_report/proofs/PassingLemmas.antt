@@ -20,7 +20,7 @@ use Rattle.proved_report.specs.declared.claim.Claim.TheVariants.{Ends, Nowhere, 
 use Rattle.proved_report.specs.Open.{finding_of}
 use Rattle.proved_report.specs.Passing.{PassesInPoint, PassesInMultipliers, PassesInTest}
 use Rattle.proved_report.specs.Tested.{or_before, policy_test, direction_test, ray_test, some_policy_test, some_dual_test}
-use Rattle.proved_report.specs.Reports.{ends_report, ray_report, falling_report, claimed_report}
+use Rattle.proved_report.specs.Reports.{Rounds, ends_report, ray_report, falling_report, claimed_report}
 
 -- ---- the finding of a report that is left open, and its reason
 picked : (holds : Bool) (at place : Place) (p o : Operation) (solves : ℕ) → pick holds (OpenPassed at p) (OpenSolves solves) ≡ OpenPassed place o
@@ -126,16 +126,16 @@ module _ (program : Program) (o : Operation) where
         ]
 
     module _ (number nodes scenarios solves : ℕ) (why : Open) where
-      pub by_claim : (claim : Claim) → (claimed_report program number nodes scenarios (Cost commits) why solves claim).finding ≡ OpenPassed place o → Because why
-      by_claim (Ends policy dual) h =
+      pub by_claim : (rounds : Rounds) (claim : Claim) → (claimed_report program number nodes scenarios (Cost commits) why solves rounds claim).finding ≡ OpenPassed place o → Because why
+      by_claim rounds (Ends policy dual) h =
           let left : Open = or_before (some_policy_test program policy) (Cost commits) (or_before (some_dual_test program dual) Dual why) in
           by_ends policy dual why (told_reason left solves place o
-          (ends_left (blank_report number nodes scenarios (finding_of left solves)) (some_policy_test program policy) (some_dual_test program dual) place o h))
-      by_claim (Nowhere ray) h =
+          (ends_left (blank_report number nodes scenarios (finding_of left solves)) rounds.upper rounds.lower place o h))
+      by_claim rounds (Nowhere ray) h =
           let left : Open = or_before (ray_test program ray) Dual why in
           by_ray ray why (told_reason left solves place o
           (ray_left (blank_report number nodes scenarios (finding_of left solves)) (ray_test program ray) place o h))
-      by_claim (Endless policy direction) h =
+      by_claim rounds (Endless policy direction) h =
           let left : Open = or_before (policy_test program policy) (Cost commits) (or_before (direction_test program direction) (Cost commits) why) in
           by_fall policy direction why (told_reason left solves place o
           (falling_left (blank_report number nodes scenarios (finding_of left solves)) (policy_test program policy) (direction_test program direction) place o h))

@@ -1,6 +1,6 @@
 -- What the tests show.
 use Rattle.std.proofs.Common.{◌≡◌, ℕ, Bool, true, false, List, Option, Some, None, Result, Ok, Err, length, refl, sym, subst}
-use Rattle.rationals.specs.Rational.{ℚ, zero_ℚ, ◌≤ℚ◌, ◌<ℚ◌, at_most, at_most_false}
+use Rattle.rationals.specs.Rational.{ℚ, zero_ℚ, ◌≤ℚ◌, ◌<ℚ◌, at_most, at_most_false, le_of_same_ℚ}
 use Rattle.rationals.specs.Passes.{Operation}
 use Rattle.rationals.specs.Choices.{pick}
 use Rattle.scen_defs.specs.Values.{At, at}
@@ -70,7 +70,7 @@ module _ (program : Program) (tree : IsTree (seen program)) where
       let v : View = seen program in
       fits-shown (ShowsUpper v) policy (all_fit (content program) false policy) _ (λ fit.
       meets-shown (ShowsUpper v) policy (feasible_walk v (at policy)) _ (λ met.
-      cost-shown (ShowsUpper v) policy (cost_walk v (at policy)) (λ q e. record { feasible = feasible_is.yes v (at policy) met; costs = sym (cost_is v (at policy) q tree e) })))
+      cost-shown (ShowsUpper v) policy (cost_walk v (at policy)) (λ q e. record { feasible = feasible_is.yes v (at policy) met; costs = le_of_same_ℚ (sym (cost_is v (at policy) q tree e)) })))
 
   pub dual-shown : (dual : List At) → IfShown (ShowsLower (seen program)) (dual_test program dual)
   dual-shown dual =
@@ -80,7 +80,7 @@ module _ (program : Program) (tree : IsTree (seen program)) where
       let worth : value v (at dual) ≡ q = sym (dual_is.value v (at dual) q e) in
       record {
         good = dual_is.good v (at dual) q e;
-        worth = worth;
+        worth = le_of_same_ℚ (sym worth);
         bound = λ x feasible. subst (λ (r : ℚ). r ≤ℚ cost v x) worth (weak_duality v x (at dual) tree feasible (dual_is.good v (at dual) q e));
       }))
 

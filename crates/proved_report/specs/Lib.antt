@@ -1,4 +1,5 @@
 pub mod Open
 pub mod Tested
+pub mod Rounded
 pub mod Reports
 pub mod Passing

@@ -1,5 +1,7 @@
 -- The report of lists that were tested, from one that is left open without ends and lists.
 use Rattle.std.specs.Prelude.{◌≡◌, ℕ, ◌<◌, ◌^◌, true, length, Option, Some, None}
+use Rattle.report_defs.specs.Shows.{ShowsLower, ShowsUpper}
+use Rattle.proved_report.specs.Rounded.{IsRounded}
 use Rattle.rationals.specs.Rational.{ℚ}
 use Rattle.rationals.specs.Order.{same}
 use Rattle.rationals.specs.Choices.{pick}
@@ -59,17 +61,34 @@ falling_report blank (Shows upper policy) slope = direction_report (record blank
 falling_report blank Fails slope = blank
 falling_report blank (Passes operation) slope = blank
 
+-- what is printed of the policy and of the dual of ends
+pub record Rounds : Type 0 where
+  pub upper : Tested
+  pub lower : Tested
+
+abbrev pub no_rounds : Rounds
+no_rounds = record { upper = Fails; lower = Fails }
+
+-- That is what their tests come to. Only where an operation of a test passes 128 bits it may be a number that is rounded outward.
+abbrev pub AreRounds : Program → Claim → Rounds → Type 0
+AreRounds program (Ends policy dual) rounds =
+    IsRounded (ShowsUpper (seen program)) policy (some_policy_test program policy) rounds.upper
+    × IsRounded (ShowsLower (seen program)) dual (some_dual_test program dual) rounds.lower
+AreRounds program (Nowhere ray) rounds = Unit {0}
+AreRounds program (Endless policy direction) rounds = Unit {0}
+
 -- The report of a claim, with these counts: ends that were tested; a ray; a policy and a direction. Where they leave it open, the
 -- first operation that passes is told, of a dual or a ray at Dual.
-abbrev pub claimed_report : Program → ℕ → ℕ → ℕ → Place → Open → ℕ → Claim → Report
-claimed_report program number nodes scenarios place why solves (Ends policy dual) =
+abbrev pub claimed_report : Program → ℕ → ℕ → ℕ → Place → Open → ℕ → Rounds → Claim → Report
+claimed_report program number nodes scenarios place why solves rounds (Ends policy dual) =
     let upper = some_policy_test program policy in
     let lower = some_dual_test program dual in
-    ends_report (blank_report number nodes scenarios (finding_of (or_before upper place (or_before lower Dual why)) solves)) upper lower
-claimed_report program number nodes scenarios place why solves (Nowhere ray) =
+    let left = finding_of (or_before upper place (or_before lower Dual why)) solves in
+    ends_report (blank_report number nodes scenarios left) rounds.upper rounds.lower
+claimed_report program number nodes scenarios place why solves rounds (Nowhere ray) =
     let shown = ray_test program ray in
     ray_report (blank_report number nodes scenarios (finding_of (or_before shown Dual why) solves)) shown
-claimed_report program number nodes scenarios place why solves (Endless policy direction) =
+claimed_report program number nodes scenarios place why solves rounds (Endless policy direction) =
     let upper = policy_test program policy in
     let slope = direction_test program direction in
     falling_report (blank_report number nodes scenarios (finding_of (or_before upper place (or_before slope place why)) solves)) upper slope
@@ -77,7 +96,9 @@ claimed_report program number nodes scenarios place why solves (Endless policy d
 -- this is the report of the claim
 pub record IsClaimed (program : Program) (number : ℕ) (place : Place) (why : Open) (solves : ℕ) (claim : Claim) (report : Report)
     : Type 0 where
-  pub is : report ≡ claimed_report program number report.nodes report.scenarios place why solves claim
+  pub rounds : Rounds
+  pub are : AreRounds program claim rounds
+  pub is : report ≡ claimed_report program number report.nodes report.scenarios place why solves rounds claim
 
 -- where both ends are there and equal, the finding is OPTIMAL
 abbrev pub EqualIsOptimal : Report → Type 0

@@ -12,7 +12,7 @@ use crate::claim::Claim;
 use crate::counts::{live_nodes, scenario_count};
 use crate::open::{Open, open_finding};
 use crate::tested::{
-    Tested, test_direction, test_policy, test_ray, test_some_dual, test_some_policy,
+    Tested, some_dual_end, some_policy_end, test_direction, test_policy, test_ray,
 };
 use frac128::{Frac, Memory};
 use scen_defs::{Finding, Place, Program, Report, Values};
@@ -24,10 +24,11 @@ use std::alloc::Global;
 /// value as the lower end where it fits and is good. `Optimal` is told where both are there and equal; `Infeasible`
 /// where a ray fits, is good with all costs 0 and worth more than 0; `Unbounded` where a policy is shown and a
 /// direction fits and is one. A list that doesn't show what is claimed, or whose test has an operation that passes
-/// 128 bits, is left out. Then the finding is open: the first such operation is told, of a policy or a direction at
-/// `place`, of a dual or a ray at `Dual`, a policy's before the other list's; without one it is as `why` says. An
-/// operation that is told passes: it is done again. Where the one in `why` doesn't, which never comes of a correct
-/// method, `OpenSolves` tells `solves`.
+/// 128 bits, is left out; but where an operation passes in the test of the policy or the dual of ends, and sums that are
+/// rounded outward where they don't fit still show an end, the list is printed with that. The finding is open then: the
+/// first such operation is told, of a policy or a direction at `place`, of a dual or a ray at `Dual`, a policy's before
+/// the other list's; without one it is as `why` says. An operation that is told passes: it is done again. Where the one
+/// in `why` doesn't, which never comes of a correct method, `OpenSolves` tells `solves`.
 pub fn report(
     alloc: Global,
     program: &Program,
@@ -71,11 +72,11 @@ fn ends(
     ensures filled { IfOk result (IsFilled program.now number) }
     ensures exact { IfOk result (IsClaimed program.now number place why solves (Claim.Ends policy dual)) }
 {
-    let upper = test_some_policy(alloc, program, policy)?;
-    let lower = test_some_dual(alloc, program, dual)?;
+    let upper = some_policy_end(alloc, program, policy)?;
+    let lower = some_dual_end(alloc, program, dual)?;
     let left = upper.or_before(place, lower.or_before(Place::Dual, why));
     let blank = blank(program, number, open_finding(left, solves));
-    Ok(with_ends(blank, upper, lower))
+    Ok(with_ends(blank, upper.printed, lower.printed))
 }
 
 /// The report of a ray.

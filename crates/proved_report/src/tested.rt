@@ -1,5 +1,5 @@
 //! Tests of the lists that a method claims.
-ghost use Rattle.std.specs.Prelude.{◌≡◌, IfOk};
+ghost use Rattle.std.specs.Prelude.{◌≡◌, IfOk, IfSome, Some};
 ghost use Rattle.rationals.specs.Rational.{at_most, zero_ℚ};
 ghost use Rattle.scen_defs.specs.Values.{at};
 ghost use Rattle.scen_defs.specs.Flat.{without_costs};
@@ -8,10 +8,13 @@ ghost use Rattle.scen_model.specs.Walks.{cost_walk, dual_walk, feasible_walk, di
 ghost use Rattle.report_defs.specs.Seen.{seen};
 ghost use Rattle.proved_report.specs.declared.tested.Tested.{Tested as TestedOf};
 ghost use Rattle.proved_report.specs.Tested.{where_meets, where_above, by_cost, by_value, policy_test, dual_test};
+ghost use Rattle.report_defs.specs.Shows.{ShowsLower, ShowsUpper};
+ghost use Rattle.proved_report.specs.Rounded.{rounded_test, exact_end, passed_before, IsEnd};
 ghost use Rattle.proved_report.specs.Tested.{direction_test, ray_test, some_policy_test, some_dual_test, Gives, shown_number, or_before};
 
 use crate::open::Open;
 use frac128::{Frac, Memory, Passed};
+use rounded_ends::{Side, cost_beside, is_feasible, worth_beside};
 use scen_defs::{Halt, Place, Program, Values};
 use scen_model::{cost, dual_value, feasible, fits, is_direction, zero_value};
 use std::alloc::Global;
@@ -25,6 +28,14 @@ pub enum Tested {
     Fails,
     /// This operation of the test passes 128 bits.
     Passes(Passed),
+}
+
+/// What is printed of a list that shows an end, and the operation of its test that passes, where one does.
+#[derive(Drop)]
+pub(crate) struct End {
+    /// The test, or the list with a number that is rounded outward where an operation of the test passes.
+    pub(crate) printed: Tested,
+    pub(crate) passed: Option<Passed>,
 }
 
 /// Keeps a list with the number that was computed for it.
@@ -153,40 +164,127 @@ pub(crate) fn test_policy(
     kept(policy, computed)
 }
 
-/// Tests a policy that may be wanting.
-pub(crate) fn test_some_policy(
+/// A number that is at least what a policy costs, which is feasible.
+fn rounded_upper(alloc: Global, program: &Program, policy: &Values) -> Result<Option<Frac>, Memory>
+    ensures { IfOk result (λ found. IfSome found (λ number. ShowsUpper (seen program.now) number policy.now)) }
+{
+    if is_feasible(program, policy) {
+        cost_beside(alloc, Side::Above, program, policy)
+    } else {
+        Ok(None)
+    }
+}
+
+/// A number that is at most what a dual is worth, which is good.
+fn rounded_lower(alloc: Global, program: &Program, dual: &Values) -> Result<Option<Frac>, Memory>
+    ensures { IfOk result (λ found. IfSome found (λ number. ShowsLower (seen program.now) number dual.now)) }
+{
+    worth_beside(alloc, Side::Below, program, dual)
+}
+
+/// What is printed of a list in whose test an operation passes: the rounded number, where there is one.
+fn rounded(values: Values, number: Option<Frac>, passed: Passed) -> Tested
+    ensures { result ≡ rounded_test values number passed }
+{
+    match number {
+        Some(number) => Tested::Shows(number, values),
+        None => Tested::Passes(passed),
+    }
+}
+
+/// An end as its test says.
+fn exact_end(values: Values, computed: Option<Frac>) -> End
+    ensures { result ≡ exact_end values computed }
+{
+    let printed = match computed {
+        Some(number) => Tested::Shows(number, values),
+        None => Tested::Fails,
+    };
+    End {
+        printed,
+        passed: None,
+    }
+}
+
+/// The upper end of a policy.
+fn policy_end(alloc: Global, program: &Program, policy: Values) -> Result<End, Memory>
+    ensures { IfOk result (IsEnd (ShowsUpper (seen program.now)) (Some policy) (policy_test program.now policy)) }
+{
+    match upper_end(alloc, program, &policy) {
+        Ok(computed) => Ok(exact_end(policy, computed)),
+        Err(halt) => {
+            let passed = operation(halt)?;
+            let number = rounded_upper(alloc, program, &policy)?;
+            Ok(End {
+                printed: rounded(policy, number, passed),
+                passed: Some(passed),
+            })
+        }
+    }
+}
+
+/// The lower end of a dual.
+fn dual_end(alloc: Global, program: &Program, dual: Values) -> Result<End, Memory>
+    ensures { IfOk result (IsEnd (ShowsLower (seen program.now)) (Some dual) (dual_test program.now dual)) }
+{
+    match lower_end(alloc, program, &dual) {
+        Ok(computed) => Ok(exact_end(dual, computed)),
+        Err(halt) => {
+            let passed = operation(halt)?;
+            let number = rounded_lower(alloc, program, &dual)?;
+            Ok(End {
+                printed: rounded(dual, number, passed),
+                passed: Some(passed),
+            })
+        }
+    }
+}
+
+/// The upper end of a policy that may be wanting.
+pub(crate) fn some_policy_end(
     alloc: Global,
     program: &Program,
     policy: Option<Values>,
-) -> Result<Tested, Memory>
-    ensures { IfOk result (λ tested. tested ≡ some_policy_test program.now policy) }
+) -> Result<End, Memory>
+    ensures { IfOk result (IsEnd (ShowsUpper (seen program.now)) policy (some_policy_test program.now policy)) }
 {
     match policy {
-        Some(values) => test_policy(alloc, program, values),
-        None => Ok(Tested::Fails),
+        Some(values) => policy_end(alloc, program, values),
+        None => Ok(End {
+            printed: Tested::Fails,
+            passed: None,
+        }),
     }
 }
 
-/// Tests a dual that may be wanting.
-pub(crate) fn test_some_dual(
+/// The lower end of a dual that may be wanting.
+pub(crate) fn some_dual_end(
     alloc: Global,
     program: &Program,
     dual: Option<Values>,
-) -> Result<Tested, Memory>
-    ensures { IfOk result (λ tested. tested ≡ some_dual_test program.now dual) }
+) -> Result<End, Memory>
+    ensures { IfOk result (IsEnd (ShowsLower (seen program.now)) dual (some_dual_test program.now dual)) }
 {
     match dual {
-        Some(values) => test_dual(alloc, program, values),
-        None => Ok(Tested::Fails),
+        Some(values) => dual_end(alloc, program, values),
+        None => Ok(End {
+            printed: Tested::Fails,
+            passed: None,
+        }),
     }
 }
 
-/// Tests a dual.
-fn test_dual(alloc: Global, program: &Program, dual: Values) -> Result<Tested, Memory>
-    ensures { IfOk result (λ tested. tested ≡ dual_test program.now dual) }
-{
-    let computed = lower_end(alloc, program, &dual);
-    kept(dual, computed)
+impl End {
+    /// Why a report is left open where this test comes first: because of an operation of the test that passes, told
+    /// at this place, else as before.
+    pub(crate) fn or_before(&self, place: Place, why: Open) -> Open
+        ensures { result ≡ passed_before self.now.passed place why }
+    {
+        match self.passed {
+            Some(passed) => Open::Passed(place, passed),
+            None => why,
+        }
+    }
 }
 
 /// Tests a direction.

@@ -1,7 +1,7 @@
 -- Equal ends that are shown have a best policy.
-use Rattle.std.proofs.Common.{◌≡◌, Option, Some, None, sym, subst, refl}
-use Rattle.rationals.specs.Rational.{ℚ, ◌≤ℚ◌}
-use Rattle.scen_defs.specs.Flat.{cost}
+use Rattle.std.proofs.Common.{◌≡◌, Option, Some, None, sym, ap, subst, refl, ◌∙◌}
+use Rattle.rationals.specs.Rational.{ℚ, le_trans_ℚ, le_antisym_ℚ}
+use Rattle.scen_defs.specs.Values.{at}
 use Rattle.report_defs.specs.Shows.{Together, ShowsLower, ShowsUpper}
 use Rattle.report_defs.specs.Laws.{EqualEndsAreBest}
 
@@ -19,5 +19,6 @@ equal_ends_are_best v report lower upper optimal =
       policy = high.0;
       there = high.1;
       feasible = high.2.feasible;
-      least = λ x feasible. subst (λ (q : ℚ). q ≤ℚ cost v x) (sym high.2.costs) (low.2.bound x feasible);
+      costs = optimal.upper ∙ ap Some (sym (le_antisym_ℚ high.2.costs (low.2.bound (at high.0) high.2.feasible)));
+      least = λ x feasible. le_trans_ℚ high.2.costs (low.2.bound x feasible);
     }

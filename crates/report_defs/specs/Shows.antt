@@ -12,16 +12,16 @@ Together holds None (Some b) = ⊥
 Together holds (Some a) None = ⊥
 Together holds (Some a) (Some b) = holds a b
 
--- the multipliers are good and worth the lower end, so no feasible point costs less
+-- the multipliers are good and worth at least the lower end, so no feasible point costs less
 pub record ShowsLower (v : View) (lower : ℚ) (dual : List At) : Type 0 where
   pub good : IsGood v (at dual)
-  pub worth : value v (at dual) ≡ lower
+  pub worth : lower ≤ℚ value v (at dual)
   pub bound : (x : ℕ → ℕ → ℚ) → Feasible v x → lower ≤ℚ cost v x
 
--- the policy is feasible and costs the upper end
+-- the policy is feasible and costs at most the upper end
 pub record ShowsUpper (v : View) (upper : ℚ) (policy : List At) : Type 0 where
   pub feasible : Feasible v (at policy)
-  pub costs : cost v (at policy) ≡ upper
+  pub costs : cost v (at policy) ≤ℚ upper
 
 -- it is a direction of that cost, so a feasible point costs less than any limit
 pub record ShowsSlope (v : View) (slope : ℚ) (direction : List At) : Type 0 where

@@ -3,7 +3,7 @@
 
 ghost use Rattle.report_defs.specs.Laws.{EqualEndsAreBest};
 
-/// A report whose ends are shown and equal has a feasible policy, and no feasible point costs less.
+/// A report whose ends are shown and equal has a feasible policy that costs as much, and no feasible point costs less.
 pub fn equal_ends_are_best()
     ensures { EqualEndsAreBest }
 {}

@@ -10,7 +10,7 @@ use scen_nodes::find;
 
 /// Which costs count.
 #[derive(Clone, Copy)]
-pub(crate) enum Costs {
+pub enum Costs {
     Own,
     Zero,
 }

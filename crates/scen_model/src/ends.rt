@@ -14,7 +14,7 @@ pub(crate) fn is_at_most(a: Frac, b: Frac) -> bool
 }
 
 /// The number at a place, 0 where there is none.
-pub(crate) fn number_at(numbers: &[Frac], place: usize) -> Frac
+pub fn number_at(numbers: &[Frac], place: usize) -> Frac
     ensures { result ≡ slice_index_or numbers.now place zero_ℚ }
 {
     if place < numbers.len() {

@@ -21,7 +21,7 @@ use scen_nodes::{find, parent, stage as stage_of};
 use std::alloc::Global;
 
 /// The seat of a column, 0 where there is none.
-pub(crate) fn seat_at(seats: &[usize], column: u64) -> usize
+pub fn seat_at(seats: &[usize], column: u64) -> usize
     ensures { result ≡ slice_index_or seats.now column 0 }
 {
     let place = column as usize;
@@ -306,7 +306,7 @@ fn all_priced(
 }
 
 /// The reduced costs of all nodes' columns: each in the list of its node, at the seat of its column.
-pub(crate) fn reduced_costs(
+pub fn reduced_costs(
     alloc: Global,
     program: &Program,
     costs: Costs,

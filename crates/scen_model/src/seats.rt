@@ -8,10 +8,10 @@ use std::alloc::Global;
 
 /// The columns by stage, each stage's in rising order, and by column its stage and its seat.
 #[derive(Drop)]
-pub(crate) struct Seating {
-    pub(crate) own: Vec<Vec<u64>>,
-    pub(crate) stages: Vec<u32>,
-    pub(crate) seats: Vec<usize>,
+pub struct Seating {
+    pub own: Vec<Vec<u64>>,
+    pub stages: Vec<u32>,
+    pub seats: Vec<usize>,
 }
 
 /// The stages of columns.
@@ -86,7 +86,7 @@ fn seats(
 }
 
 /// The columns of each stage, and of each column its stage and its seat.
-pub(crate) fn seated(alloc: Global, program: &Program) -> Result<Seating, Unfinished>
+pub fn seated(alloc: Global, program: &Program) -> Result<Seating, Unfinished>
     ensures stages { IfOk result (λ s. AreStages program.now.columns.items s.stages.items) }
     ensures seated { IfOk result (λ s. AreSeated program.now.columns.items (lists_in s.own.items) s.seats.items) }
 {

@@ -87,7 +87,7 @@ fn add_paths(sums: &mut [Frac], scenarios: &[Scenario]) -> Result<(), Unfinished
 }
 
 /// The totals of all nodes, in one pass over the scenarios.
-pub(crate) fn all_totals(alloc: Global, program: &Program) -> Result<Vec<Frac>, Unfinished>
+pub fn all_totals(alloc: Global, program: &Program) -> Result<Vec<Frac>, Unfinished>
     ensures length { IfOk result (λ totals. length totals.items ≡ length program.now.nodes.items) }
     ensures totals { IfOk result (λ totals. AreTotals (view_of (content program.now)) totals.items) }
 {

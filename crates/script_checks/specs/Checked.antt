@@ -1,5 +1,5 @@
 -- What the checks of the reports of a script come to.
-use Rattle.std.specs.Prelude.{◌≡◌, ℕ, Bool, true, false, ◌&&◌, List, [], ◌∷◌, Result, Ok, Err}
+use Rattle.std.specs.Prelude.{◌≡◌, ◌⊎◌, ℕ, Bool, true, false, ◌&&◌, List, [], ◌∷◌, Result, Ok, Err}
 use Rattle.rationals.specs.Passes.{Operation}
 use Rattle.scen_defs.specs.Program.{Program, content, view_of}
 use Rattle.scen_defs.specs.declared.program.Program.{Program as ProgramOf}
@@ -23,13 +23,14 @@ abbrev pub holds : Result Verdict Operation → Bool
 holds (Ok verdict) = is_holding verdict
 holds (Err passed) = false
 
--- The check of the report against the program comes to the first claim that fails, or the operation that passes before one. Where all
--- claims hold, the report is true of the program.
+-- The check of the report against the program comes to the first claim that fails, or the operation that passes before one; where one
+-- passes, it may also come to that all claims hold, as rounded sums show. Where all claims hold, the report is true of the program.
 pub record IsCheck (p : Program) (report : Report) (check : Checked) : Type 0 where
   pub program : ProgramOf
   pub content_is : content program ≡ p
   pub number_is : check.number ≡ report.number
-  pub outcome_is : check.outcome ≡ verdict_of program report
+  pub outcome_is : (check.outcome ≡ verdict_of program report)
+      ⊎ ((check.outcome ≡ Ok Holds) × ((p : Operation) × (verdict_of program report ≡ Err p)))
   pub shown : holds check.outcome ≡ true → IsShown (view_of p) report
 
 -- a first report with its check, and those behind it; without a report no check

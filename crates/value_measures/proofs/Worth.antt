@@ -1,6 +1,6 @@
 -- What it is worth to know what comes, and to plan for all that may come, isn't below 0.
 use Rattle.std.proofs.Common.{◌≡◌, List, [], ◌∷◌, length, map, Option, Some, None, Result, Ok, Err, IfSome, refl, sym, ap, subst, ◌∙◌}
-use Rattle.rationals.specs.Rational.{ℚ, zero_ℚ, one_ℚ, ◌+ℚ◌, ◌*ℚ◌, ◌≤ℚ◌, by_eqs, terms, add_zero_ℚ, zero_add_ℚ, sub_nonneg_ℚ, le_of_same_ℚ, le_trans_ℚ}
+use Rattle.rationals.specs.Rational.{ℚ, zero_ℚ, one_ℚ, ◌+ℚ◌, ◌*ℚ◌, ◌≤ℚ◌, by_eqs, terms, add_zero_ℚ, zero_add_ℚ, sub_nonneg_ℚ, le_of_same_ℚ, le_trans_ℚ, le_antisym_ℚ}
 use Rattle.rationals.specs.Ring.Eqs.{done, by_eq}
 use Rattle.rationals.specs.Sums.{dot}
 use Rattle.rationals.specs.declared.Op.TheVariants.{Add, Sub}
@@ -64,7 +64,8 @@ module _ (budget : Budget) (stated : StatedLimits) where
       let low = partner (ShowsLower v) report.lower report.dual least o.1 is.truth.lower in
       let same : o.0.cost ≡ least = one o.0.cost (sym o.0.lower ∙ o.1) in
       let high = partner (ShowsUpper v) report.upper report.policy least (o.0.upper ∙ ap (λ (c : ℚ). Some c) same) is.truth.upper in
-      record { policy = high.0; feasible = high.2.feasible; costs = high.2.costs; below = low.2.bound }
+      let costs = le_antisym_ℚ high.2.costs (low.2.bound (at high.0) high.2.feasible) in
+      record { policy = high.0; feasible = high.2.feasible; costs = costs; below = low.2.bound }
     where
       one : (c : ℚ) → (let s : Option ℚ = Some c in s) ≡ Some least → c ≡ least
       one c e = cc

@@ -22,13 +22,13 @@ returns-in-Ends-clause-counts c =
 pub returns-in-Ends-clause-names : goal.returns-in-Ends-clause-names
 returns-in-Ends-clause-names c =
     IfOk-weaker c.ends.result (IsClaimed c.args.program.now c.args.number c.args.place c.args.why c.args.solves (Ends c.in-Ends.policy c.in-Ends.dual)) (ListsHaveNames c.args.program.now)
-    (λ report h. subst (ListsHaveNames c.args.program.now) (sym h.is) (claimed_names c.args.program.now c.args.number report.nodes report.scenarios c.args.place c.args.why c.args.solves (Ends c.in-Ends.policy c.in-Ends.dual))) c.ends.ensures.exact
+    (λ report h. subst (ListsHaveNames c.args.program.now) (sym h.is) (claimed_names c.args.program.now c.args.number report.nodes report.scenarios c.args.place c.args.why c.args.solves h.rounds (Ends c.in-Ends.policy c.in-Ends.dual) h.are)) c.ends.ensures.exact
 
 pub returns-in-Ends-clause-truth : goal.returns-in-Ends-clause-truth
 returns-in-Ends-clause-truth c =
     let tree = (programs_are_trees (content c.args.program.now) c.args.program.now.keeps).0 in
     IfOk-weaker c.ends.result (IsClaimed c.args.program.now c.args.number c.args.place c.args.why c.args.solves (Ends c.in-Ends.policy c.in-Ends.dual)) (IsTrue (seen c.args.program.now) (given c.args.why c.args.solves))
-    (λ report h. subst (IsTrue (seen c.args.program.now) (given c.args.why c.args.solves)) (sym h.is) (claimed_true c.args.program.now c.args.number report.nodes report.scenarios c.args.place c.args.why c.args.solves (Ends c.in-Ends.policy c.in-Ends.dual) tree)) c.ends.ensures.exact
+    (λ report h. subst (IsTrue (seen c.args.program.now) (given c.args.why c.args.solves)) (sym h.is) (claimed_true c.args.program.now c.args.number report.nodes report.scenarios c.args.place c.args.why c.args.solves h.rounds (Ends c.in-Ends.policy c.in-Ends.dual) h.are tree)) c.ends.ensures.exact
 
 pub returns-in-Nowhere-clause-counts : goal.returns-in-Nowhere-clause-counts
 returns-in-Nowhere-clause-counts c =
@@ -38,13 +38,13 @@ returns-in-Nowhere-clause-counts c =
 pub returns-in-Nowhere-clause-names : goal.returns-in-Nowhere-clause-names
 returns-in-Nowhere-clause-names c =
     IfOk-weaker c.nowhere.result (IsClaimed c.args.program.now c.args.number Dual c.args.why c.args.solves (Nowhere c.in-Nowhere.ray)) (ListsHaveNames c.args.program.now)
-    (λ report h. subst (ListsHaveNames c.args.program.now) (sym h.is) (claimed_names c.args.program.now c.args.number report.nodes report.scenarios Dual c.args.why c.args.solves (Nowhere c.in-Nowhere.ray))) c.nowhere.ensures.exact
+    (λ report h. subst (ListsHaveNames c.args.program.now) (sym h.is) (claimed_names c.args.program.now c.args.number report.nodes report.scenarios Dual c.args.why c.args.solves h.rounds (Nowhere c.in-Nowhere.ray) h.are)) c.nowhere.ensures.exact
 
 pub returns-in-Nowhere-clause-truth : goal.returns-in-Nowhere-clause-truth
 returns-in-Nowhere-clause-truth c =
     let tree = (programs_are_trees (content c.args.program.now) c.args.program.now.keeps).0 in
     IfOk-weaker c.nowhere.result (IsClaimed c.args.program.now c.args.number Dual c.args.why c.args.solves (Nowhere c.in-Nowhere.ray)) (IsTrue (seen c.args.program.now) (given c.args.why c.args.solves))
-    (λ report h. subst (IsTrue (seen c.args.program.now) (given c.args.why c.args.solves)) (sym h.is) (claimed_true c.args.program.now c.args.number report.nodes report.scenarios Dual c.args.why c.args.solves (Nowhere c.in-Nowhere.ray) tree)) c.nowhere.ensures.exact
+    (λ report h. subst (IsTrue (seen c.args.program.now) (given c.args.why c.args.solves)) (sym h.is) (claimed_true c.args.program.now c.args.number report.nodes report.scenarios Dual c.args.why c.args.solves h.rounds (Nowhere c.in-Nowhere.ray) h.are tree)) c.nowhere.ensures.exact
 
 pub returns-in-Endless-clause-counts : goal.returns-in-Endless-clause-counts
 returns-in-Endless-clause-counts c =
@@ -54,18 +54,18 @@ returns-in-Endless-clause-counts c =
 pub returns-in-Endless-clause-names : goal.returns-in-Endless-clause-names
 returns-in-Endless-clause-names c =
     IfOk-weaker c.endless.result (IsClaimed c.args.program.now c.args.number c.args.place c.args.why c.args.solves (Endless c.in-Endless.policy c.in-Endless.direction)) (ListsHaveNames c.args.program.now)
-    (λ report h. subst (ListsHaveNames c.args.program.now) (sym h.is) (claimed_names c.args.program.now c.args.number report.nodes report.scenarios c.args.place c.args.why c.args.solves (Endless c.in-Endless.policy c.in-Endless.direction))) c.endless.ensures.exact
+    (λ report h. subst (ListsHaveNames c.args.program.now) (sym h.is) (claimed_names c.args.program.now c.args.number report.nodes report.scenarios c.args.place c.args.why c.args.solves h.rounds (Endless c.in-Endless.policy c.in-Endless.direction) h.are)) c.endless.ensures.exact
 
 pub returns-in-Endless-clause-truth : goal.returns-in-Endless-clause-truth
 returns-in-Endless-clause-truth c =
     let tree = (programs_are_trees (content c.args.program.now) c.args.program.now.keeps).0 in
     IfOk-weaker c.endless.result (IsClaimed c.args.program.now c.args.number c.args.place c.args.why c.args.solves (Endless c.in-Endless.policy c.in-Endless.direction)) (IsTrue (seen c.args.program.now) (given c.args.why c.args.solves))
-    (λ report h. subst (IsTrue (seen c.args.program.now) (given c.args.why c.args.solves)) (sym h.is) (claimed_true c.args.program.now c.args.number report.nodes report.scenarios c.args.place c.args.why c.args.solves (Endless c.in-Endless.policy c.in-Endless.direction) tree)) c.endless.ensures.exact
+    (λ report h. subst (IsTrue (seen c.args.program.now) (given c.args.why c.args.solves)) (sym h.is) (claimed_true c.args.program.now c.args.number report.nodes report.scenarios c.args.place c.args.why c.args.solves h.rounds (Endless c.in-Endless.policy c.in-Endless.direction) h.are tree)) c.endless.ensures.exact
 
 pub returns-in-Nowhere-clause-exact : goal.returns-in-Nowhere-clause-exact
 returns-in-Nowhere-clause-exact c =
     IfOk-weaker c.nowhere.result (IsClaimed c.args.program.now c.args.number Dual c.args.why c.args.solves (Nowhere c.in-Nowhere.ray)) (IsClaimed c.args.program.now c.args.number c.args.place c.args.why c.args.solves c.args.claim)
-    (λ report h. rw c.in-Nowhere.is (record { is = h.is })) c.nowhere.ensures.exact
+    (λ report h. rw c.in-Nowhere.is (record { rounds = h.rounds; are = h.are; is = h.is })) c.nowhere.ensures.exact
 
 pub returns-in-Ends-clause-equal : goal.returns-in-Ends-clause-equal
 returns-in-Ends-clause-equal c = claimed_equal c.args.program.now c.args.number c.args.place c.args.why c.args.solves
