@@ -145,11 +145,11 @@ impl DualRun {
         leaving: Leaving,
         enter: usize,
     ) -> Result<Option<End>, AllocError> {
-        basis.column(program, enter, &mut self.column)?;
+        basis.column(enter, &mut self.column)?;
         let pivot = self.column.at(leaving.position);
         let is_large = pivot.abs() >= PIVOT;
         if is_large && agree(pivot, basis.alpha_at(enter)) {
-            self.pivot(program, basis, leaving, enter)?;
+            self.pivot(basis, leaving, enter)?;
             return Ok(None);
         }
         if (is_large || basis.inverse.has_etas()) && self.retry(program, basis)? {
@@ -161,12 +161,11 @@ impl DualRun {
     /// The flips, the step and the exchange.
     fn pivot(
         &mut self,
-        program: &FloatProgram,
         basis: &mut Basis,
         leaving: Leaving,
         enter: usize,
     ) -> Result<(), AllocError> {
-        if flip(program, basis, &self.flips, &mut self.tau)? {
+        if flip(basis, &self.flips, &mut self.tau)? {
             exceed(&mut self.excesses, basis, &self.tau.places);
         }
         step(basis, leaving, enter, &self.column);
@@ -186,7 +185,7 @@ pub(crate) fn dual(
     tolerance: f64,
 ) -> Result<End, AllocError> {
     basis.shift_costs(tolerance);
-    basis.find_values(alloc, program)?;
+    basis.find_values(alloc)?;
     let mut dual = DualRun::new(alloc, program.row_count())?;
     dual.exceed_all(basis);
     dual.turns(program, basis)

@@ -1,8 +1,7 @@
 //! The parts of a step of the dual simplex method.
 
 use bounded_basis::{
-    Basis, FloatProgram, Spot, Standing, Vector, add_value, number, set_number, set_price,
-    set_standing,
+    Basis, Spot, Standing, Vector, add_value, number, set_number, set_price, set_standing,
 };
 use std::alloc::AllocError;
 
@@ -22,7 +21,6 @@ pub(crate) fn move_basic(spots: &mut [Spot], head: &[u32], length: f64, column: 
 
 /// Brings columns to their other bounds; `change` is what that makes of the basic ones. False where there are none.
 pub(crate) fn flip(
-    program: &FloatProgram,
     basis: &mut Basis,
     flips: &[u32],
     change: &mut Vector,
@@ -31,21 +29,21 @@ pub(crate) fn flip(
         return Ok(false);
     }
     for column in flips {
-        flip_one(program, basis, *column as usize)?;
+        flip_one(basis, *column as usize)?;
     }
     basis.forward(change)?;
     move_basic(&mut basis.spots, &basis.head, 1.0, change);
     Ok(true)
 }
 
-fn flip_one(program: &FloatProgram, basis: &mut Basis, column: usize) -> Result<(), AllocError> {
+fn flip_one(basis: &mut Basis, column: usize) -> Result<(), AllocError> {
     let spot = basis.spot(column);
     let (standing, to) = match spot.standing {
         Standing::Low => (Standing::High, spot.high),
         _ => (Standing::Low, spot.low),
     };
     set_standing(&mut basis.spots, column, standing, to);
-    basis.scatter(program, column, to - spot.value)
+    basis.scatter(column, to - spot.value)
 }
 
 /// The step of the reduced costs: those of the touched columns less multiples of the row.

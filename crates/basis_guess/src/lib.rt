@@ -5,6 +5,9 @@
 //! and tests them.
 #![tactic(auto)]
 
+mod dense;
+mod dense_dual;
+mod dense_primal;
 mod dual;
 mod dual_choice;
 mod dual_steps;
@@ -13,5 +16,5 @@ mod primal_choice;
 mod primal_steps;
 mod solver;
 
-pub use bounded_basis::{FloatProgram, Standing};
-pub use solver::{End, Ended, solve};
+pub use bounded_basis::{FloatProgram, Standing, Turned};
+pub use solver::{End, Ended, solve, solve_with_factors};

@@ -82,7 +82,7 @@ impl PrimalRun {
         } else {
             -1.0
         };
-        basis.column(program, enter, &mut self.column)?;
+        basis.column(enter, &mut self.column)?;
         match leaving(basis, enter, up, &self.column) {
             Leave::Never => Ok(Some(End::Unbounded)),
             Leave::Flip(range) => {

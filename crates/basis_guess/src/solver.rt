@@ -1,12 +1,23 @@
 //! Both methods together.
 
+use crate::dense::Dense;
 use crate::dual::dual;
 use crate::primal::primal;
-use bounded_basis::{Basis, FloatProgram, Standing, TOLERANCE};
+use crate::{dense_dual, dense_primal};
+use bounded_basis::{Basis, FloatProgram, Spot, Standing, TOLERANCE};
 use std::alloc::{AllocError, Global};
 
 /// So often both methods run, one behind the other.
 const ROUNDS: u32 = 10;
+
+/// A program is small where a dense tableau of it has at most so many numbers, and where so many are looked at at most until all basic
+/// columns are so.
+const SMALL: usize = 16384;
+
+const FEW: usize = 500_000;
+
+/// So many steps for each line and each place are made beside a dense tableau.
+const TURNS: usize = 10;
 
 /// How a solve ends.
 #[derive(Clone, Copy, PartialEq)]
@@ -41,25 +52,100 @@ pub fn solve(
     standings: &[Standing],
     work: u64,
 ) -> Result<Ended, AllocError> {
-    let mut basis = Basis::new(alloc, program, standings, work)?;
-    let end = solved(alloc, program, &mut basis)?;
-    finished(alloc, &basis, end)
+    if is_small(program) {
+        let mut dense = Dense::new(alloc, program, standings, work)?;
+        let end = dense_end(&mut dense, price_tolerance(program));
+        if end != End::Lost {
+            return finished(alloc, &dense.spots, dense.work_left, end);
+        }
+    }
+    with_factors(alloc, program, standings, work)
 }
 
-fn finished(alloc: Global, basis: &Basis, end: End) -> Result<Ended, AllocError> {
+/// As `solve`, with factors, of a program that it solves beside a dense tableau: its end may have an exact answer where that of the
+/// tableau has none. None where `solve` takes factors itself.
+pub fn solve_with_factors(
+    alloc: Global,
+    program: &FloatProgram,
+    standings: &[Standing],
+    work: u64,
+) -> Result<Option<Ended>, AllocError> {
+    if !is_small(program) {
+        return Ok(None);
+    }
+    Ok(Some(with_factors(alloc, program, standings, work)?))
+}
+
+fn with_factors(
+    alloc: Global,
+    program: &FloatProgram,
+    standings: &[Standing],
+    work: u64,
+) -> Result<Ended, AllocError> {
+    let mut basis = Basis::new(alloc, program, standings, work)?;
+    let end = solved(alloc, program, &mut basis)?;
+    finished(alloc, &basis.spots, basis.work_left, end)
+}
+
+/// Whether a program is solved beside a dense tableau.
+fn is_small(program: &FloatProgram) -> bool {
+    let rows = program.row_count().saturating_add(1);
+    let columns = program.column_count().saturating_add(1);
+    let numbers = rows.saturating_mul(columns);
+    numbers <= SMALL && numbers.saturating_mul(rows.min(columns)) <= FEW
+}
+
+/// Both methods beside a dense tableau.
+fn dense_end(dense: &mut Dense, tolerance: f64) -> End {
+    for _round in 0..ROUNDS {
+        if let Some(end) = dense_round(dense, tolerance) {
+            return end;
+        }
+    }
+    End::Lost
+}
+
+/// As `round`.
+fn dense_round(dense: &mut Dense, tolerance: f64) -> Option<End> {
+    let lines = dense.line_count().saturating_add(dense.place_count());
+    let turns = lines.saturating_mul(TURNS);
+    dense.find_values();
+    dense.find_prices();
+    if dense.leaving().is_some() {
+        dense.shift_costs(tolerance);
+        let end = dense_dual::dual(dense, turns);
+        if end != End::Optimal {
+            return Some(end);
+        }
+        dense.find_prices();
+    }
+    if dense.is_priced(tolerance) {
+        return Some(End::Optimal);
+    }
+    let end = dense_primal::primal(dense, tolerance, turns);
+    if end != End::Optimal {
+        return Some(end);
+    }
+    if dense.leaving().is_none() && dense.is_priced(tolerance) {
+        return Some(End::Optimal);
+    }
+    None
+}
+
+fn finished(alloc: Global, spots: &[Spot], work_left: u64, end: End) -> Result<Ended, AllocError> {
     let mut ended = Ended {
         end,
-        standings: Vec::new(alloc),
-        point: Vec::new(alloc),
-        work_left: basis.work_left,
+        standings: Vec::with_capacity(alloc, spots.len())?,
+        point: Vec::with_capacity(alloc, spots.len())?,
+        work_left,
     };
-    ended.take(basis)?;
+    ended.take(spots)?;
     Ok(ended)
 }
 
 impl Ended {
-    fn take(&mut self, basis: &Basis) -> Result<(), AllocError> {
-        for spot in &basis.spots {
+    fn take(&mut self, spots: &[Spot]) -> Result<(), AllocError> {
+        for spot in spots {
             self.standings.push(spot.standing)?;
             self.point.push(spot.value)?;
         }
@@ -99,8 +185,8 @@ fn round(
     basis: &mut Basis,
     tolerance: f64,
 ) -> Result<Option<End>, AllocError> {
-    basis.find_values(alloc, program)?;
-    basis.find_prices(alloc, program)?;
+    basis.find_values(alloc)?;
+    basis.find_prices(alloc)?;
     if !basis.is_feasible() {
         let end = dual(alloc, program, basis, tolerance)?;
         if end != End::Optimal {
@@ -123,8 +209,8 @@ fn renewed(alloc: Global, program: &FloatProgram, basis: &mut Basis) -> Result<b
     if basis.inverse.has_etas() {
         return basis.refresh(alloc, program);
     }
-    basis.find_values(alloc, program)?;
-    basis.find_prices(alloc, program)?;
+    basis.find_values(alloc)?;
+    basis.find_prices(alloc)?;
     Ok(true)
 }
 

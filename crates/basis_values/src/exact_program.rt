@@ -98,6 +98,17 @@ impl ExactProgram {
         }
     }
 
+    /// No column and no row, with memory for so many.
+    pub fn sized(alloc: Global, columns: usize, rows: usize) -> Result<ExactProgram, Memory> {
+        Ok(ExactProgram {
+            alloc,
+            columns: Vec::with_capacity(alloc, columns)?,
+            rows: Vec::with_capacity(alloc, rows)?,
+            floats: FloatProgram::sized(alloc, columns, rows)?,
+            is_priced: false,
+        })
+    }
+
     /// Adds a column. Rows come behind all columns.
     pub fn push_column(
         &mut self,

@@ -6,9 +6,10 @@ use crate::ray::ray_of;
 use crate::refuted::is_refuted;
 use crate::solution::{Solution, solution_of};
 use crate::zoom::zoomed;
-use basis_guess::{End, Ended, Standing, solve};
+use basis_guess::{End, Ended, Standing, solve, solve_with_factors};
 use frac128::{Frac, Memory};
 use std::alloc::Global;
+use std::mem::replace;
 
 /// What a program comes to, by numbers that are exact; whoever relies on them tests them.
 #[derive(Drop)]
@@ -120,8 +121,8 @@ fn repaired(
 }
 
 /// From the end of a solve in floats to exact numbers. Where they fail the exact test the program around them is
-/// enlarged and solved again, a few times at most. `standings` become those of the last solve, and `work` what is left.
-pub fn guess_from(
+/// enlarged and solved again, a few times at most.
+fn exact_end(
     alloc: Global,
     program: &ExactProgram,
     ended: Ended,
@@ -147,6 +148,26 @@ pub fn guess_from(
         }
     }
     Ok(Guessed::Nothing)
+}
+
+/// From the end of a solve in floats, which began with `standings`, to exact numbers, repaired where they fail the exact test. Where an
+/// end beside a dense tableau gives none, the program is solved with factors from the same standings. `standings` become
+/// those of the last solve, and `work` what is left.
+pub fn guess_from(
+    alloc: Global,
+    program: &ExactProgram,
+    ended: Ended,
+    standings: &mut Vec<Standing>,
+    work: &mut u64,
+) -> Result<Guessed, Memory> {
+    let start = replace(standings, Vec::new(alloc));
+    let guessed = exact_end(alloc, program, ended, standings, work)?;
+    if let Guessed::Nothing = &guessed {
+        if let Some(again) = solve_with_factors(alloc, program.floats(), &start, *work)? {
+            return exact_end(alloc, program, again, standings, work);
+        }
+    }
+    Ok(guessed)
 }
 
 /// Solves the program in floats from these standings, and finds the exact numbers of the end.

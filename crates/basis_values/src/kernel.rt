@@ -164,7 +164,7 @@ impl Kernel {
         }
         let places = places_of(alloc, &columns, program.column_count())?;
         let own = own_rows(alloc, program, &rows, &places)?;
-        let Some(system) = System::of(alloc, &own)? else {
+        let Some(system) = System::of(alloc, own)? else {
             return Ok(None);
         };
         Ok(Some(Kernel {

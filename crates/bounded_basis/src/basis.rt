@@ -3,6 +3,7 @@
 use crate::inverse::Inverse;
 use crate::program::{FloatProgram, Standing, narrow};
 use crate::spots::{NOWHERE, Spot, set_standing, spot_at, spot_of};
+use crate::turned::Turned;
 use crate::vectors::constant;
 use std::alloc::{AllocError, Global};
 
@@ -15,6 +16,8 @@ pub struct Basis {
     /// The basic columns.
     pub head: Vec<u32>,
     pub inverse: Inverse,
+    /// The program's entries by column.
+    pub turned: Turned,
     /// A right side by row, 0 between two solves, and the rows that may be other than 0.
     pub right: Vec<f64>,
     pub given: Vec<u32>,
@@ -29,15 +32,6 @@ pub struct Basis {
     pub entries: usize,
     /// What is left of the work that is allowed: one for each entry that is looked at.
     pub work_left: u64,
-}
-
-/// How many entries a program has.
-fn entries(program: &FloatProgram) -> usize {
-    let mut sum: usize = 0;
-    for column in &program.columns {
-        sum = sum.saturating_add(column.len());
-    }
-    sum
 }
 
 /// How a column is to stand. Where the list ends before it, a row's activity is basic, and other columns aren't.
@@ -60,10 +54,13 @@ impl Basis {
         standings: &[Standing],
         work: u64,
     ) -> Result<Basis, AllocError> {
+        let turned = Turned::of(alloc, program)?;
         let mut basis = Basis {
             spots: Vec::new(alloc),
             head: Vec::new(alloc),
             inverse: Inverse::new(alloc),
+            entries: turned.len(),
+            turned,
             right: Vec::new(alloc),
             given: Vec::new(alloc),
             costs: Vec::new(alloc),
@@ -71,7 +68,6 @@ impl Basis {
             alpha: Vec::new(alloc),
             touched: Vec::new(alloc),
             columns: program.column_count(),
-            entries: entries(program),
             work_left: work,
         };
         basis.prepare(alloc, program, standings)?;

@@ -3,6 +3,7 @@
 use crate::basis::Basis;
 use crate::program::{FloatProgram, Standing, narrow};
 use crate::spots::set_standing;
+use crate::turned::Turned;
 use basis_factors::{Entry, Factored, Factors, Matrix};
 use std::alloc::{AllocError, Global};
 
@@ -12,12 +13,12 @@ const ATTEMPTS: u32 = 20;
 /// Adds a column of the program, or the activity of a row.
 fn push_column(
     matrix: &mut Matrix<f64>,
-    program: &FloatProgram,
+    turned: &Turned,
+    count: usize,
     column: usize,
 ) -> Result<(), AllocError> {
-    let count = program.column_count();
     if column < count {
-        matrix.push_column(program.column(column))
+        matrix.push_column(turned.column(column))
     } else {
         let at = narrow(column - count);
         matrix.push_column(&[Entry { at, value: -1.0 }])
@@ -27,11 +28,12 @@ fn push_column(
 /// Adds the basic columns.
 fn push_all(
     matrix: &mut Matrix<f64>,
-    program: &FloatProgram,
+    turned: &Turned,
+    count: usize,
     head: &[u32],
 ) -> Result<(), AllocError> {
     for column in head {
-        push_column(matrix, program, *column as usize)?;
+        push_column(matrix, turned, count, *column as usize)?;
     }
     Ok(())
 }
@@ -40,10 +42,11 @@ fn push_all(
 fn factored(
     alloc: Global,
     program: &FloatProgram,
+    turned: &Turned,
     head: &[u32],
 ) -> Result<Factored<f64>, AllocError> {
     let mut matrix = Matrix::new(alloc, program.row_count())?;
-    push_all(&mut matrix, program, head)?;
+    push_all(&mut matrix, turned, program.column_count(), head)?;
     Factors::of(alloc, matrix)
 }
 
@@ -59,7 +62,7 @@ impl Basis {
     }
 
     fn factor_once(&mut self, alloc: Global, program: &FloatProgram) -> Result<bool, AllocError> {
-        match factored(alloc, program, &self.head)? {
+        match factored(alloc, program, &self.turned, &self.head)? {
             Factored::Full(factors) => {
                 let entries = factors.entries().saturating_add(self.head.len());
                 self.inverse.set(factors);
@@ -98,8 +101,8 @@ impl Basis {
         if !self.factor(alloc, program)? {
             return Ok(false);
         }
-        self.find_values(alloc, program)?;
-        self.find_prices(alloc, program)?;
+        self.find_values(alloc)?;
+        self.find_prices(alloc)?;
         Ok(true)
     }
 }

@@ -11,9 +11,11 @@ mod pricing;
 mod program;
 mod spots;
 mod tableau;
+mod turned;
 mod vectors;
 
 pub use basis::Basis;
 pub use program::{FloatProgram, Standing, narrow};
 pub use spots::{Spot, TOLERANCE, add_value, set_price, set_standing};
+pub use turned::Turned;
 pub use vectors::{Vector, constant, number, set_number};

@@ -3,6 +3,7 @@
 use crate::basis::Basis;
 use crate::program::FloatProgram;
 use crate::spots::{Spot, spot_at};
+use crate::turned::Turned;
 use crate::vectors::{Vector, number, set_number};
 use basis_factors::Entry;
 use std::alloc::{AllocError, Global};
@@ -35,7 +36,7 @@ fn set_costs(costs: &mut [f64], head: &[u32], spots: &[Spot]) {
 
 /// The reduced cost of a column.
 fn price_of(
-    program: &FloatProgram,
+    turned: &Turned,
     columns: usize,
     column: usize,
     spot: &Spot,
@@ -44,16 +45,16 @@ fn price_of(
     if spot.is_basic() {
         0.0
     } else if column < columns {
-        less_products(spot.cost, program.column(column), multipliers)
+        less_products(spot.cost, turned.column(column), multipliers)
     } else {
         spot.cost + number(multipliers, column - columns)
     }
 }
 
 /// The reduced costs of all columns.
-fn set_prices(program: &FloatProgram, columns: usize, spots: &mut [Spot], multipliers: &[f64]) {
+fn set_prices(turned: &Turned, columns: usize, spots: &mut [Spot], multipliers: &[f64]) {
     for (column, spot) in spots.iter_mut().enumerate() {
-        let price = price_of(program, columns, column, spot, multipliers);
+        let price = price_of(turned, columns, column, spot, multipliers);
         spot.price = price;
     }
 }
@@ -66,10 +67,10 @@ impl Basis {
     }
 
     /// Puts the columns that aren't basic to their bounds and finds the values of the others.
-    pub fn find_values(&mut self, alloc: Global, program: &FloatProgram) -> Result<(), AllocError> {
+    pub fn find_values(&mut self, alloc: Global) -> Result<(), AllocError> {
         self.spend_on_all();
         self.rest_all();
-        self.scatter_all(program)?;
+        self.scatter_all()?;
         let mut solution = Vector::new(alloc, self.head.len())?;
         self.forward(&mut solution)?;
         set_values(&mut self.spots, &self.head, &solution.values);
@@ -84,25 +85,26 @@ impl Basis {
         }
     }
 
-    fn scatter_all(&mut self, program: &FloatProgram) -> Result<(), AllocError> {
+    fn scatter_all(&mut self) -> Result<(), AllocError> {
         for column in 0..self.spots.len() {
             let spot = self.spot(column);
             if !spot.is_basic() && spot.value != 0.0 {
-                self.scatter(program, column, -spot.value)?;
+                self.scatter(column, -spot.value)?;
             }
         }
         Ok(())
     }
 
     /// Finds the reduced costs of all columns.
-    pub fn find_prices(&mut self, alloc: Global, program: &FloatProgram) -> Result<(), AllocError> {
+    pub fn find_prices(&mut self, alloc: Global) -> Result<(), AllocError> {
         self.spend_on_all();
         set_costs(&mut self.costs, &self.head, &self.spots);
         self.wanted.clear();
         let mut multipliers = Vector::new(alloc, self.head.len())?;
         self.inverse
             .backward(&mut self.costs, &mut self.wanted, &mut multipliers)?;
-        set_prices(program, self.columns, &mut self.spots, &multipliers.values);
+        let prices = &multipliers.values;
+        set_prices(&self.turned, self.columns, &mut self.spots, prices);
         Ok(())
     }
 

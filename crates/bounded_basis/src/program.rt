@@ -21,8 +21,8 @@ pub enum Standing {
 /// a bound. All columns are pushed before the first row.
 #[derive(Drop)]
 pub struct FloatProgram {
-    /// By column its entries by row.
-    pub columns: Vec<Vec<Entry<f64>>>,
+    /// How many columns there are.
+    columns: usize,
     /// By row its entries by column.
     pub rows: Vec<Vec<Entry<f64>>>,
     /// The low bounds of the columns and then of the rows' activities.
@@ -58,7 +58,7 @@ impl FloatProgram {
     /// No column and no row.
     pub fn new(alloc: Global) -> FloatProgram {
         FloatProgram {
-            columns: Vec::new(alloc),
+            columns: 0,
             rows: Vec::new(alloc),
             low: Vec::new(alloc),
             high: Vec::new(alloc),
@@ -66,10 +66,21 @@ impl FloatProgram {
         }
     }
 
+    /// No column and no row, with memory for so many.
+    pub fn sized(alloc: Global, columns: usize, rows: usize) -> Result<FloatProgram, AllocError> {
+        let all = columns.saturating_add(rows);
+        Ok(FloatProgram {
+            columns: 0,
+            rows: Vec::with_capacity(alloc, rows)?,
+            low: Vec::with_capacity(alloc, all)?,
+            high: Vec::with_capacity(alloc, all)?,
+            cost: Vec::with_capacity(alloc, columns)?,
+        })
+    }
+
     /// One more column; only as long as there is no row.
     pub fn push_column(&mut self, low: f64, high: f64, cost: f64) -> Result<(), AllocError> {
-        let alloc = *self.columns.allocator();
-        self.columns.push(Vec::new(alloc))?;
+        self.columns = self.columns.saturating_add(1);
         self.low.push(low)?;
         self.high.push(high)?;
         self.cost.push(cost)?;
@@ -83,29 +94,15 @@ impl FloatProgram {
         low: f64,
         high: f64,
     ) -> Result<(), AllocError> {
-        self.push_entries(&entries)?;
         self.rows.push(entries)?;
         self.low.push(low)?;
         self.high.push(high)?;
         Ok(())
     }
 
-    /// Puts the entries of the next row to their columns.
-    fn push_entries(&mut self, entries: &[Entry<f64>]) -> Result<(), AllocError> {
-        let at = narrow(self.rows.len());
-        for entry in entries {
-            let column = entry.at as usize;
-            if column < self.columns.len() {
-                let value = entry.value;
-                self.columns[column].push(Entry { at, value })?;
-            }
-        }
-        Ok(())
-    }
-
     /// How many columns there are, without the rows' activities.
     pub fn column_count(&self) -> usize {
-        self.columns.len()
+        self.columns
     }
 
     /// How many rows there are.
@@ -143,15 +140,6 @@ impl FloatProgram {
     /// Where a column or a row's activity stands that isn't basic.
     pub fn rest(&self, column: usize) -> Standing {
         rest_between(self.low_at(column), self.high_at(column))
-    }
-
-    /// The entries of a column; none for a row's activity.
-    pub fn column(&self, column: usize) -> &[Entry<f64>] {
-        if column < self.columns.len() {
-            &self.columns[column]
-        } else {
-            &[]
-        }
     }
 
     /// The entries of a row.

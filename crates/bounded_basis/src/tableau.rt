@@ -28,18 +28,13 @@ fn add_column(
 
 impl Basis {
     /// Adds a multiple of a column to the right side.
-    pub fn scatter(
-        &mut self,
-        program: &FloatProgram,
-        column: usize,
-        factor: f64,
-    ) -> Result<(), AllocError> {
+    pub fn scatter(&mut self, column: usize, factor: f64) -> Result<(), AllocError> {
         if column < self.columns {
             add_column(
                 &mut self.right,
                 &mut self.given,
                 factor,
-                program.column(column),
+                self.turned.column(column),
             )
         } else {
             let at = narrow(column - self.columns);
@@ -60,13 +55,8 @@ impl Basis {
     }
 
     /// A column of the tableau, by position.
-    pub fn column(
-        &mut self,
-        program: &FloatProgram,
-        column: usize,
-        solution: &mut Vector,
-    ) -> Result<(), AllocError> {
-        self.scatter(program, column, 1.0)?;
+    pub fn column(&mut self, column: usize, solution: &mut Vector) -> Result<(), AllocError> {
+        self.scatter(column, 1.0)?;
         self.forward(solution)
     }
 

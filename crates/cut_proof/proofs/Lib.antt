@@ -2,3 +2,4 @@ pub mod Tails
 pub mod MadeFrom
 pub mod RepairLaws
 pub mod NotGood
+pub mod Behind

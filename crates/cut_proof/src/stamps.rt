@@ -1,6 +1,6 @@
 // The support of a cut: stamps in rising order.
-ghost use Rattle.std.specs.Prelude.{◌≡◌, IfOk};
-ghost use Rattle.cut_defs.specs.Support.{rank, before_stamp, merge, own_by, with_uses};
+ghost use Rattle.std.specs.Prelude.{◌≡◌, ◌++◌, IsTrue, IfOk};
+ghost use Rattle.cut_defs.specs.Support.{rank, before_stamp, merge, own_by, with_uses, StampsRise};
 ghost use Rattle.cut_proof.specs.View.{source_content, uses_content};
 
 use crate::cut::{Record, Used};
@@ -76,19 +76,52 @@ fn own(alloc: Global, source: &Record) -> Result<Vec<Stamp>, Memory>
     Ok(stamps)
 }
 
-/// The stamps and those of the used cuts.
+/// Whether the stamps of a list come behind those of another one, which rise.
+fn comes_behind(xs: &[Stamp], ys: &[Stamp]) -> bool
+    requires { StampsRise xs.now }
+    ensures { IsTrue result → merge xs.now ys.now ≡ xs.now ++ ys.now }
+{
+    let len = xs.len();
+    if len == 0 {
+        return false;
+    }
+    if ys.len() == 0 {
+        return false;
+    }
+    let last = xs[len - 1];
+    let first = ys[0];
+    is_before(&last, &first)
+}
+
+/// The stamps of two lists that rise, each once, where the first list is given away.
+#[tactic(auto)]
+fn joined(alloc: Global, xs: Vec<Stamp>, ys: &[Stamp]) -> Result<Vec<Stamp>, Memory>
+    requires { StampsRise xs.items }
+    ensures { IfOk result (λ v. v.items ≡ merge xs.items ys.now) }
+{
+    let mut all = xs;
+    if comes_behind(&all, ys) {
+        all.extend_from_slice(ys)?;
+        return Ok(all);
+    }
+    merge(alloc, &all, ys)
+}
+
+/// The stamps, which rise, and those of the used cuts.
 #[tactic(auto, unfolding(cut_defs::specs::Support::with_uses))]
 fn with_uses(alloc: Global, stamps: Vec<Stamp>, used: &[Used]) -> Result<Vec<Stamp>, Memory>
+    requires { StampsRise stamps.items }
     ensures { IfOk result (λ v. v.items ≡ with_uses stamps.items (uses_content used.now)) }
 {
     let mut all = stamps;
     for one in used {
-        all = merge(alloc, &all, one.cut.cut().support())?;
+        all = joined(alloc, all, one.cut.cut().support())?;
     }
     Ok(all)
 }
 
 /// What a record rests on.
+#[tactic(auto, using(crate::proofs::Behind::own_rises))]
 pub(crate) fn support_of(alloc: Global, source: &Record) -> Result<Vec<Stamp>, Memory>
     ensures { IfOk result (λ v. v.items ≡
         with_uses (own_by source.now.kind (source_content source.now)) (uses_content source.now.used.items)) }

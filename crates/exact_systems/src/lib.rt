@@ -3,6 +3,7 @@
 //! Nothing is promised of the numbers: whoever relies on them tests them.
 #![tactic(auto)]
 
+mod dense;
 mod lift;
 mod residue;
 mod restore;

@@ -1,14 +1,16 @@
 //! Which cuts become rows: those that a point breaks.
 
+use crate::cut_rows::end_bounds;
 use crate::draft::{Draft, cut_at};
 use crate::floats::{FloatCut, FloatCuts, Sum, at, distance, value_at};
-use crate::hints::HeldCut;
+use crate::groups::{Group, factor};
+use crate::hints::HeldCuts;
 use crate::split::place_of;
 use basis_guess::Standing;
 use cut_defs::CutKind;
 use cut_proof::Cut;
 use decimals::float;
-use frac128::{Frac, Memory, Passed};
+use frac128::{ArithmeticFault, Frac, Memory, Passed};
 use node_lp::Task;
 use std::alloc::Global;
 
@@ -21,14 +23,6 @@ const NEAR: f64 = 0.0000001;
 /// Whether a cut may become a row.
 fn is_open(cut: &FloatCut) -> bool {
     cut.is_taken && cut.row.is_none()
-}
-
-/// What a cut may come to at most: its child's cost, or 0.
-fn limit(draft: &Draft, child: usize, kind: CutKind, point: &[f64]) -> f64 {
-    match kind {
-        CutKind::Bound => at(point, draft.own.saturating_add(child)),
-        CutKind::Ray => 0.0,
-    }
 }
 
 /// How far a sum is above its limit, beside what was added up; below 0 where it isn't.
@@ -55,33 +49,121 @@ fn most_broken(cuts: &FloatCuts, kind: CutKind, limit: f64, point: &[f64]) -> Op
     best
 }
 
-/// A cut that becomes a row, which is basic.
-fn basic(child: usize, number: usize) -> Option<HeldCut> {
-    let child = u32::try_from(child).ok()?;
-    let cut = u32::try_from(number).ok()?;
-    Some(HeldCut {
-        child,
-        cut,
-        standing: Standing::Basic,
-    })
+/// A cut and its value.
+#[derive(Clone, Copy)]
+struct Best {
+    number: usize,
+    sum: Sum,
 }
 
-/// Adds a cut to a list.
-fn push_cut(all: &mut Vec<HeldCut>, child: usize, number: usize) -> Result<(), Memory> {
-    if let Some(held) = basic(child, number) {
-        all.push(held)?;
+/// The cut that bounds a child's cost with the greatest value.
+fn greatest(cuts: &FloatCuts, point: &[f64]) -> Option<Best> {
+    let mut best: Option<Best> = None;
+    let mut from = 0;
+    for (number, cut) in cuts.cuts.iter().enumerate() {
+        if cut.kind == CutKind::Bound && cut.is_taken {
+            let sum = value_at(cut, &cuts.entries, from, point);
+            let is_greater = match &best {
+                Some(other) => sum.value > other.sum.value,
+                None => true,
+            };
+            if is_greater {
+                best = Some(Best { number, sum });
+            }
+        }
+        from = cut.end;
+    }
+    best
+}
+
+/// Adds a cut to a list, as a row that is basic.
+fn push_cut(all: &mut HeldCuts, child: usize, number: usize) -> Result<(), Memory> {
+    match (u32::try_from(child), u32::try_from(number)) {
+        (Ok(child), Ok(number)) => all.push(child, &[number], Standing::Basic),
+        _ => Ok(()),
+    }
+}
+
+/// Adds a group's cuts to a list, as a row that is basic, unless they are a row.
+fn push_sum(
+    all: &mut HeldCuts,
+    draft: &Draft,
+    group: &Group,
+    numbers: &[u32],
+) -> Result<(), Memory> {
+    match u32::try_from(group.first) {
+        Ok(first) if !numbers.is_empty() && !draft.held.has(first, numbers) => {
+            all.push(first, numbers, Standing::Basic)
+        }
+        _ => Ok(()),
+    }
+}
+
+/// Adds the greatest cuts about a group's children, where together they are above the group's cost.
+fn push_group(
+    alloc: Global,
+    all: &mut HeldCuts,
+    task: &Task,
+    draft: &Draft,
+    group: &Group,
+    limit: f64,
+    point: &[f64],
+) -> Result<(), Memory> {
+    let mut numbers = Vec::with_capacity(alloc, group.count)?;
+    let mut sum = Sum {
+        value: 0.0,
+        size: 0.0,
+    };
+    for (place, cuts) in draft
+        .children
+        .iter()
+        .enumerate()
+        .skip(group.first)
+        .take(group.count)
+    {
+        let Some(best) = greatest(cuts, point) else {
+            return Ok(());
+        };
+        let by = if group.is_plain {
+            1.0
+        } else {
+            float(factor(task, group, place))
+        };
+        sum.value += by * best.sum.value;
+        sum.size += by * best.sum.size;
+        match u32::try_from(best.number) {
+            Ok(number) => numbers.push(number)?,
+            Err(_) => {
+                return Ok(());
+            }
+        }
+    }
+    if over(sum, limit) > BROKEN {
+        push_sum(all, draft, group, &numbers)?;
     }
     Ok(())
 }
 
-/// Of each child the cut that bounds its cost and the Ray cut that a point breaks most.
-pub(crate) fn broken(alloc: Global, draft: &Draft, point: &[f64]) -> Result<Vec<HeldCut>, Memory> {
-    let mut all = Vec::new(alloc);
-    for (child, cuts) in draft.children.iter().enumerate() {
-        let cost = limit(draft, child, CutKind::Bound, point);
-        if let Some(number) = most_broken(cuts, CutKind::Bound, cost, point) {
-            push_cut(&mut all, child, number)?;
+/// Of each group the cuts that bound its cost, and of each child the Ray cut, that a point breaks most.
+pub(crate) fn broken(
+    alloc: Global,
+    task: &Task,
+    draft: &Draft,
+    point: &[f64],
+) -> Result<HeldCuts, Memory> {
+    let mut all = HeldCuts::new(alloc);
+    for (number, group) in draft.groups.iter().enumerate() {
+        let limit = at(point, draft.own.saturating_add(number));
+        if group.count != 1 {
+            push_group(alloc, &mut all, task, draft, group, limit, point)?;
+        } else if group.first < draft.children.len() {
+            let cuts = &draft.children[group.first];
+            if let Some(cut) = most_broken(cuts, CutKind::Bound, limit, point) {
+                push_cut(&mut all, group.first, cut)?;
+            }
         }
+    }
+    for (child, cuts) in draft.children.iter().enumerate() {
         if let Some(number) = most_broken(cuts, CutKind::Ray, 0.0, point) {
             push_cut(&mut all, child, number)?;
         }
@@ -89,21 +171,37 @@ pub(crate) fn broken(alloc: Global, draft: &Draft, point: &[f64]) -> Result<Vec<
     Ok(all)
 }
 
-/// Adds the cuts about a child that aren't rows.
-fn push_open(all: &mut Vec<HeldCut>, child: usize, cuts: &[FloatCut]) -> Result<(), Memory> {
+/// Adds the cuts of a kind about a child that aren't rows.
+fn push_open(
+    all: &mut HeldCuts,
+    child: usize,
+    kind: CutKind,
+    cuts: &[FloatCut],
+) -> Result<(), Memory> {
     for (number, cut) in cuts.iter().enumerate() {
-        if is_open(cut) {
+        if cut.kind == kind && is_open(cut) {
             push_cut(all, child, number)?;
         }
     }
     Ok(())
 }
 
-/// All cuts that aren't rows.
-pub(crate) fn open(alloc: Global, draft: &Draft) -> Result<Vec<HeldCut>, Memory> {
-    let mut all = Vec::new(alloc);
+/// All cuts that aren't rows; of groups the first and the last ones.
+pub(crate) fn open(alloc: Global, draft: &Draft) -> Result<HeldCuts, Memory> {
+    let mut all = HeldCuts::new(alloc);
+    for group in &draft.groups {
+        if group.count != 1 {
+            let first = end_bounds(alloc, draft, group, true)?;
+            push_sum(&mut all, draft, group, &first)?;
+            let last = end_bounds(alloc, draft, group, false)?;
+            push_sum(&mut all, draft, group, &last)?;
+        } else if group.first < draft.children.len() {
+            let cuts = &draft.children[group.first].cuts;
+            push_open(&mut all, group.first, CutKind::Bound, cuts)?;
+        }
+    }
     for (child, cuts) in draft.children.iter().enumerate() {
-        push_open(&mut all, child, &cuts.cuts)?;
+        push_open(&mut all, child, CutKind::Ray, &cuts.cuts)?;
     }
     Ok(all)
 }
@@ -131,13 +229,9 @@ fn exact_value(task: &Task, cut: &Cut, point: &[Frac]) -> Result<Frac, Passed> {
 }
 
 /// Whether an exact point breaks a cut about the child at a place. One whose value passes isn't broken.
-fn is_broken(task: &Task, draft: &Draft, child: usize, number: usize, point: &[Frac]) -> bool {
+fn is_broken(task: &Task, child: usize, number: usize, limit: Frac, point: &[Frac]) -> bool {
     let Some(cut) = cut_at(&task.children, child, number) else {
         return false;
-    };
-    let limit = match cut.kind() {
-        CutKind::Bound => exact_at(point, draft.own.saturating_add(child)),
-        CutKind::Ray => Frac::zero(),
     };
     match exact_value(task, cut, point) {
         Ok(value) => value > limit,
@@ -145,22 +239,23 @@ fn is_broken(task: &Task, draft: &Draft, child: usize, number: usize, point: &[F
     }
 }
 
-/// Adds the cuts about a child that an exact point breaks; those are looked at that floats can't tell from their limit.
+/// Adds the cuts of a kind about a child that an exact point breaks; those are looked at that floats can't tell from their limit.
 fn push_broken(
-    all: &mut Vec<HeldCut>,
+    all: &mut HeldCuts,
     task: &Task,
-    draft: &Draft,
     child: usize,
+    kind: CutKind,
     cuts: &FloatCuts,
+    limit: Frac,
     near: &[f64],
     point: &[Frac],
 ) -> Result<(), Memory> {
     let mut from = 0;
+    let close = float(limit);
     for (number, cut) in cuts.cuts.iter().enumerate() {
-        if is_open(cut) {
+        if cut.kind == kind && is_open(cut) {
             let sum = value_at(cut, &cuts.entries, from, near);
-            let limit = limit(draft, child, cut.kind, near);
-            if over(sum, limit) > -NEAR && is_broken(task, draft, child, number, point) {
+            if over(sum, close) > -NEAR && is_broken(task, child, number, limit, point) {
                 push_cut(all, child, number)?;
             }
         }
@@ -171,24 +266,142 @@ fn push_broken(
 
 /// The numbers as floats.
 fn floats(alloc: Global, numbers: &[Frac]) -> Result<Vec<f64>, Memory> {
-    let mut all = Vec::new(alloc);
+    let mut all = Vec::with_capacity(alloc, numbers.len())?;
     for number in numbers {
         all.push(float(*number))?;
     }
     Ok(all)
 }
 
-/// The cuts that an exact point breaks.
-pub(crate) fn exactly_broken(
+/// A cut and its exact value.
+#[derive(Clone, Copy)]
+struct ExactBest {
+    number: usize,
+    value: Frac,
+}
+
+/// The cut that bounds a child's cost with the greatest value at an exact point; those are looked at that floats can't tell from it.
+fn exactly_greatest(
+    task: &Task,
+    child: usize,
+    cuts: &FloatCuts,
+    near: &[f64],
+    point: &[Frac],
+) -> Result<Option<ExactBest>, Passed> {
+    let Some(close) = greatest(cuts, near) else {
+        return Ok(None);
+    };
+    let mut best: Option<ExactBest> = None;
+    let mut from = 0;
+    for (number, cut) in cuts.cuts.iter().enumerate() {
+        if cut.kind == CutKind::Bound && cut.is_taken {
+            let sum = value_at(cut, &cuts.entries, from, near);
+            if over(sum, close.sum.value) > -NEAR {
+                if let Some(whole) = cut_at(&task.children, child, number) {
+                    let value = exact_value(task, whole, point)?;
+                    let is_greater = match &best {
+                        Some(other) => value > other.value,
+                        None => true,
+                    };
+                    if is_greater {
+                        best = Some(ExactBest { number, value });
+                    }
+                }
+            }
+        }
+        from = cut.end;
+    }
+    Ok(best)
+}
+
+/// What an exact point breaks, and the costs of all children there.
+#[derive(Drop)]
+pub(crate) struct Tested {
+    pub(crate) wanting: HeldCuts,
+    pub(crate) costs: Vec<Frac>,
+}
+
+/// Adds the costs of a group's children, and their greatest cuts where these are above the group's cost.
+fn test_group(
+    alloc: Global,
+    tested: &mut Tested,
+    task: &Task,
+    draft: &Draft,
+    group: &Group,
+    limit: Frac,
+    near: &[f64],
+    point: &[Frac],
+) -> Result<(), ArithmeticFault> {
+    let mut numbers = Vec::with_capacity(alloc, group.count)?;
+    let mut sum = Frac::zero();
+    for (place, cuts) in draft
+        .children
+        .iter()
+        .enumerate()
+        .skip(group.first)
+        .take(group.count)
+    {
+        match exactly_greatest(task, place, cuts, near, point)? {
+            Some(best) => {
+                sum = sum.add_product(factor(task, group, place), best.value)?;
+                tested.costs.push(best.value)?;
+                if let Ok(number) = u32::try_from(best.number) {
+                    numbers.push(number)?;
+                }
+            }
+            None => tested.costs.push(Frac::zero())?,
+        }
+    }
+    if sum > limit && numbers.len() == group.count {
+        push_sum(&mut tested.wanting, draft, group, &numbers)?;
+    }
+    Ok(())
+}
+
+/// Tests an exact point.
+pub(crate) fn exactly_tested(
     alloc: Global,
     task: &Task,
     draft: &Draft,
     point: &[Frac],
-) -> Result<Vec<HeldCut>, Memory> {
+) -> Result<Tested, ArithmeticFault> {
     let near = floats(alloc, point)?;
-    let mut all = Vec::new(alloc);
-    for (child, cuts) in draft.children.iter().enumerate() {
-        push_broken(&mut all, task, draft, child, cuts, &near, point)?;
+    let mut tested = Tested {
+        wanting: HeldCuts::new(alloc),
+        costs: Vec::new(alloc),
+    };
+    for (number, group) in draft.groups.iter().enumerate() {
+        let limit = exact_at(point, draft.own.saturating_add(number));
+        if group.count != 1 {
+            test_group(alloc, &mut tested, task, draft, group, limit, &near, point)?;
+        } else if group.first < draft.children.len() {
+            let cuts = &draft.children[group.first];
+            let wanting = &mut tested.wanting;
+            push_broken(
+                wanting,
+                task,
+                group.first,
+                CutKind::Bound,
+                cuts,
+                limit,
+                &near,
+                point,
+            )?;
+            tested.costs.push(limit)?;
+        }
     }
-    Ok(all)
+    let zero = Frac::zero();
+    for (child, cuts) in draft.children.iter().enumerate() {
+        push_broken(
+            &mut tested.wanting,
+            task,
+            child,
+            CutKind::Ray,
+            cuts,
+            zero,
+            &near,
+            point,
+        )?;
+    }
+    Ok(tested)
 }

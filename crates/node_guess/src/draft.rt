@@ -1,7 +1,8 @@
 //! A node's program as it is guessed: cuts become rows as they are needed.
 
 use crate::floats::{FloatCut, FloatCuts, distance};
-use crate::hints::{HeldCut, Hint};
+use crate::groups::{Group, groups_of};
+use crate::hints::{HeldCuts, Hint};
 use crate::split::{place_of, split_form};
 use basis_factors::Entry;
 use basis_guess::Standing;
@@ -14,8 +15,13 @@ use node_lp::Task;
 use scen_defs::{Kind, NodeRow};
 use std::alloc::Global;
 
-/// A node's program: its own columns and, where the children are priced, their costs; its own rows, and behind them the
-/// cuts that have become rows.
+/// So many times as many rows as there are columns and own rows, and so many more, are kept.
+const LONG: usize = 3;
+
+const MANY: usize = 40;
+
+/// A node's program: its own columns and, where the children are priced, the costs of their groups; its own rows, and behind them
+/// those of cuts.
 #[derive(Drop)]
 pub(crate) struct Draft {
     pub(crate) program: ExactProgram,
@@ -23,12 +29,12 @@ pub(crate) struct Draft {
     pub(crate) standings: Vec<Standing>,
     /// How many own columns there are.
     pub(crate) own: usize,
-    /// How many children are priced.
-    pub(crate) costs: usize,
+    /// The groups of children that are priced.
+    pub(crate) groups: Vec<Group>,
     /// How many own rows there are.
     pub(crate) rows: usize,
     /// The cuts that are rows, in the order of their rows.
-    pub(crate) held: Vec<HeldCut>,
+    pub(crate) held: HeldCuts,
     /// All cuts, by child.
     pub(crate) children: Vec<FloatCuts>,
 }
@@ -49,8 +55,8 @@ pub(crate) fn is_taken(priced: bool, kind: CutKind) -> bool {
     }
 }
 
-/// Adds the own columns, which cost nothing in a Feasible run, and the children's costs.
-fn push_columns(program: &mut ExactProgram, task: &Task) -> Result<(), Memory> {
+/// Adds the own columns, which cost nothing in a Feasible run, and the costs of groups.
+fn push_columns(program: &mut ExactProgram, task: &Task, groups: &[Group]) -> Result<(), Memory> {
     let priced = is_priced(task);
     for bound in task.datum.bounds() {
         let cost = if priced {
@@ -60,10 +66,8 @@ fn push_columns(program: &mut ExactProgram, task: &Task) -> Result<(), Memory> {
         };
         program.push_column(bound.lower, bound.upper, cost)?;
     }
-    if priced {
-        for share in task.datum.shares() {
-            program.push_column(None, None, share.share)?;
-        }
+    for group in groups {
+        program.push_column(None, None, group.price)?;
     }
     Ok(())
 }
@@ -116,17 +120,17 @@ fn first_standings(
     alloc: Global,
     program: &ExactProgram,
     task: &Task,
+    groups: &[Group],
     hint: &Hint,
 ) -> Result<Vec<Standing>, Memory> {
-    let mut all = Vec::new(alloc);
+    let count = program.column_count().saturating_add(program.row_count());
+    let mut all = Vec::with_capacity(alloc, count)?;
     for (column, _bound) in task.datum.bounds().iter().enumerate() {
         let rest = program.floats().rest(column);
         all.push(standing_at(&hint.columns, column, rest))?;
     }
-    if is_priced(task) {
-        for (child, _share) in task.datum.shares().iter().enumerate() {
-            all.push(standing_at(&hint.costs, child, Standing::Free))?;
-        }
+    for (number, _group) in groups.iter().enumerate() {
+        all.push(standing_at(&hint.costs, number, Standing::Free))?;
     }
     for (row, _row) in task.datum.rows().iter().enumerate() {
         all.push(standing_at(&hint.rows, row, Standing::Basic))?;
@@ -177,8 +181,8 @@ fn float_cut(task: &Task, cut: &Cut, entries: &mut Vec<Entry<f64>>) -> Result<Fl
 
 /// The cuts about a child in floats.
 fn float_cuts(alloc: Global, task: &Task, cuts: &[SharedCut]) -> Result<FloatCuts, Memory> {
-    let mut entries = Vec::new(alloc);
-    let mut all = Vec::new(alloc);
+    let mut entries = Vec::with_capacity(alloc, cuts.len())?;
+    let mut all = Vec::with_capacity(alloc, cuts.len())?;
     for cut in cuts {
         all.push(float_cut(task, cut.cut(), &mut entries)?)?;
     }
@@ -187,34 +191,84 @@ fn float_cuts(alloc: Global, task: &Task, cuts: &[SharedCut]) -> Result<FloatCut
 
 /// Those about all children.
 fn float_children(alloc: Global, task: &Task) -> Result<Vec<FloatCuts>, Memory> {
-    let mut all = Vec::new(alloc);
+    let mut all = Vec::with_capacity(alloc, task.children.len())?;
     for child in &task.children {
         all.push(float_cuts(alloc, task, &child.cuts)?)?;
     }
     Ok(all)
 }
 
-/// The program without cuts.
+/// The groups of priced children, which have so many children each.
+fn priced_groups(alloc: Global, task: &Task, size: usize) -> Result<Vec<Group>, Memory> {
+    if is_priced(task) {
+        groups_of(alloc, task, size)
+    } else {
+        Ok(Vec::new(alloc))
+    }
+}
+
+/// The program without cuts, where groups have so many children.
 pub(crate) fn first_draft(
     alloc: Global,
     task: &Task,
     hint: &Hint,
+    size: usize,
 ) -> Result<Draft, ArithmeticFault> {
-    let mut program = ExactProgram::new(alloc);
-    push_columns(&mut program, task)?;
+    let groups = priced_groups(alloc, task, size)?;
+    let columns = task.datum.bounds().len().saturating_add(groups.len());
+    let cuts = hint.cuts.rows.len().saturating_add(groups.len());
+    let rows = task.datum.rows().len().saturating_add(cuts);
+    let mut program = ExactProgram::sized(alloc, columns, rows)?;
+    push_columns(&mut program, task, &groups)?;
     push_rows(alloc, &mut program, task)?;
-    let standings = first_standings(alloc, &program, task, hint)?;
+    let standings = first_standings(alloc, &program, task, &groups, hint)?;
     let children = float_children(alloc, task)?;
-    let priced = is_priced(task);
     Ok(Draft {
         program,
         standings,
         own: task.datum.bounds().len(),
-        costs: if priced { task.datum.shares().len() } else { 0 },
+        groups,
         rows: task.datum.rows().len(),
-        held: Vec::new(alloc),
+        held: HeldCuts::new(alloc),
         children,
     })
+}
+
+impl Draft {
+    /// Whether there are many more rows than a basis needs.
+    pub(crate) fn is_long(&self) -> bool {
+        let least = self.program.column_count().saturating_add(self.rows);
+        self.program.row_count() > least.saturating_mul(LONG).saturating_add(MANY)
+    }
+
+    /// No cut is a row.
+    pub(crate) fn clear_cuts(
+        &mut self,
+        alloc: Global,
+        task: &Task,
+        hint: &Hint,
+    ) -> Result<(), ArithmeticFault> {
+        let mut program = ExactProgram::new(alloc);
+        push_columns(&mut program, task, &self.groups)?;
+        push_rows(alloc, &mut program, task)?;
+        self.standings = first_standings(alloc, &program, task, &self.groups, hint)?;
+        self.program = program;
+        self.held = HeldCuts::new(alloc);
+        for group in self.groups.iter_mut() {
+            group.has_row = false;
+        }
+        for child in self.children.iter_mut() {
+            unmark(&mut child.cuts);
+        }
+        Ok(())
+    }
+}
+
+/// No cut of these is a row.
+fn unmark(cuts: &mut [FloatCut]) {
+    for cut in cuts.iter_mut() {
+        cut.row = None;
+    }
 }
 
 /// The cut with this number about the child at a place.

@@ -7,14 +7,95 @@ use scen_defs::Kind;
 use std::alloc::Global;
 use std::marker::Model;
 
-/// How a cut about a child stood, which was a row of the program.
+/// From so many nodes on there are many.
+const MANY: u32 = 200;
+
+/// How cuts about some children stood, of each child one, which were a row of the program.
 #[derive(Clone, Copy)]
 pub(crate) struct HeldCut {
-    /// The place of the child.
+    /// The place of the first child.
     pub(crate) child: u32,
-    /// The number of the cut in the child's list.
-    pub(crate) cut: u32,
+    /// Where the numbers of the cuts stand in a list of numbers, child by child.
+    pub(crate) from: u32,
+    /// How many there are.
+    pub(crate) count: u32,
     pub(crate) standing: Standing,
+}
+
+/// Rows of cuts, and the numbers of their cuts.
+#[derive(Drop)]
+pub(crate) struct HeldCuts {
+    pub(crate) rows: Vec<HeldCut>,
+    pub(crate) numbers: Vec<u32>,
+}
+
+impl HeldCuts {
+    /// None.
+    pub(crate) fn new(alloc: Global) -> HeldCuts {
+        HeldCuts {
+            rows: Vec::new(alloc),
+            numbers: Vec::new(alloc),
+        }
+    }
+
+    /// The numbers of a row's cuts.
+    pub(crate) fn numbers_of(&self, held: &HeldCut) -> &[u32] {
+        let from = held.from as usize;
+        let end = from.saturating_add(held.count as usize);
+        if from <= end && end <= self.numbers.len() {
+            &self.numbers[from..end]
+        } else {
+            &[]
+        }
+    }
+
+    /// Adds a row.
+    pub(crate) fn push(
+        &mut self,
+        child: u32,
+        numbers: &[u32],
+        standing: Standing,
+    ) -> Result<(), Memory> {
+        match (
+            u32::try_from(self.numbers.len()),
+            u32::try_from(numbers.len()),
+        ) {
+            (Ok(from), Ok(count)) => {
+                self.numbers.extend_from_slice(numbers)?;
+                self.rows.push(HeldCut {
+                    child,
+                    from,
+                    count,
+                    standing,
+                })?;
+                Ok(())
+            }
+            _ => Ok(()),
+        }
+    }
+
+    /// Whether it has a row.
+    pub(crate) fn has(&self, child: u32, numbers: &[u32]) -> bool {
+        for held in &self.rows {
+            if held.child == child && are_same(self.numbers_of(held), numbers) {
+                return true;
+            }
+        }
+        false
+    }
+}
+
+/// Whether two lists are the same.
+fn are_same(one: &[u32], other: &[u32]) -> bool {
+    if one.len() != other.len() {
+        return false;
+    }
+    for (a, b) in one.iter().zip(other.iter()) {
+        if *a != *b {
+            return false;
+        }
+    }
+    true
 }
 
 /// How the columns and rows of a node's program stood. Only a guess begins with it, so every hint will do, and contracts
@@ -27,8 +108,8 @@ pub(crate) struct Hint {
     pub(crate) costs: Vec<Standing>,
     /// The own rows.
     pub(crate) rows: Vec<Standing>,
-    /// The cuts that were rows and weren't basic.
-    pub(crate) cuts: Vec<HeldCut>,
+    /// The rows of cuts that weren't basic.
+    pub(crate) cuts: HeldCuts,
 }
 
 impl Model for Hint {
@@ -44,7 +125,7 @@ impl Hint {
             columns: Vec::new(alloc),
             costs: Vec::new(alloc),
             rows: Vec::new(alloc),
-            cuts: Vec::new(alloc),
+            cuts: HeldCuts::new(alloc),
         }
     }
 }
@@ -61,6 +142,8 @@ struct KindHints {
 /// with that of another kind. Contracts take all for the same.
 #[derive(Drop)]
 pub struct Hints {
+    /// The greatest number of a node that a hint was lent for.
+    most: u32,
     feasible: KindHints,
     recession: KindHints,
     cost: KindHints,
@@ -77,6 +160,8 @@ impl Model for Hints {
 #[derive(Drop)]
 pub struct LentHint {
     pub(crate) hint: Option<Hint>,
+    /// Whether hints were lent for few nodes only.
+    pub(crate) are_few: bool,
 }
 
 impl Model for LentHint {
@@ -88,7 +173,10 @@ impl Model for LentHint {
 impl LentHint {
     /// Nothing is lent.
     pub fn none() -> LentHint {
-        LentHint { hint: None }
+        LentHint {
+            hint: None,
+            are_few: true,
+        }
     }
 }
 
@@ -111,7 +199,7 @@ fn copied(alloc: Global, hint: &Hint, counts: Counts) -> Result<Option<Hint>, Me
         columns,
         costs,
         rows,
-        cuts: Vec::new(alloc),
+        cuts: HeldCuts::new(alloc),
     }))
 }
 
@@ -166,6 +254,7 @@ impl Hints {
     /// No hint.
     pub fn new(alloc: Global) -> Hints {
         Hints {
+            most: 0,
             feasible: KindHints::new(alloc),
             recession: KindHints::new(alloc),
             cost: KindHints::new(alloc),
@@ -179,8 +268,13 @@ impl Hints {
             columns: task.datum.bounds().len(),
             rows: task.datum.rows().len(),
         };
-        let hint = self.take(alloc, task.kind, task.datum.node(), counts)?;
-        Ok(LentHint { hint })
+        let node = task.datum.node();
+        let hint = self.take(alloc, task.kind, node, counts)?;
+        self.most = self.most.max(node);
+        Ok(LentHint {
+            hint,
+            are_few: self.most < MANY,
+        })
     }
 
     /// Takes back what a task's solve left, for the next solve of its node in a run of its kind.

@@ -2,11 +2,13 @@
 //! is believed of them; and by the simplex path where there is no guess that stands its test.
 #![tactic(auto)]
 
+mod again;
 mod answers;
 mod broken;
 mod cut_rows;
 mod draft;
 mod floats;
+mod groups;
 mod hints;
 mod rounds;
 mod sizes;

@@ -1,10 +1,11 @@
 //! The guess: a basis in floats, round by round with the cuts that it breaks, and then its exact numbers.
 
 use crate::answers::{point_guess, ray_guess};
-use crate::broken::{broken, exactly_broken, open};
-use crate::cut_rows::{add_cuts, add_first};
+use crate::broken::{Tested, broken, exactly_tested, open};
+use crate::cut_rows::{add_first, add_rows};
 use crate::draft::{Draft, first_draft};
-use crate::hints::{HeldCut, Hint};
+use crate::groups::size_of;
+use crate::hints::{HeldCuts, Hint};
 use basis_guess::{End, Ended, Standing, solve};
 use basis_values::{Guessed, Solution, guess_from};
 use frac128::{ArithmeticFault, Memory};
@@ -24,11 +25,11 @@ enum Next {
 }
 
 /// The cuts that are wanting where floats end: those that the point breaks; all, where the cost falls for ever.
-fn wanting(alloc: Global, draft: &Draft, ended: &Ended) -> Result<Vec<HeldCut>, Memory> {
+fn wanting(alloc: Global, task: &Task, draft: &Draft, ended: &Ended) -> Result<HeldCuts, Memory> {
     match ended.end {
-        End::Optimal => broken(alloc, draft, &ended.point),
+        End::Optimal => broken(alloc, task, draft, &ended.point),
         End::Unbounded => open(alloc, draft),
-        _ => Ok(Vec::new(alloc)),
+        _ => Ok(HeldCuts::new(alloc)),
     }
 }
 
@@ -39,12 +40,19 @@ fn with_point(
     draft: &mut Draft,
     solution: &Solution,
 ) -> Result<Next, ArithmeticFault> {
-    let wanting = exactly_broken(alloc, task, draft, &solution.point)?;
-    if !wanting.is_empty() {
-        add_cuts(alloc, task, draft, &wanting)?;
+    let Tested { wanting, costs } = exactly_tested(alloc, task, draft, &solution.point)?;
+    if !wanting.rows.is_empty() {
+        add_rows(alloc, task, draft, &wanting)?;
         return Ok(Next::Again);
     }
-    let guess = point_guess(alloc, task, draft, &solution.point, &solution.multipliers)?;
+    let guess = point_guess(
+        alloc,
+        task,
+        draft,
+        &solution.point,
+        costs,
+        &solution.multipliers,
+    )?;
     Ok(Next::Ended(Some(guess)))
 }
 
@@ -66,6 +74,13 @@ fn finish(
     }
 }
 
+/// Rows of cuts that are basic are rows no more.
+fn shorten(alloc: Global, task: &Task, draft: &mut Draft) -> Result<(), ArithmeticFault> {
+    let hint = hint_of(alloc, draft)?;
+    draft.clear_cuts(alloc, task, &hint)?;
+    add_first(alloc, task, draft, &hint)
+}
+
 /// Solves in floats; then cuts become rows, or it ends.
 fn round(
     alloc: Global,
@@ -75,12 +90,15 @@ fn round(
 ) -> Result<Next, ArithmeticFault> {
     let mut ended = solve(alloc, draft.program.floats(), &draft.standings, *work)?;
     *work = ended.work_left;
-    let wanting = wanting(alloc, draft, &ended)?;
-    if wanting.is_empty() {
+    let wanting = wanting(alloc, task, draft, &ended)?;
+    if wanting.rows.is_empty() {
         return finish(alloc, task, draft, ended, work);
     }
     draft.standings = replace(&mut ended.standings, Vec::new(alloc));
-    add_cuts(alloc, task, draft, &wanting)?;
+    if draft.is_long() {
+        shorten(alloc, task, draft)?;
+    }
+    add_rows(alloc, task, draft, &wanting)?;
     Ok(Next::Again)
 }
 
@@ -117,16 +135,17 @@ fn standings_from(
     Ok(all)
 }
 
-/// The cuts that are rows and aren't basic, whose standings begin at a place.
-fn kept_cuts(alloc: Global, draft: &Draft, from: usize) -> Result<Vec<HeldCut>, Memory> {
-    let mut all = Vec::new(alloc);
-    for (held, standing) in draft.held.iter().zip(draft.standings.iter().skip(from)) {
+/// The rows of cuts that aren't basic, whose standings begin at a place.
+fn kept_cuts(alloc: Global, draft: &Draft, from: usize) -> Result<HeldCuts, Memory> {
+    let mut all = HeldCuts::new(alloc);
+    for (held, standing) in draft
+        .held
+        .rows
+        .iter()
+        .zip(draft.standings.iter().skip(from))
+    {
         if *standing != Standing::Basic {
-            all.push(HeldCut {
-                child: held.child,
-                cut: held.cut,
-                standing: *standing,
-            })?;
+            all.push(held.child, draft.held.numbers_of(held), *standing)?;
         }
     }
     Ok(all)
@@ -134,11 +153,11 @@ fn kept_cuts(alloc: Global, draft: &Draft, from: usize) -> Result<Vec<HeldCut>, 
 
 /// What the node's next guess begins with.
 fn hint_of(alloc: Global, draft: &Draft) -> Result<Hint, Memory> {
-    let columns = draft.own.saturating_add(draft.costs);
+    let columns = draft.own.saturating_add(draft.groups.len());
     let all = columns.saturating_add(draft.rows);
     Ok(Hint {
         columns: standings_from(alloc, &draft.standings, 0, draft.own)?,
-        costs: standings_from(alloc, &draft.standings, draft.own, draft.costs)?,
+        costs: standings_from(alloc, &draft.standings, draft.own, draft.groups.len())?,
         rows: standings_from(alloc, &draft.standings, columns, draft.rows)?,
         cuts: kept_cuts(alloc, draft, all)?,
     })
@@ -151,14 +170,15 @@ pub(crate) struct Attempt {
     pub(crate) hint: Option<Hint>,
 }
 
-/// A guess that begins with a hint, where no number passes.
+/// A guess that begins with a hint, where no number passes; groups have so many children.
 fn attempted(
     alloc: Global,
     task: &Task,
     hint: &Hint,
     work: u64,
+    size: usize,
 ) -> Result<Attempt, ArithmeticFault> {
-    let mut draft = first_draft(alloc, task, hint)?;
+    let mut draft = first_draft(alloc, task, hint, size)?;
     add_first(alloc, task, &mut draft, hint)?;
     let guess = match rounds(alloc, task, &mut draft, work) {
         Ok(guess) => guess,
@@ -174,15 +194,15 @@ fn attempted(
     })
 }
 
-/// A guess that takes so much work at most. There is none where a number passes or the work is spent.
-pub(crate) fn try_guess(
+/// As `attempted`; none where a number passes.
+fn tried(
     alloc: Global,
     task: &Task,
-    hint: Option<Hint>,
+    hint: &Hint,
     work: u64,
+    size: usize,
 ) -> Result<Attempt, Memory> {
-    let from = hint.unwrap_or(Hint::blank(alloc));
-    match attempted(alloc, task, &from, work) {
+    match attempted(alloc, task, hint, work, size) {
         Ok(attempt) => Ok(attempt),
         Err(ArithmeticFault::Passed(_)) => Ok(Attempt {
             guess: None,
@@ -190,4 +210,21 @@ pub(crate) fn try_guess(
         }),
         Err(ArithmeticFault::Memory) => Err(Memory),
     }
+}
+
+/// A guess that takes so much work at most. There is none where a number passes or the work is spent. Where groups of children give none,
+/// each child stands alone.
+pub(crate) fn try_guess(
+    alloc: Global,
+    task: &Task,
+    hint: Option<Hint>,
+    work: u64,
+) -> Result<Attempt, Memory> {
+    let from = hint.unwrap_or(Hint::blank(alloc));
+    let size = size_of(task.datum.shares().len());
+    let first = tried(alloc, task, &from, work, size)?;
+    if size == 1 || first.guess.is_some() {
+        return Ok(first);
+    }
+    tried(alloc, task, &Hint::blank(alloc), work, 1)
 }

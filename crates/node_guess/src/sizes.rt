@@ -7,7 +7,7 @@ use frac128::Frac;
 use node_lp::Task;
 use scen_defs::NodeRow;
 
-/// A program of at most so many rows is small: its path takes less than a guess.
+/// In a tree of few nodes a program of at most so many rows is small: what it comes to can be followed by hand.
 const SMALL: u64 = 24;
 
 /// The least work of a guess, and the most.
@@ -94,9 +94,12 @@ fn row_entries(rows: &[NodeRow]) -> u64 {
     sum
 }
 
-/// Whether the standard form of the path has few rows: those of the own rows, the cuts, and one for each own column with
-/// two bounds.
-pub(crate) fn is_small(task: &Task) -> bool {
+/// Whether few nodes are known of, and the standard form of the path has few rows: those of the own rows, the cuts, and one for each own
+/// column with two bounds.
+pub(crate) fn is_small(task: &Task, are_few: bool) -> bool {
+    if !are_few {
+        return false;
+    }
     let datum = &task.datum;
     let own = row_counts(datum.rows()).saturating_add(boxed_columns(datum.bounds()));
     own.saturating_add(cuts_size(task).rows) <= SMALL

@@ -4,6 +4,7 @@ ghost use Rattle.node_lp.specs.Problem.{IsProblem, problem_of};
 ghost use Rattle.node_lp.specs.Tested.{IsToldOf};
 ghost use Rattle.node_lp.specs.Answers.{IsAnswer};
 
+use crate::again::again;
 use crate::hints::{Hint, LentHint};
 use crate::rounds::try_guess;
 use crate::sizes::{is_small, work};
@@ -77,27 +78,33 @@ fn solved_from(
     alloc: Global,
     task: &Task,
     hint: Option<Hint>,
+    are_few: bool,
 ) -> Result<(Solved, Option<Hint>), Memory>
     requires { IsProblem (problem_of task.now) }
     ensures told { IfOk result (λ all. IsToldOf task.now all.0) }
     ensures answer { IfOk result (λ all. IsAnswer task.now all.0) }
 {
-    if is_small(task) {
-        small(alloc, task, hint)
-    } else {
-        guessed_first(alloc, task, hint)
+    if is_small(task, are_few) {
+        return small(alloc, task, hint);
     }
+    let kept = again(alloc, task, &hint)?;
+    if kept.is_some() {
+        let solved = solve_node(alloc, task, kept)?;
+        return Ok((solved, hint));
+    }
+    guessed_first(alloc, task, hint)
 }
 
-/// Solves a node's program. One of few rows takes its path, since that is soon done, and is guessed only where an operation of
-/// the path passes 128 bits; a larger one is guessed first, and takes its path where there is no guess that stands its test.
-/// Which of both it is depends on the task alone. A guess begins with the hint that was lent, and leaves one for the node's next solve.
+/// Solves a node's program. A small one takes its path, since that is soon done, and is guessed only where an operation of the path passes
+/// 128 bits; another one is guessed first, and takes its path where there is no guess that stands its test. A guess begins with the hint
+/// that was lent, and leaves one for the node's next solve; a node without children is answered by the basis of its last solve where that
+/// still fits.
 pub fn solved_node(alloc: Global, task: &Task, lent: &mut LentHint) -> Result<Solved, Memory>
     requires { IsProblem (problem_of task.now) }
     ensures told { IfOk result (IsToldOf task.now) }
     ensures answer { IfOk result (IsAnswer task.now) }
 {
-    let (solved, hint) = solved_from(alloc, task, lent.hint.take())?;
+    let (solved, hint) = solved_from(alloc, task, lent.hint.take(), lent.are_few)?;
     lent.hint = hint;
     Ok(solved)
 }

@@ -64,7 +64,7 @@ pub(crate) fn split_form(
     trial: &Form,
     terms: &[Term],
 ) -> Result<Split, ArithmeticFault> {
-    let mut entries = Vec::new(alloc);
+    let mut entries = Vec::with_capacity(alloc, terms.len())?;
     let mut outer = Frac::zero();
     for term in terms {
         match place_of(bounds, term.column) {
