@@ -370,3 +370,90 @@ def plants(demands, cases, seed=1):
         shares = {5: ["0.1", "0.2", "0.4", "0.2", "0.1"]}.get(cases, [f"1/{cases}"] * cases)
         program.block(1, [(share, {f"D{demand}": chance.randint(1, 12)}) for share in shares])
     return program
+
+
+# ---- programs whose optimum is too long for 128 bits
+
+def lines_of(kind, rows, columns, chance):
+    """By row the columns that it has: any four, or a band of four."""
+    for row in range(rows):
+        if kind == "staircase":
+            yield sorted({at % columns for at in range(row + row // 2, row + row // 2 + 4)})
+        else:
+            yield sorted(chance.sample(range(columns), min(columns, 4)))
+
+
+def long_core(kind, rows, digits, seed):
+    """Rows of four entries over half as many columns again: `sparse` and `staircase` are L, G and E rows, `ranged` E rows and rows with
+    two ends. There is a policy, and no cost is below 0."""
+    chance = random.Random(f"long {kind} {rows} {digits} {seed}")
+    program, columns = Program(), rows + rows // 2
+    entries, sums = [[] for _ in range(columns)], []
+    point = [Fraction(chance.randint(0, 9 * 10**digits), 10**digits) if chance.random() < 0.7 else Fraction(0) for _ in range(columns)]
+    for row, line in enumerate(lines_of(kind, rows, columns, chance)):
+        sums.append(Fraction(0))
+        for column in line:
+            value = ("-" if kind != "staircase" and chance.random() < 0.3 else "") + decimal(chance, digits, 1, 9)
+            entries[column].append((f"R{row}", value))
+            sums[row] += Fraction(value) * point[column]
+    for row, total in enumerate(sums):
+        at, slack = chance.random(), Fraction(chance.randint(0, 5 * 10**digits), 10**digits)
+        if kind == "ranged":
+            sign, reach = ("E", None) if at < 0.4 else ("G", 2 * slack + 1)
+        else:
+            sign, reach = ("E" if at < 0.15 else "L" if at < 0.4 else "G"), None
+        right = total + slack if sign == "L" else total - slack if sign == "G" else total
+        program.row(sign, f"R{row}", right, reach=reach)
+    for column in range(columns):
+        program.column(f"X{column}", decimal(chance, digits, 1, 9), entries[column], high=40 if chance.random() < 0.3 else None)
+    return program
+
+
+def reservoirs(periods, cases, items, digits, seed):
+    """Water of a river runs through reservoirs, one below the other, is kept, spilt, or turned into power, which meets a demand or is
+    bought; a part of what is kept dries up."""
+    chance = random.Random(f"reservoirs {periods} {cases} {items} {digits} {seed}")
+    program, every = Program(), range(items)
+    for at in range(periods):
+        program.row("E", f"P{at}", decimal(chance, digits, 10, 30), at)
+        for item in every:
+            program.row("E", f"W{at}_{item}", decimal(chance, digits, 4, 12), at)
+        program.column(f"B{at}", decimal(chance, digits, 4, 9), [(f"P{at}", 1)], period=at)
+        program.column(f"S{at}", decimal(chance, digits, 0.1, 0.9), [(f"P{at}", -1)], period=at)
+        for item in every:
+            below = [(f"W{at}_{item + 1}", -1)] if item + 1 < items else []
+            program.column(f"R{at}_{item}", decimal(chance, digits, 0.1, 0.4), [(f"W{at}_{item}", 1), (f"P{at}", decimal(chance, digits, 0.5, 2))] + below,
+                           high=decimal(chance, digits, 8, 14), period=at)
+            program.column(f"O{at}_{item}", decimal(chance, digits, 0.1, 0.2), [(f"W{at}_{item}", 1)] + below, period=at)
+            kept = [(f"W{at + 1}_{item}", "-" + decimal(chance, digits, 0.8, 0.99))] if at + 1 < periods else []
+            program.column(f"K{at}_{item}", 0 if kept else "-" + decimal(chance, digits, 0.5, 2), [(f"W{at}_{item}", 1)] + kept,
+                           high=decimal(chance, digits, 15, 30), period=at)
+    for at in range(1, periods):
+        program.block(at, [(f"1/{cases}", {f"W{at}_{item}": decimal(chance, digits, 1, 15) for item in every}) for _ in range(cases)])
+    return program
+
+
+def payments(periods, cases, items, digits, seed):
+    """Money is put into papers that run for one or two periods, bought and sold with fees; payments come due, whose sizes become known."""
+    chance = random.Random(f"payments {periods} {cases} {items} {digits} {seed}")
+    program, every = Program(), range(items)
+    for at in range(periods):
+        program.row("E", f"M{at}", "0" if at else decimal(chance, digits, 80, 120), at)
+        for item in every:
+            program.row("E", f"H{at}_{item}", "0" if at else decimal(chance, digits, 5, 15), at)
+    for at in range(periods):
+        program.column(f"L{at}", decimal(chance, digits, 1.2, 1.9), [(f"M{at}", "-1")], period=at)
+        later = [(f"M{at + 1}", "-" + decimal(chance, digits, 1.01, 1.04))] if at + 1 < periods else []
+        program.column(f"C{at}", 0 if later else "-1", [(f"M{at}", "1")] + later, period=at)
+        for item in every:
+            program.column(f"U{at}_{item}", decimal(chance, digits, 0.01, 0.05), [(f"M{at}", decimal(chance, digits, 1.01, 1.2)), (f"H{at}_{item}", "-1")], period=at)
+            program.column(f"V{at}_{item}", decimal(chance, digits, 0.01, 0.05), [(f"M{at}", "-" + decimal(chance, digits, 0.9, 1)), (f"H{at}_{item}", "1")], period=at)
+            grown = [(f"H{at + 1}_{item}", "-" + decimal(chance, digits, 1.01, 1.12))] if at + 1 < periods else []
+            program.column(f"N{at}_{item}", 0 if grown else "-" + decimal(chance, digits, 0.9, 1.1), [(f"H{at}_{item}", "1")] + grown,
+                           high=decimal(chance, digits, 40, 90), period=at)
+    for at in range(1, periods):
+        program.block(at, [(f"1/{cases}", {f"M{at}": "-" + decimal(chance, digits, 5, 60)}) for _ in range(cases)])
+    return program
+
+
+LONG_TREES = {"production": nested, "reservoirs": reservoirs, "payments": payments}

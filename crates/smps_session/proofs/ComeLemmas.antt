@@ -62,27 +62,29 @@ told_so program number solves place place' why why' claim claim' report p w k c 
 shows_one : (budget : Budget) (start : Started) (came : ℕ) (program : Program) (old new : Method) (found : Found) (number : ℕ) (report : Report)
     → FindsBySolves (content program) old new found → EndsAt (content program) new → WorksBySteps (content program) old new
     → IsClaimed program number found.place found.why budget.solves found.claim report
-    → IsTrue (view_of (content program)) (given found.why budget.solves) report → ShowsFound budget start came program old new report
-shows_one budget start came program (AtWork old) (AtWork new) found number report f ends steps c t = record {
+    → IsTrue (view_of (content program)) (given found.why budget.solves) report → StandsOn (content program) budget old
+    → ShowsFound budget start came program old new report
+shows_one budget start came program (AtWork old) (AtWork new) found number report f ends steps c t stands = record {
   solves = f.solves.solves;
   once = λ widths few. f.solves.never;
   first = λ small begins uncounted. f.solves.never;
+  run = λ widths few m tabled. steps m program.keeps stands.frame tabled;
   ends = ends;
   claimed = told_so program number budget.solves found.place _ found.why _ found.claim _ report f.place f.why f.claim c;
   truth = subst (λ (why : Open). IsTrue (view_of (content program)) (given why budget.solves) report) f.why t;
 }
-shows_one budget start came program (AtWork old) (Idle why own) found number report f ends steps c t = f
-shows_one budget start came program (Idle why own) new found number report f ends steps c t = steps
+shows_one budget start came program (AtWork old) (Idle why own) found number report f ends steps c t stands = f
+shows_one budget start came program (Idle why own) new found number report f ends steps c t stands = steps
 
 pub shows_found : {E : Type 0} (budget : Budget) (start : Started) (came : ℕ) (program : Program) (old new : Method) (found : Found) (number : ℕ)
     (result : Result Report E)
     → FindsBySolves (content program) old new found → EndsAt (content program) new → WorksBySteps (content program) old new
     → IfOk result (IsClaimed program number found.place found.why budget.solves found.claim)
-    → IfOk result (IsTrue (view_of (content program)) (given found.why budget.solves))
+    → IfOk result (IsTrue (view_of (content program)) (given found.why budget.solves)) → StandsOn (content program) budget old
     → IfOk result (ShowsFound budget start came program old new)
-shows_found budget start came program old new found number (Ok report) f ends steps c t =
-    shows_one budget start came program old new found number report f ends steps c t
-shows_found budget start came program old new found number (Err e) f ends steps c t = tt
+shows_found budget start came program old new found number (Ok report) f ends steps c t stands =
+    shows_one budget start came program old new found number report f ends steps c t stands
+shows_found budget start came program old new found number (Err e) f ends steps c t stands = tt
 
 -- ---- a program that is begun anew until its solves have ended
 -- so many solves at least are counted
@@ -199,6 +201,10 @@ round_counts budget start came program k (AtWork old) (AtWork mid) (AtWork next)
         first = λ small begins uncounted.
             let n = solves_told report.finding tells in
             let spent = never_left_first budget start came program old.state mid report few stands shows small begins uncounted n.0 n.1 in
+            absurd (omega (arith, less, spent));
+        run = λ widths items.
+            let n = solves_told report.finding tells in
+            let spent = never_left budget start came program old.state mid report few stands shows items (way few widths items) n.0 n.1 in
             absurd (omega (arith, less, spent));
         ends = shows'.ends;
         claimed = shows'.claimed;

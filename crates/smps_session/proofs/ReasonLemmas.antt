@@ -25,9 +25,11 @@ module _ (program : Program) (budget : Budget) (found : Found) (number : ℕ) (r
     (claimed : IsClaimed program number found.place found.why budget.solves found.claim report) where
   passed_at : (place : Place) (o : Operation) → report.finding ≡ OpenPassed place o → (found.why ≡ Passed place o) ⊎ PassesInTest program place o
   passed_at place o e =
-      let is : report ≡ claimed_report program number report.nodes report.scenarios (Cost tells.commits) found.why budget.solves found.claim =
-      claimed.is ∙ ap (λ (at : Place). claimed_report program number report.nodes report.scenarios at found.why budget.solves found.claim) tells.place in
-      by_claim program o place tells.commits number report.nodes report.scenarios budget.solves found.why found.claim
+      let is : report ≡ claimed_report program number report.nodes report.scenarios (Cost tells.commits) found.why budget.solves claimed.rounds
+      found.claim =
+      claimed.is ∙ ap (λ (at : Place). claimed_report program number report.nodes report.scenarios at found.why
+      budget.solves claimed.rounds found.claim) tells.place in
+      by_claim program o place tells.commits number report.nodes report.scenarios budget.solves found.why claimed.rounds found.claim
       (sym (ap (λ (r : Report). r.finding) is) ∙ e)
 
   explained : (f : Finding) → report.finding ≡ f → Explains (view_of (content program)) (given found.why budget.solves) report f

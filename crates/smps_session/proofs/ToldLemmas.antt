@@ -25,7 +25,7 @@ use Rattle.smps_session.specs.Shorter.{IsPrinted}
 use Rattle.proved_report.specs.Reports.{EqualIsOptimal}
 use Rattle.smps_session.specs.Told.{IsTold, AreTold}
 use Rattle.nested_method.specs.declared.method.Method.{Method}
-use Rattle.nested_method.specs.Stands.{HasFewNodes, Begins, WorksBySolves, WorksAsAsked, GoesOn, StandsCleared}
+use Rattle.nested_method.specs.Stands.{HasFewNodes, Begins, WorksBySolves, WorksBySteps, WorksAsAsked, GoesOn, StandsCleared}
 use Rattle.nested_method.proofs.Numbers.{edits_cleared}
 use Rattle.smps_session.specs.Comes.{ComesOf, IsOnTree, TakesEdit, IsUnderWay}
 use Rattle.smps_session.specs.Courses.{Course, course_at, TellsOne, IsBehind}
@@ -101,10 +101,11 @@ item_allowed p item items some first h =
 
 -- what a method does at an edit
 pub takes_edit : {A E : Type 0} (result : Result A E) (p : Program) (work : ℕ) (e : Edit) (old worked new : Method)
-    → (HasFewNodes p → WorksBySolves p old worked) → (HasFewNodes p → WorksAsAsked p work old worked) → OnOk result (GoesOn p e worked new)
-    → HasFewNodes (after p e) → (IsOnTree p → IsOnTree (after p e)) → OnOk result (TakesEdit p work e old new)
-takes_edit (Ok x) p work e old worked new w a g few tree = record { worked = worked; works = w; amount = a; goes = g; few = few; tree = tree }
-takes_edit (Err x) p work e old worked new w a g few tree = tt
+    → (HasFewNodes p → WorksBySolves p old worked) → (HasFewNodes p → WorksAsAsked p work old worked) → WorksBySteps p old worked
+    → OnOk result (GoesOn p e worked new) → HasFewNodes (after p e) → (IsOnTree p → IsOnTree (after p e)) → OnOk result (TakesEdit p work e old new)
+takes_edit (Ok x) p work e old worked new w a s g few tree =
+    record { worked = worked; works = w; amount = a; steps = s; goes = g; few = few; tree = tree }
+takes_edit (Err x) p work e old worked new w a s g few tree = tt
 
 -- and that its reasons are cleared behind it
 pub changed_cleared : {A E : Type 0} (result : Result A E) (p q : Program) (e : Edit) (worked new : Method) → OnOk result (q ≡ after p e)

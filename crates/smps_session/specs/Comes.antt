@@ -18,6 +18,7 @@ use Rattle.claim_laws.specs.Tells.{TellsClaim}
 use Rattle.found_ends.specs.Claims.{EndsAssembly}
 use Rattle.scen_tree.specs.Trees.{Tree, tree_walk}
 use Rattle.edit_defs.specs.declared.edit.Edit.{Edit}
+use Rattle.pass_table.specs.Machine.{Machine}
 use Rattle.edit_defs.specs.After.{after}
 use Rattle.edit_defs.specs.Shifts.{HasWidths}
 use Rattle.pass_core.specs.declared.budget.Budget.{Budget}
@@ -25,11 +26,12 @@ use Rattle.pass_core.specs.declared.state.State.{State}
 use Rattle.pass_core.specs.Beginning.{IsBeginning}
 use Rattle.pass_core.specs.Counting.{no_commits}
 use Rattle.pass_core.specs.Reasons.{HasReason}
+use Rattle.pass_core.specs.Tabled.{IsTabledBy, GoesBySteps}
 use Rattle.nested_method.specs.declared.method.Method.{Method}
 use Rattle.nested_method.specs.declared.method.Method.TheVariants.{Working as AtWork, Idle}
 use Rattle.nested_method.specs.declared.method.Working.{Working}
-use Rattle.nested_method.specs.Stands.{HasFewNodes, IsAtEnd, SolvesNodes, NeverAnew, HasSolve, WorksBySolves, WorksAsAsked, GoesOn}
-use Rattle.nested_method.specs.Stands.{CutPasses, CostPasses, OpeningPasses, Begins, closing}
+use Rattle.nested_method.specs.Stands.{HasFewNodes, IsAtEnd, SolvesNodes, NeverAnew, HasSolve, WorksBySolves, WorksBySteps}
+use Rattle.nested_method.specs.Stands.{WorksAsAsked, GoesOn, CutPasses, CostPasses, OpeningPasses, Begins, closing}
 use Rattle.nested_method.specs.Stands.{is_spent, after_telling}
 use Rattle.progress_laws.specs.Ways.{AreFew, KeepsWay}
 use Rattle.progress_laws.specs.WhereMet.{WasMet}
@@ -49,6 +51,11 @@ tells_solves (OpenPassed place o) = false
 abbrev pub is_unfinished : Finding → Method → Bool
 is_unfinished finding method = tells_solves finding && not (is_spent method)
 
+-- What was done is one run of the machine of the cut pools: from the one that the table of versions fits, in which no solve is in
+-- flight, by whole steps of one worker, and by what several workers do from no solve in flight to none, to one that the table fits again.
+abbrev pub IsOneRun : Program → State → State → Type 0
+IsOneRun p old new = (m : Machine) → IsTabledBy p old m → GoesBySteps p m new
+
 -- Behind solves of the program's nodes, where the method can't go on, the report tells what is claimed, and is true for the reason that is
 -- claimed with it. The program is the one behind so many items of a script that starts with another one.
 pub record ShowsClosing (budget : Budget) (start : Program) (came : ℕ) (program : ProgramOf) (old new : State) (report : Report)
@@ -58,6 +65,8 @@ pub record ShowsClosing (budget : Budget) (start : Program) (came : ℕ) (progra
   pub once : HasWidths start → AreFew budget came → NeverAnew solves
   -- nor is it from the beginning of any program to its first report
   pub first : budget.solves < 2 ^ 63 → IsBeginning (content program) budget old → old.counts ≡ no_commits → NeverAnew solves
+  -- so it is one run, and no solve is in flight where the report is made
+  pub run : HasWidths start → AreFew budget came → IsOneRun (content program) old new
   pub ends : IsAtEnd (content program) new
   -- it finds what the claim asks for where that holds, prints no lists but the claim's, and is open only as it is told here
   pub claimed : TellsClaim program (Cost new.counts.all) (closing new).why budget.solves (closing new).claim report
@@ -127,6 +136,8 @@ pub record TakesEdit (p : Program) (work : ℕ) (e : Edit) (old new : Method) : 
   pub worked : Method
   pub works : HasFewNodes p → WorksBySolves p old worked
   pub amount : HasFewNodes p → WorksAsAsked p work old worked
+  -- so it is one run of a method at work, and no solve is in flight where the program is edited
+  pub steps : WorksBySteps p old worked
   pub goes : GoesOn p e worked new
   pub few : HasFewNodes (after p e)
   pub tree : IsOnTree p → IsOnTree (after p e)

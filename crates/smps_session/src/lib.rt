@@ -3,6 +3,7 @@
 
 mod based;
 mod items;
+mod nearer;
 mod running;
 mod scripts;
 mod shorter;

@@ -7,6 +7,7 @@ use crate::lists::{point_list, row_list};
 use basis_guess::Standing;
 use basis_values::{ExactProgram, Guessed, Solution, guess};
 use frac128::{ArithmeticFault, Memory};
+use near_ends::{near_multipliers, near_point};
 use proved_report::Claim;
 use scen_defs::{Kind, Program, Values};
 use scen_tree::Tree;
@@ -124,6 +125,24 @@ fn claimed(
     }
 }
 
+/// A policy and multipliers near the optimal ones, each where it is found.
+fn near(alloc: Global, whole: &Whole<'_>) -> Result<Option<Claim>, Memory> {
+    let Some(exact) = in_run(alloc, whole, Kind::Cost)? else {
+        return Ok(None);
+    };
+    let mut work = WORK;
+    let mut standings: Vec<Standing> = Vec::new(alloc);
+    let policy = match near_point(alloc, &exact, &mut standings, &mut work)? {
+        Some(point) => Some(point_list(alloc, whole.program, &whole.layout, &point)?),
+        None => None,
+    };
+    let dual = match near_multipliers(alloc, &exact, &standings, &mut work)? {
+        Some(multipliers) => Some(row_list(alloc, whole.program, &multipliers)?),
+        None => None,
+    };
+    Ok(Some(Claim::Ends { policy, dual }))
+}
+
 /// What may be claimed of the program with its tree.
 fn guessed_whole(
     alloc: Global,
@@ -151,6 +170,15 @@ pub fn guessed_claim(
 ) -> Result<Option<Claim>, Memory> {
     match prepared(alloc, program)? {
         Some(whole) => guessed_whole(alloc, &whole, hint),
+        None => Ok(None),
+    }
+}
+
+/// A claim of a policy and of multipliers near the optimal ones, each where it is found: for where the optimal ones have more than 128
+/// bits. None where the program is too large to be tried.
+pub fn near_claim(alloc: Global, program: &Program) -> Result<Option<Claim>, Memory> {
+    match prepared(alloc, program)? {
+        Some(whole) => near(alloc, &whole),
         None => Ok(None),
     }
 }

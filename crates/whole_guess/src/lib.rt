@@ -11,7 +11,7 @@ mod lists;
 mod part;
 mod rays;
 
-pub use claim::guessed_claim;
+pub use claim::{guessed_claim, near_claim};
 pub use given::given_claim;
 pub use hint::WholeHint;
 pub use rays::shorter_ray;

@@ -37,4 +37,4 @@ pub returns-clause-shows : goal.returns-clause-shows
 returns-clause-shows g c = λ start came few stands.
     shows_found c.args.budget start came c.args.program.now c.args.method.now c.find.new.self c.in_ok-found.found c.args.number c.report.result
     (c.in_ok-found.ensures.solves c.args.budget few stands) (c.in_ok-found.ensures.ends c.args.budget few stands)
-    c.in_ok-found.ensures.steps c.report.ensures.exact c.report.ensures.truth
+    c.in_ok-found.ensures.steps c.report.ensures.exact c.report.ensures.truth stands

@@ -11,7 +11,7 @@ pub returns-clause-takes : goal.returns-clause-takes
 returns-clause-takes g c = λ budget stands.
     takes_edit c.edit.result (content c.args.program.now) c.args.work c.args.edit.now c.args.self.now.method c.work.new.self c.edit.new.self
     (λ few. c.in_ok-work.ensures.solves budget few stands)
-    (λ few. c.in_ok-work.ensures.amount budget few stands) c.edit.ensures.method
+    (λ few. c.in_ok-work.ensures.amount budget few stands) c.in_ok-work.ensures.steps c.edit.ensures.method
     (allowed_few (content c.args.program.now) c.args.edit.now c.args.program.now.keeps c.requires.allowed)
     (allowed_tree (content c.args.program.now) c.args.edit.now c.requires.allowed)
 
