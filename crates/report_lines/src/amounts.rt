@@ -13,14 +13,14 @@ pub(crate) fn put(out: &mut Vec<u8>, text: &str) -> Result<(), Memory> {
     Ok(())
 }
 
-/// Appends a number as an exact fraction, with the decimal after it in parentheses where that reads otherwise: `1/4 (0.25)`.
+/// Appends a number as a decimal, with the exact fraction after it in parentheses where that reads otherwise: `0.25 (1/4)`.
 fn put_both(alloc: Global, out: &mut Vec<u8>, value: Frac) -> Result<(), Memory> {
     let exact = exact_text(alloc, value)?;
     let decimal = decimal_text(alloc, value)?;
-    out.extend_from_slice(&exact)?;
+    out.extend_from_slice(&decimal)?;
     if exact.as_slice() != decimal.as_slice() {
         put(out, " (")?;
-        out.extend_from_slice(&decimal)?;
+        out.extend_from_slice(&exact)?;
         put(out, ")")?;
     }
     Ok(())

@@ -3,7 +3,8 @@ use crate::amounts::{put, put_amount, put_whole};
 use crate::parts::{name_cell, put_columns, put_rows};
 use frac128::Memory;
 use report_table::{
-    Table, are_of_other_program, finding_word, measure_lines, print_finding, put_count,
+    ExpectedCost, Table, are_of_other_program, cost_lines, cost_steps, expected_cost, finding_word,
+    measure_lines, print_finding, put_count, shared_text,
 };
 use report_values::{Amount, gap};
 use scen_defs::Scenario;
@@ -12,6 +13,9 @@ use std::alloc::Global;
 
 /// So many scenarios are shown at most, and no further one once so many nodes are.
 const MOST: usize = 40;
+
+/// Said before the expected cost.
+const EXPECTED: &'static str = "expected cost  ";
 
 /// Appends a line of a word and a number.
 fn put_end(alloc: Global, out: &mut Vec<u8>, word: &str, amount: Amount) -> Result<(), Memory> {
@@ -30,12 +34,50 @@ fn put_outcome(alloc: Global, out: &mut Vec<u8>, table: &Table<'_>) -> Result<()
     put(out, "\n")?;
     print_finding(alloc, out, report.finding)?;
     put(out, "\n")?;
-    put_end(alloc, out, "lower end  ", Amount::of_end(report.lower))?;
-    put_end(alloc, out, "upper end  ", Amount::of_end(report.upper))?;
-    put_end(alloc, out, "gap        ", gap(report))?;
+    put_cost(alloc, out, table)?;
     put_extra(alloc, out, table)?;
-    put_size(alloc, out, "nodes      ", report.nodes)?;
-    put_size(alloc, out, "scenarios  ", report.scenarios)
+    put_size(alloc, out, "nodes          ", report.nodes)?;
+    put_size(alloc, out, "scenarios      ", report.scenarios)
+}
+
+/// Appends the expected cost, as far as the ends say it, and the ends where they aren't one number.
+fn put_cost(alloc: Global, out: &mut Vec<u8>, table: &Table<'_>) -> Result<(), Memory> {
+    match expected_cost(table.report) {
+        ExpectedCost::Known(cost) => put_end(alloc, out, EXPECTED, Amount::Known(cost)),
+        ExpectedCost::Shared(decimal) => {
+            put(out, EXPECTED)?;
+            out.extend_from_slice(&shared_text(alloc, decimal)?)?;
+            put(out, ", the digits that both ends share\n")?;
+            put_ends(alloc, out, table)
+        }
+        ExpectedCost::Apart => put_ends(alloc, out, table),
+    }
+}
+
+/// Appends both ends, and how far they lie apart.
+fn put_ends(alloc: Global, out: &mut Vec<u8>, table: &Table<'_>) -> Result<(), Memory> {
+    let report = table.report;
+    put_end(alloc, out, "lower end      ", Amount::of_end(report.lower))?;
+    put_end(alloc, out, "upper end      ", Amount::of_end(report.upper))?;
+    put_end(alloc, out, "gap            ", gap(report))
+}
+
+/// Appends what the costs of the scenarios come to, where the report has a policy.
+fn put_spread(alloc: Global, out: &mut Vec<u8>, table: &Table<'_>) -> Result<(), Memory> {
+    if table.report.policy.is_none() {
+        return Ok(());
+    }
+    put(out, "\nCOSTS OF SCENARIOS:")?;
+    let mut start = " ";
+    let steps = cost_steps(alloc, table)?;
+    for line in &cost_lines(table, &steps) {
+        put(out, start)?;
+        put(out, line.name)?;
+        put(out, " ")?;
+        put_amount(alloc, out, line.amount, "-")?;
+        start = ", ";
+    }
+    put(out, "\n")
 }
 
 /// Appends a line of a word and how many there are.
@@ -52,9 +94,9 @@ fn put_extra(alloc: Global, out: &mut Vec<u8>, table: &Table<'_>) -> Result<(), 
         return Ok(());
     }
     let word = if report.ray.is_some() {
-        "ray worth  "
+        "ray worth      "
     } else {
-        "slope      "
+        "slope          "
     };
     put_end(alloc, out, word, Amount::of_end(report.extra))
 }
@@ -221,6 +263,7 @@ pub fn print_text(alloc: Global, table: &Table<'_>) -> Result<Vec<u8>, Memory> {
     let mut out = Vec::new(alloc);
     put_outcome(alloc, &mut out, table)?;
     put_first(alloc, &mut out, table)?;
+    put_spread(alloc, &mut out, table)?;
     put_worth(alloc, &mut out, table)?;
     put_scenarios(alloc, &mut out, table)?;
     Ok(out)

@@ -2,7 +2,7 @@
 use crate::aligned::Lines;
 use crate::amounts::{put, put_amount};
 use frac128::Memory;
-use report_table::{Table, short_name};
+use report_table::{Table, row_price, short_name};
 use report_values::{Amount, ColumnCells, RowCells, are_of_ray};
 use std::alloc::Global;
 
@@ -88,19 +88,33 @@ fn row_heads(alloc: Global, of_ray: bool) -> Result<Vec<Vec<u8>>, Memory> {
     cells.push(cell(alloc, "low")?)?;
     cells.push(cell(alloc, "high")?)?;
     cells.push(cell(alloc, "slack")?)?;
-    cells.push(cell(alloc, if of_ray { "ray" } else { "multiplier" })?)?;
+    if of_ray {
+        cells.push(cell(alloc, "ray")?)?;
+    } else {
+        cells.push(cell(alloc, "multiplier")?)?;
+        cells.push(cell(alloc, "price")?)?;
+    }
     Ok(cells)
 }
 
-/// The cells of a row.
-fn row_line(alloc: Global, name: &[u8], cells: &RowCells) -> Result<Vec<Vec<u8>>, Memory> {
+/// The cells of a row at a node.
+fn row_line(
+    alloc: Global,
+    table: &Table<'_>,
+    node: u32,
+    cells: &RowCells,
+) -> Result<Vec<Vec<u8>>, Memory> {
     let mut line = Vec::new(alloc);
-    line.push(name_cell(alloc, name)?)?;
+    line.push(name_cell(alloc, table.row_name(cells.row))?)?;
     line.push(amount_cell(alloc, cells.activity, "-")?)?;
     line.push(amount_cell(alloc, cells.low, "none")?)?;
     line.push(amount_cell(alloc, cells.high, "none")?)?;
     line.push(amount_cell(alloc, cells.slack, "-")?)?;
     line.push(amount_cell(alloc, cells.multiplier, "-")?)?;
+    if !are_of_ray(table.report) {
+        let price = row_price(table, node, cells.multiplier);
+        line.push(amount_cell(alloc, price, "-")?)?;
+    }
     Ok(line)
 }
 
@@ -118,7 +132,7 @@ pub(crate) fn put_rows(
     let mut lines = Lines::new(alloc);
     lines.push(row_heads(alloc, are_of_ray(table.report))?)?;
     for cells in &rows {
-        lines.push(row_line(alloc, table.row_name(cells.row), cells)?)?;
+        lines.push(row_line(alloc, table, node, cells)?)?;
     }
     lines.print(alloc, out)
 }

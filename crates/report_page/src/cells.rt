@@ -5,14 +5,14 @@ use report_table::{decimal_text, exact_text, put_count};
 use report_values::Amount;
 use std::alloc::Global;
 
-/// Appends a number, exactly, and as a decimal where that reads otherwise.
+/// Appends a number as a decimal, and exactly, in small, where that reads otherwise.
 fn put_number(alloc: Global, out: &mut Vec<u8>, value: Frac) -> Result<(), Memory> {
     let exact = exact_text(alloc, value)?;
     let decimal = decimal_text(alloc, value)?;
-    out.extend_from_slice(&exact)?;
+    out.extend_from_slice(&decimal)?;
     if exact.as_slice() != decimal.as_slice() {
         put(out, "<small>")?;
-        out.extend_from_slice(&decimal)?;
+        out.extend_from_slice(&exact)?;
         put(out, "</small>")?;
     }
     Ok(())

@@ -1,10 +1,10 @@
 //! The costs of scenarios, drawn: how likely a cost of at most so much is.
-use crate::cells::put_decimal;
+use crate::cells::{put_amount, put_decimal};
 use crate::escape::put;
 use crate::scale::{between, parts};
 use crate::tree::open_drawing;
 use frac128::{Frac, Memory};
-use report_table::{Table, put_count};
+use report_table::{CostStep, Table, cost_lines, cost_steps, put_count};
 use report_values::Amount;
 use std::alloc::Global;
 
@@ -16,29 +16,6 @@ const TOP: u64 = 20;
 const WIDTH: u64 = 600;
 
 const HEIGHT: u64 = 200;
-
-/// A cost, and how likely it is.
-#[derive(Clone, Copy, Debug)]
-struct Step {
-    cost: Frac,
-    probability: Frac,
-}
-
-/// The costs of all scenarios, rising; none where one isn't known.
-fn steps(alloc: Global, table: &Table<'_>) -> Result<Option<Vec<Step>>, Memory> {
-    let mut steps = Vec::new(alloc);
-    for (place, scenario) in table.program.scenarios.iter().enumerate() {
-        match table.values.cost(place) {
-            Amount::Known(cost) => {
-                let probability = scenario.probability;
-                steps.push(Step { cost, probability })?;
-            }
-            Amount::Absent | Amount::Passed => return Ok(None),
-        }
-    }
-    steps.sort_by_key(|step| step.cost)?;
-    Ok(Some(steps))
-}
 
 /// How far from the left parts of the width are.
 fn across(share: u64) -> u64 {
@@ -61,7 +38,7 @@ fn put_move(alloc: Global, out: &mut Vec<u8>, word: &str, number: u64) -> Result
 fn put_path(
     alloc: Global,
     out: &mut Vec<u8>,
-    steps: &[Step],
+    steps: &[CostStep],
     least: &Amount,
     most: &Amount,
 ) -> Result<(), Memory> {
@@ -122,7 +99,7 @@ fn put_axes(alloc: Global, out: &mut Vec<u8>, least: &Amount, most: &Amount) -> 
 fn put_steps(
     alloc: Global,
     out: &mut Vec<u8>,
-    steps: &[Step],
+    steps: &[CostStep],
     least: Frac,
     most: Frac,
 ) -> Result<(), Memory> {
@@ -140,11 +117,31 @@ fn put_steps(
     put(out, "</svg></div>\n")
 }
 
+/// Appends what the costs come to: their mean, and what they don't pass with a given probability.
+fn put_spread(alloc: Global, out: &mut Vec<u8>, table: &Table<'_>) -> Result<(), Memory> {
+    put(out, "<dl>")?;
+    let steps = cost_steps(alloc, table)?;
+    for line in &cost_lines(table, &steps) {
+        put(out, "<div><dt title=\"")?;
+        put(out, line.words)?;
+        put(out, "\">")?;
+        put(out, line.name)?;
+        put(out, "<dd>")?;
+        put_amount(alloc, out, line.amount, "-")?;
+        put(out, "</div>")?;
+    }
+    put(
+        out,
+        "</dl>\n<p>How likely a cost of at most so much is:</p>\n",
+    )
+}
+
 /// Appends the distribution of the costs of scenarios, where all of them are known.
 pub(crate) fn put_costs(alloc: Global, out: &mut Vec<u8>, table: &Table<'_>) -> Result<(), Memory> {
-    let Some(steps) = steps(alloc, table)? else {
+    let Some(steps) = cost_steps(alloc, table)? else {
         return put(out, "<p>The report has no costs of scenarios.</p>\n");
     };
+    put_spread(alloc, out, table)?;
     match (steps.first(), steps.last()) {
         (Some(first), Some(last)) => put_steps(alloc, out, &steps, first.cost, last.cost),
         _ => Ok(()),

@@ -2,6 +2,7 @@
 #![tactic(auto)]
 
 mod cells;
+mod conflict;
 mod costs;
 mod escape;
 mod frame;

@@ -1,18 +1,22 @@
 //! The tables of the page.
 use crate::cells::{put_amount, put_cell, put_count_cell, put_name_cell};
+use crate::conflict::{is_column_marked, is_row_marked};
 use crate::escape::{put, put_name};
 use frac128::Memory;
-use report_table::{Table, put_count};
+use report_table::{ExpectedCost, Table, expected_cost, put_count, row_price, shared_text};
 use report_values::{Amount, ColumnCells, RowCells, are_of_ray, gap};
 use scen_defs::{Node, Scenario};
 use std::alloc::Global;
+
+/// What the expected cost is called.
+const EXPECTED: &'static str = "expected cost";
 
 /// What tells a node in a table.
 const SPOT: [&'static str; 4] = ["node", "period", "scenarios", "probability"];
 
 /// Appends the beginning of a table.
 fn open_heads(out: &mut Vec<u8>) -> Result<(), Memory> {
-    put(out, "<div class=wide><table><thead><tr>")
+    put(out, "<div class=grid tabindex=0><table><thead><tr>")
 }
 
 /// Appends what is called so in the head of a table: its cells sort the table.
@@ -67,13 +71,36 @@ fn put_number(alloc: Global, out: &mut Vec<u8>, word: &str, count: u32) -> Resul
     put(out, "</div>")
 }
 
-/// Appends the ends of the report, and its counts.
+/// Appends both ends, and how far they lie apart.
+fn put_both_ends(alloc: Global, out: &mut Vec<u8>, table: &Table<'_>) -> Result<(), Memory> {
+    let report = table.report;
+    put_end(alloc, out, "lower end", Amount::of_end(report.lower))?;
+    put_end(alloc, out, "upper end", Amount::of_end(report.upper))?;
+    put_end(alloc, out, "gap", gap(report))
+}
+
+/// Appends the expected cost, as far as the ends say it, and the ends where they aren't one number.
+fn put_cost(alloc: Global, out: &mut Vec<u8>, table: &Table<'_>) -> Result<(), Memory> {
+    match expected_cost(table.report) {
+        ExpectedCost::Known(cost) => put_end(alloc, out, EXPECTED, Amount::Known(cost)),
+        ExpectedCost::Shared(decimal) => {
+            put(
+                out,
+                "<div><dt>expected cost, the digits that both ends share<dd>",
+            )?;
+            out.extend_from_slice(&shared_text(alloc, decimal)?)?;
+            put(out, "</div>")?;
+            put_both_ends(alloc, out, table)
+        }
+        ExpectedCost::Apart => put_both_ends(alloc, out, table),
+    }
+}
+
+/// Appends the cost or the ends of the report, and its counts.
 pub(crate) fn put_ends(alloc: Global, out: &mut Vec<u8>, table: &Table<'_>) -> Result<(), Memory> {
     let report = table.report;
     put(out, "<dl>")?;
-    put_end(alloc, out, "lower end", Amount::of_end(report.lower))?;
-    put_end(alloc, out, "upper end", Amount::of_end(report.upper))?;
-    put_end(alloc, out, "gap", gap(report))?;
+    put_cost(alloc, out, table)?;
     if report.extra.is_some() {
         let word = if report.ray.is_some() {
             "ray worth"
@@ -85,6 +112,11 @@ pub(crate) fn put_ends(alloc: Global, out: &mut Vec<u8>, table: &Table<'_>) -> R
     put_number(alloc, out, "nodes", report.nodes)?;
     put_number(alloc, out, "scenarios", report.scenarios)?;
     put(out, "</dl>\n")
+}
+
+/// Appends the beginning of a line, which is marked where it is part of a conflict.
+fn open_line(out: &mut Vec<u8>, is_marked: bool) -> Result<(), Memory> {
+    put(out, if is_marked { "<tr class=mark>" } else { "<tr>" })
 }
 
 /// Appends the line of a column, after what tells the node.
@@ -112,7 +144,7 @@ pub(crate) fn put_first(alloc: Global, out: &mut Vec<u8>, table: &Table<'_>) -> 
     close_heads(out)?;
     let columns = table.columns(alloc, 0)?;
     for cells in &columns {
-        put(out, "<tr>")?;
+        open_line(out, is_column_marked(table, cells))?;
         put_column(alloc, out, table, cells)?;
     }
     close_table(out)
@@ -159,8 +191,9 @@ fn put_spot(
     table: &Table<'_>,
     number: u32,
     node: &Node,
+    is_marked: bool,
 ) -> Result<(), Memory> {
-    put(out, "<tr>")?;
+    open_line(out, is_marked)?;
     put_count_cell(alloc, out, number)?;
     put_name_cell(alloc, out, table.period_name(node.stage))?;
     put_count_cell(alloc, out, table.values.scenarios(number))?;
@@ -197,7 +230,8 @@ fn put_columns_at(
 ) -> Result<(), Memory> {
     let columns = table.columns(alloc, number)?;
     for cells in &columns {
-        put_spot(alloc, out, table, number, node)?;
+        let is_marked = is_column_marked(table, cells);
+        put_spot(alloc, out, table, number, node, is_marked)?;
         put_column(alloc, out, table, cells)?;
     }
     Ok(())
@@ -208,6 +242,7 @@ fn put_row(
     alloc: Global,
     out: &mut Vec<u8>,
     table: &Table<'_>,
+    number: u32,
     cells: &RowCells,
 ) -> Result<(), Memory> {
     put_name_cell(alloc, out, table.row_name(cells.row))?;
@@ -216,6 +251,9 @@ fn put_row(
     put_cell(alloc, out, cells.high, "none")?;
     put_cell(alloc, out, cells.slack, "-")?;
     put_cell(alloc, out, cells.multiplier, "-")?;
+    if !are_of_ray(table.report) {
+        put_cell(alloc, out, row_price(table, number, cells.multiplier), "-")?;
+    }
     put(out, "</tr>\n")
 }
 
@@ -229,18 +267,19 @@ fn put_rows_at(
 ) -> Result<(), Memory> {
     let rows = table.rows(alloc, number)?;
     for cells in &rows {
-        put_spot(alloc, out, table, number, node)?;
-        put_row(alloc, out, table, cells)?;
+        let is_marked = is_row_marked(table, cells);
+        put_spot(alloc, out, table, number, node, is_marked)?;
+        put_row(alloc, out, table, number, cells)?;
     }
     Ok(())
 }
 
-/// What the column of multipliers is called.
-fn multiplier_head(table: &Table<'_>) -> &'static str {
+/// Appends what the columns of multipliers and prices are called.
+fn put_multiplier_heads(out: &mut Vec<u8>, table: &Table<'_>) -> Result<(), Memory> {
     if are_of_ray(table.report) {
-        "ray"
+        put_head(out, "ray")
     } else {
-        "multiplier"
+        put_heads(out, &["multiplier", "price"])
     }
 }
 
@@ -249,7 +288,7 @@ pub(crate) fn put_rows(alloc: Global, out: &mut Vec<u8>, table: &Table<'_>) -> R
     open_heads(out)?;
     put_heads(out, &SPOT)?;
     put_heads(out, &["row", "activity", "low", "high", "slack"])?;
-    put_head(out, multiplier_head(table))?;
+    put_multiplier_heads(out, table)?;
     close_heads(out)?;
     let mut number: u32 = 0;
     for slot in &table.program.nodes {

@@ -34,7 +34,7 @@ pub(crate) fn put_worth(alloc: Global, out: &mut Vec<u8>, table: &Table<'_>) -> 
     if are_of_other_program(measures, table.report) {
         put(out, OTHER)?;
     }
-    put(out, "<div class=wide><table><tbody>\n")?;
+    put(out, "<div class=grid tabindex=0><table><tbody>\n")?;
     for line in &measure_lines(measures) {
         put_line(alloc, out, line)?;
     }

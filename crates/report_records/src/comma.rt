@@ -2,37 +2,40 @@
 use csv::{Terminator, Writer, WriterBuilder};
 use frac128::Memory;
 use report_table::{
-    MeasureLine, Table, are_of_other_program, decimal_text, exact_text, finding_word,
-    measure_lines, print_finding, put_count, shown_name,
+    CostLine, ExpectedCost, MeasureLine, Table, are_of_other_program, cost_lines, cost_steps,
+    decimal_text, exact_text, expected_cost, finding_word, measure_lines, print_finding, put_count,
+    row_price, shown_name,
 };
 use report_values::{Amount, ColumnCells, RowCells, gap};
 use scen_defs::Scenario;
 use std::alloc::Global;
 
 /// The names of the fields.
-const FIELDS: [&'static str; 23] = [
+const FIELDS: [&'static str; 25] = [
     "kind",
     "name",
     "node",
     "parent",
     "period",
     "scenarios",
-    "probability",
     "probability_decimal",
-    "value",
+    "probability",
     "value_decimal",
-    "lower",
+    "value",
     "lower_decimal",
-    "upper",
+    "lower",
     "upper_decimal",
-    "slack",
+    "upper",
     "slack_decimal",
-    "multiplier",
+    "slack",
     "multiplier_decimal",
-    "reduced",
+    "multiplier",
+    "price_decimal",
+    "price",
     "reduced_decimal",
-    "direction",
+    "reduced",
     "direction_decimal",
+    "direction",
     "words",
 ];
 
@@ -56,6 +59,7 @@ struct Numbers {
     upper: Amount,
     slack: Amount,
     multiplier: Amount,
+    price: Amount,
     reduced: Amount,
     direction: Amount,
 }
@@ -68,6 +72,7 @@ const NONE: Numbers = Numbers {
     upper: Amount::Absent,
     slack: Amount::Absent,
     multiplier: Amount::Absent,
+    price: Amount::Absent,
     reduced: Amount::Absent,
     direction: Amount::Absent,
 };
@@ -100,14 +105,14 @@ fn count_field(alloc: Global, records: &mut Records, count: Option<u32>) -> Resu
     field(records, &text)
 }
 
-/// Writes a number in two fields: exactly, and as a decimal. Both are empty where there is none.
+/// Writes a number in two fields: as a decimal, and exactly. Both are empty where there is none.
 fn amount_fields(alloc: Global, records: &mut Records, amount: Amount) -> Result<(), Memory> {
     match amount {
         Amount::Known(value) => {
             let exact = exact_text(alloc, value)?;
             let decimal = decimal_text(alloc, value)?;
-            field(records, &exact)?;
-            field(records, &decimal)
+            field(records, &decimal)?;
+            field(records, &exact)
         }
         Amount::Absent => {
             field(records, b"")?;
@@ -140,6 +145,7 @@ fn number_fields(alloc: Global, records: &mut Records, numbers: &Numbers) -> Res
     amount_fields(alloc, records, numbers.upper)?;
     amount_fields(alloc, records, numbers.slack)?;
     amount_fields(alloc, records, numbers.multiplier)?;
+    amount_fields(alloc, records, numbers.price)?;
     amount_fields(alloc, records, numbers.reduced)?;
     amount_fields(alloc, records, numbers.direction)
 }
@@ -179,6 +185,51 @@ fn put_report(alloc: Global, records: &mut Records, table: &Table<'_>) -> Result
         ..NONE
     };
     record_line(alloc, records, &head, &numbers, &words)
+}
+
+/// Writes the record of a number that the costs of the scenarios come to.
+fn put_cost(alloc: Global, records: &mut Records, line: &CostLine) -> Result<(), Memory> {
+    let head = Head {
+        kind: "cost",
+        name: line.name.as_bytes(),
+        node: None,
+        parent: None,
+        period: b"",
+        scenarios: None,
+    };
+    let numbers = Numbers {
+        value: line.amount,
+        ..NONE
+    };
+    record_line(alloc, records, &head, &numbers, line.words.as_bytes())
+}
+
+/// The expected cost, where both ends are one number.
+fn expected_line(table: &Table<'_>) -> Option<CostLine> {
+    match expected_cost(table.report) {
+        ExpectedCost::Known(cost) => Some(CostLine {
+            name: "expected",
+            words: "both ends",
+            amount: Amount::Known(cost),
+        }),
+        ExpectedCost::Shared(_) | ExpectedCost::Apart => None,
+    }
+}
+
+/// Writes the records of the expected cost, where the ends are one number, and of what the costs of the scenarios come to, where there
+/// is a policy.
+fn put_costs(alloc: Global, records: &mut Records, table: &Table<'_>) -> Result<(), Memory> {
+    if let Some(line) = expected_line(table) {
+        put_cost(alloc, records, &line)?;
+    }
+    if table.report.policy.is_none() {
+        return Ok(());
+    }
+    let steps = cost_steps(alloc, table)?;
+    for line in &cost_lines(table, &steps) {
+        put_cost(alloc, records, line)?;
+    }
+    Ok(())
 }
 
 /// Writes the record of a number that `value` printed.
@@ -276,6 +327,7 @@ fn put_row(
     name: &[u8],
     spot: &Spot<'_>,
     cells: &RowCells,
+    price: Amount,
 ) -> Result<(), Memory> {
     let numbers = Numbers {
         probability: spot.probability,
@@ -284,6 +336,7 @@ fn put_row(
         upper: cells.high,
         slack: cells.slack,
         multiplier: cells.multiplier,
+        price,
         ..NONE
     };
     record_line(alloc, records, &head_at("row", name, spot), &numbers, b"")
@@ -302,7 +355,15 @@ fn put_node(
     }
     let rows = table.rows(alloc, spot.node)?;
     for cells in &rows {
-        put_row(alloc, records, table.row_name(cells.row), spot, cells)?;
+        let price = row_price(table, spot.node, cells.multiplier);
+        put_row(
+            alloc,
+            records,
+            table.row_name(cells.row),
+            spot,
+            cells,
+            price,
+        )?;
     }
     Ok(())
 }
@@ -376,11 +437,13 @@ fn put_fields(records: &mut Records) -> Result<(), Memory> {
 }
 
 /// The table as comma-separated values (RFC 4180): a record with the names of the fields, one for the report, one for each number that
-/// `value` printed, where these are shown, one for each column and row of each node, by node, and one for each scenario.
+/// the costs come to and that `value` printed, where these are shown, one for each column and row of each node, by node, and one for each
+/// scenario.
 pub fn print_csv(alloc: Global, table: &Table<'_>) -> Result<Vec<u8>, Memory> {
     let mut records = csv_writer(alloc);
     put_fields(&mut records)?;
     put_report(alloc, &mut records, table)?;
+    put_costs(alloc, &mut records, table)?;
     put_measures(alloc, &mut records, table)?;
     put_nodes(alloc, &mut records, table)?;
     put_scenarios(alloc, &mut records, table)?;

@@ -1,8 +1,9 @@
 //! The table as one JSON object, written piece by piece, so that no tree of it is kept.
 use frac128::Memory;
 use report_table::{
-    Table, are_of_other_program, decimal_text, exact_text, finding_word, measure_lines,
-    print_finding, put_count, shown_name,
+    ExpectedCost, Table, are_of_other_program, cost_lines, cost_steps, decimal_text, exact_text,
+    expected_cost, finding_word, measure_lines, print_finding, put_count, row_price, shared_text,
+    shown_name,
 };
 use report_values::{Amount, ColumnCells, RowCells, are_of_ray, gap};
 use scen_defs::{Node, Report, Scenario};
@@ -29,18 +30,18 @@ fn quoted(alloc: Global, name: &[u8]) -> Result<Vec<u8>, Memory> {
     Ok(out)
 }
 
-/// Appends a number: an object with its exact fraction and its decimal, `null` where there is none, `"passed"` where its sum passes 128
+/// Appends a number: an object with its decimal and its exact fraction, `null` where there is none, `"passed"` where its sum passes 128
 /// bits.
 fn put_amount(alloc: Global, out: &mut Vec<u8>, amount: Amount) -> Result<(), Memory> {
     match amount {
         Amount::Known(value) => {
             let exact = exact_text(alloc, value)?;
             let decimal = decimal_text(alloc, value)?;
-            put(out, "{\"exact\":\"")?;
-            out.extend_from_slice(&exact)?;
-            put(out, "\",\"decimal\":")?;
+            put(out, "{\"decimal\":")?;
             out.extend_from_slice(&decimal)?;
-            put(out, "}")
+            put(out, ",\"exact\":\"")?;
+            out.extend_from_slice(&exact)?;
+            put(out, "\"}")
         }
         Amount::Absent => put(out, "null"),
         Amount::Passed => put(out, "\"passed\""),
@@ -129,6 +130,7 @@ fn put_row(
     out: &mut Vec<u8>,
     names: &QuotedNames,
     cells: &RowCells,
+    price: Amount,
 ) -> Result<(), Memory> {
     put(out, "{\"row\":")?;
     put_name(out, &names.rows, cells.row)?;
@@ -137,6 +139,7 @@ fn put_row(
     put_keyed(alloc, out, "high", cells.high)?;
     put_keyed(alloc, out, "slack", cells.slack)?;
     put_keyed(alloc, out, "multiplier", cells.multiplier)?;
+    put_keyed(alloc, out, "price", price)?;
     put(out, "}")
 }
 
@@ -169,7 +172,8 @@ fn put_rows(
     let rows = table.rows(alloc, node)?;
     for (place, cells) in rows.iter().enumerate() {
         put_comma(out, place == 0)?;
-        put_row(alloc, out, names, cells)?;
+        let price = row_price(table, node, cells.multiplier);
+        put_row(alloc, out, names, cells, price)?;
     }
     put(out, "]")
 }
@@ -318,6 +322,35 @@ fn put_outcome(alloc: Global, out: &mut Vec<u8>, table: &Table<'_>) -> Result<()
     put(out, multiplier_word(table))
 }
 
+/// Appends the expected cost, as far as the ends say it: exactly, or to the digits that both share.
+fn put_expected(alloc: Global, out: &mut Vec<u8>, table: &Table<'_>) -> Result<(), Memory> {
+    put(out, "\"expected\":")?;
+    match expected_cost(table.report) {
+        ExpectedCost::Known(cost) => {
+            put_amount(alloc, out, Amount::Known(cost))?;
+            put(out, ",\"shared\":null")
+        }
+        ExpectedCost::Shared(decimal) => {
+            put(out, "null,\"shared\":")?;
+            out.extend_from_slice(&shared_text(alloc, decimal)?)?;
+            Ok(())
+        }
+        ExpectedCost::Apart => put(out, "null,\"shared\":null"),
+    }
+}
+
+/// Appends the expected cost, and what the costs of the scenarios come to.
+fn put_costs(alloc: Global, out: &mut Vec<u8>, table: &Table<'_>) -> Result<(), Memory> {
+    put_key(out, "costs")?;
+    put(out, "{")?;
+    put_expected(alloc, out, table)?;
+    let steps = cost_steps(alloc, table)?;
+    for line in &cost_lines(table, &steps) {
+        put_keyed(alloc, out, line.name, line.amount)?;
+    }
+    put(out, "}")
+}
+
 /// Appends what `value` printed, where that is shown.
 fn put_measures(alloc: Global, out: &mut Vec<u8>, table: &Table<'_>) -> Result<(), Memory> {
     let Some(measures) = &table.measures else {
@@ -342,6 +375,7 @@ pub fn print_json(alloc: Global, table: &Table<'_>) -> Result<Vec<u8>, Memory> {
     let names = quoted_names(alloc, table)?;
     let mut out = Vec::new(alloc);
     put_outcome(alloc, &mut out, table)?;
+    put_costs(alloc, &mut out, table)?;
     put_measures(alloc, &mut out, table)?;
     put_key(&mut out, "first")?;
     put_columns(alloc, &mut out, table, &names, 0)?;
