@@ -1,8 +1,9 @@
 //! What a core file may mean otherwise than its writer thinks.
-use crate::unused::{Section, used_set};
+use crate::twofold::{put_double_bound, put_idle_objective};
+use crate::unused::{Section, Set, used_set};
 use file_lines::{Line, end_field, field, kind_of};
 use frac128::parse;
-use std::alloc::AllocError;
+use std::alloc::{AllocError, Global};
 use std::fmt::Write;
 use visible_text::push_line;
 
@@ -17,13 +18,38 @@ struct Seen {
 }
 
 /// Appends a sentence for each thing in a core file that is often not meant so, behind this beginning: a column with the name of a set of
-/// right-hand sides or ranges, no right-hand side at all, bounds that others take for none. The file has been read without a fault.
-pub fn put_doubts(text: &mut String, start: &str, core: &[u8]) -> Result<(), AllocError> {
+/// right-hand sides, ranges or bounds, no right-hand side at all, bounds that others take for none or that stand twice, an objective
+/// without costs beside an N row that has entries. The file has been read without a fault.
+pub fn put_doubts(
+    alloc: Global,
+    text: &mut String,
+    start: &str,
+    core: &[u8],
+) -> Result<(), AllocError> {
+    put_idle_objective(alloc, text, start, core)?;
     for section in [Section::Rhs, Section::Ranges] {
         put_lost_header(text, start, core, section)?;
     }
+    put_bound_set(text, start, core)?;
     put_no_right_side(text, start, core)?;
+    put_double_bound(alloc, text, start, core)?;
     put_great_bounds(text, start, core)
+}
+
+/// Appends that a column has the name of the set of bounds.
+fn put_bound_set(text: &mut String, start: &str, core: &[u8]) -> Result<(), AllocError> {
+    let Some(Set { name: Some(name) }) = used_set(core, Section::Bounds) else {
+        return Ok(());
+    };
+    let Some((line, column)) = column_named_as(core, name, None) else {
+        return Ok(());
+    };
+    text.push_str(start)?;
+    write!(text, ", line {line}: '")?;
+    push_line(text, column)?;
+    text.push_str(
+        "' is a column there, and also the name of the set of BOUNDS; on a line of BOUNDS a field may be missing\n",
+    )
 }
 
 /// Appends that a column has the name of a set of the section, or of the section itself: a header may be missing.

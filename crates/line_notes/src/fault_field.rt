@@ -185,7 +185,7 @@ fn has_fault(line: &[u8], place: usize, fault: NumFault) -> bool {
 }
 
 /// Whether a field is a number, and 0.
-fn is_zero(word: &[u8]) -> bool {
+pub fn is_zero(word: &[u8]) -> bool {
     match parse(word) {
         Ok(number) => number.is_zero(),
         Err(_) => false,
@@ -338,7 +338,7 @@ fn stoch_number(at: RefusedLine<'_>, fault: NumFault) -> Option<usize> {
 }
 
 /// The probability of a line that has one.
-fn chance(at: RefusedLine<'_>) -> Option<usize> {
+pub fn chance(at: RefusedLine<'_>) -> Option<usize> {
     if at.begins_case() {
         Some(3)
     } else {

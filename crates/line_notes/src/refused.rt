@@ -1,6 +1,7 @@
 //! Why a file is refused, with the fields at fault and the line.
 use crate::causes::sentence;
 use crate::fault_field::{fault_word, put_count, put_fault};
+use crate::foreign::remedy;
 use crate::keywords::is_small_word;
 use crate::report_fault::report_fault;
 use crate::stage_fault::stage_fault;
@@ -23,7 +24,8 @@ pub fn put_cause(
     number: u32,
     cause: &Cause,
 ) -> Result<(), AllocError> {
-    match RefusedLine::of(bytes, number) {
+    let at = RefusedLine::of(bytes, number);
+    match at {
         Some(at) => put_line_cause(text, file, bytes, bases, at, cause)?,
         None => {
             put_reason(text, reason_of(file, bytes, number, *cause))?;
@@ -31,6 +33,9 @@ pub fn put_cause(
     }
     put_count(text, *cause, bytes, number)?;
     put_values(alloc, text, bytes, bases, *cause)?;
+    if let Some(at) = at {
+        put_remedy(text, remedy(file, *cause, bytes, bases, at))?;
+    }
     text.push_str("\n")?;
     if let Some(line) = numbered_line(bytes, number) {
         write!(text, "  {number} | ")?;
@@ -52,6 +57,17 @@ fn put_line_cause(
     put_fault(text, file, *cause, bytes, bases, at)?;
     put_reason(text, line_reason(file, bytes, bases, at, *cause))?;
     put_hint(text, *cause, fault_word(file, *cause, bytes, bases, at))
+}
+
+/// Appends what to write instead, where that is known.
+fn put_remedy(text: &mut String, remedy: Option<&'static str>) -> Result<(), AllocError> {
+    match remedy {
+        Some(words) => {
+            text.push_str("; ")?;
+            text.push_str(words)
+        }
+        None => Ok(()),
+    }
 }
 
 /// Appends why a file is refused.

@@ -1,6 +1,6 @@
-//! Whose probabilities don't add up to 1 in a stoch file.
+//! Whose probabilities don't add up to 1 in a stoch file: those of a file that is refused, and those that are divided by their sum.
 use file_lines::{Line, end_field, field, field_count, kind_of};
-use frac128::{Frac, parse};
+use frac128::{Frac, Memory, parse, print};
 use smps_words::Names;
 use std::alloc::{AllocError, Global};
 use std::fmt::Write;
@@ -15,15 +15,17 @@ struct Cases {
     sum: Frac,
 }
 
-/// Appends whose probabilities add up to this sum first, and where they stand; nothing where that isn't sure.
-pub fn put_sum(
-    alloc: Global,
-    text: &mut String,
-    stoch: &[u8],
-    sum: Frac,
-) -> Result<(), AllocError> {
+/// All cases of a stoch file, by what they belong to.
+#[derive(Drop)]
+struct Groups {
+    names: Names,
+    cases: Vec<Cases>,
+}
+
+/// The cases that a stoch file states.
+fn groups_of(alloc: Global, stoch: &[u8]) -> Result<Groups, AllocError> {
     let mut names = Names::empty(alloc);
-    let mut groups: Vec<Cases> = Vec::new(alloc);
+    let mut cases: Vec<Cases> = Vec::new(alloc);
     let mut section: &[u8] = &[];
     for (before, line) in stoch.split(|byte| *byte == b'\n').enumerate() {
         match kind_of(line) {
@@ -31,18 +33,75 @@ pub fn put_sum(
             Line::Header(word) => section = word,
             Line::Data => {
                 let number = (before as u64).saturating_add(1);
-                add_line(alloc, &mut names, &mut groups, section, line, number)?;
+                add_line(alloc, &mut names, &mut cases, section, line, number)?;
             }
             Line::Skipped => {}
         }
     }
-    for (place, cases) in groups.iter().enumerate() {
-        if cases.sum == sum && place < names.len() {
-            put_owner(text, names.name(place))?;
+    Ok(Groups { names, cases })
+}
+
+/// Appends whose probabilities add up to this sum first, and where they stand; nothing where that isn't sure.
+pub fn put_sum(
+    alloc: Global,
+    text: &mut String,
+    stoch: &[u8],
+    sum: Frac,
+) -> Result<(), AllocError> {
+    let groups = groups_of(alloc, stoch)?;
+    for (place, cases) in groups.cases.iter().enumerate() {
+        if cases.sum == sum && place < groups.names.len() {
+            put_owner(text, groups.names.name(place))?;
             return put_lines(text, cases.from, cases.to);
         }
     }
     Ok(())
+}
+
+/// Appends whose probabilities were divided by their sum, since it isn't 1, behind this beginning.
+/// The first are named, and others counted.
+/// The file has been read without a fault.
+pub fn put_divided(
+    alloc: Global,
+    text: &mut String,
+    start: &str,
+    stoch: &[u8],
+) -> Result<(), AllocError> {
+    let groups = groups_of(alloc, stoch)?;
+    let count = groups
+        .cases
+        .iter()
+        .filter(|cases| !cases.sum.is_one())
+        .count() as u64;
+    for (place, cases) in groups.cases.iter().enumerate() {
+        if !cases.sum.is_one() && place < groups.names.len() {
+            text.push_str(start)?;
+            put_lines(text, cases.from, cases.to)?;
+            text.push_str(": probabilities are divided by their sum, ")?;
+            put_number(alloc, text, cases.sum)?;
+            put_owner(text, groups.names.name(place))?;
+            return put_others(text, count);
+        }
+    }
+    Ok(())
+}
+
+/// Appends how many others there are beside the first, and the end of the line.
+fn put_others(text: &mut String, count: u64) -> Result<(), AllocError> {
+    if count > 1 {
+        let others = count - 1;
+        write!(text, ", and those of {others} more likewise")?;
+    }
+    text.push_str("\n")
+}
+
+/// Appends a number.
+fn put_number(alloc: Global, text: &mut String, number: Frac) -> Result<(), AllocError> {
+    let mut digits = Vec::new(alloc);
+    match print(alloc, number, &mut digits) {
+        Ok(()) => push_line(text, &digits),
+        Err(Memory) => Err(AllocError),
+    }
 }
 
 /// Adds a line that states a case to those that it goes with.

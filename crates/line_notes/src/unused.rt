@@ -112,7 +112,8 @@ impl<'a> Tally<'a> {
     }
 }
 
-fn is_same(left: Set<'_>, right: Set<'_>) -> bool {
+/// Whether two lines of these sets are of the same one.
+pub fn is_same(left: Set<'_>, right: Set<'_>) -> bool {
     match (left.name, right.name) {
         (Some(left), Some(right)) => left == right,
         (None, None) => true,
@@ -122,7 +123,7 @@ fn is_same(left: Set<'_>, right: Set<'_>) -> bool {
 
 /// The set of a data line. A line of RHS or RANGES has pairs of row and value, and a name before them where the number
 /// of fields is odd; one of BOUNDS has the name behind the kind.
-fn set_of(line: &[u8], section: Section) -> Set<'_> {
+pub fn set_of(line: &[u8], section: Section) -> Set<'_> {
     let count = field_count(line);
     let name = match section {
         Section::Rhs | Section::Ranges if count % 2 == 1 => field(line, 0),

@@ -1,15 +1,19 @@
 //! What standard error says of a run.
+use crate::absent::put_absent;
 use crate::based::put_without_basis;
 use crate::checked::put_checked;
+use crate::distance::put_distances;
 use crate::help::{ask_help, put_help};
 use crate::measured::put_measured;
+use crate::partial::put_partial;
 use crate::refusal::{file_start, put_refusal, put_too_long, put_unread};
 use crate::reported::{put_made, put_reported};
 use crate::sheets::{put_lack, put_unproved};
+use crate::titles::put_titles;
 use crate::whole::{put_only_whole, put_some_whole, put_whole};
 use crate::words::put_word_fault;
 use input_files::FileKind;
-use line_notes::{put_doubts, put_most_digits, put_unused};
+use line_notes::{put_divided, put_doubts, put_most_digits, put_unused};
 use smps_cli::{Fetched, Found, Ran, Status, Told};
 use std::alloc::{AllocError, Global};
 use std::fs::Files;
@@ -93,10 +97,7 @@ fn put_found(
     fetched: &Fetched,
 ) -> Result<(), AllocError> {
     match found {
-        Found::Reports(tolds) => {
-            put_tolds(alloc, text, tolds, fetched)?;
-            put_whole(text, tolds)
-        }
+        Found::Reports(tolds) => put_tolds(alloc, text, tolds, fetched),
         Found::WithoutBasis(tolds) => {
             put_without_basis(text, fetched)?;
             put_tolds(alloc, text, tolds, fetched)
@@ -124,22 +125,40 @@ fn put_tolds(
     tolds: &[Told],
     fetched: &Fetched,
 ) -> Result<(), AllocError> {
-    if put_reported(alloc, text, tolds)? {
+    put_distances(alloc, text, tolds)?;
+    put_whole(text, tolds)?;
+    if put_reported(text, tolds)? {
         put_long_numbers(alloc, text, fetched)?;
     }
     put_skipped(alloc, text, fetched)
 }
 
-/// Appends what is said of lines of the core file that aren't used, and of what it may mean otherwise than its writer thinks.
+/// Appends what is said of lines of the core file that aren't used, and of what the files may mean otherwise than their writer thinks.
 fn put_skipped(alloc: Global, text: &mut String, fetched: &Fetched) -> Result<(), AllocError> {
-    match fetched.text(FileKind::Core) {
-        Some(core) => {
-            let start = file_start(alloc, fetched, FileKind::Core)?;
-            put_unused(text, start.as_str(), core)?;
-            put_doubts(text, start.as_str(), core)
-        }
+    let Some(core) = fetched.text(FileKind::Core) else {
+        return Ok(());
+    };
+    let start = file_start(alloc, fetched, FileKind::Core)?;
+    put_unused(text, start.as_str(), core)?;
+    put_doubts(alloc, text, start.as_str(), core)?;
+    put_titles(alloc, text, fetched, core)?;
+    put_absent(alloc, text, fetched, core)?;
+    match fetched.text(FileKind::Stoch) {
+        Some(stoch) => put_cases(alloc, text, fetched, stoch),
         None => Ok(()),
     }
+}
+
+/// Appends what is said of the cases of a stoch file.
+fn put_cases(
+    alloc: Global,
+    text: &mut String,
+    fetched: &Fetched,
+    stoch: &[u8],
+) -> Result<(), AllocError> {
+    let start = file_start(alloc, fetched, FileKind::Stoch)?;
+    put_divided(alloc, text, start.as_str(), stoch)?;
+    put_partial(alloc, text, start.as_str(), stoch)
 }
 
 /// Appends which numbers of the core file and of the stoch file have the most digits.
@@ -159,7 +178,7 @@ fn put_without_files(alloc: Global, text: &mut String, found: &Found) -> Result<
         Found::Summary(summary) => {
             put_made(alloc, text, &summary.report)?;
             if summary.by_whole {
-                put_only_whole(text)?;
+                put_only_whole(text, summary.report.finding)?;
             }
             Ok(())
         }

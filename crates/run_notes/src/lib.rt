@@ -2,15 +2,20 @@
 #![tactic(auto)]
 
 mod about;
+mod absent;
 mod based;
 mod checked;
 mod distance;
 mod explain;
 mod help;
+mod levels;
 mod measured;
+mod partial;
+mod plain;
 mod refusal;
 mod reported;
 mod sheets;
+mod titles;
 mod unread;
 mod whole;
 mod words;

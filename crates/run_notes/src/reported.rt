@@ -1,20 +1,21 @@
 //! What standard error says of reports that are left open.
-use crate::distance::{put_distance, put_distances};
+use crate::distance::put_distance;
 use scen_defs::{Finding, Report};
 use smps_cli::{Measures, Told};
 use std::alloc::{AllocError, Global};
 
 const OPEN_PASSED: &str =
-    "tidzgheba: OPEN PASSED: a result didn't fit into 128 bits, and the ends that were known by then are printed and hold; \
+    "tidzgheba: OPEN PASSED: the least cost isn't told exactly, since a result didn't fit into 128 bits; \
+each end that is printed holds, and where they are near enough the printed policy can be used as it is; \
 fewer significant digits in the data help, other units don't\n";
 
 const OPEN_PIVOTS: &str =
-    "tidzgheba: OPEN PIVOTS: a solve came to the end of its pivots, and the ends that were known by then are printed and hold; \
-a greater --pivots may help\n";
+    "tidzgheba: OPEN PIVOTS: the least cost isn't told exactly, since a solve came to the end of its pivots; \
+each end that is printed holds; a greater --pivots may help\n";
 
 const OPEN_SOLVES: &str =
-    "tidzgheba: OPEN SOLVES: the solves that were allowed have ended, and the ends that were known by then are printed and hold; \
-a greater --solves may help\n";
+    "tidzgheba: OPEN SOLVES: the least cost isn't told exactly, since the solves that were allowed have ended; \
+each end that is printed holds; a greater --solves may help\n";
 
 const MADE_OPEN: &str =
     "tidzgheba: make allows as much as solve does where its words don't say how much; to allow more, \
@@ -72,13 +73,12 @@ impl Opens {
 }
 
 /// Appends a sentence for each kind of OPEN among reports; whether a result didn't fit into 128 bits in one.
-pub fn put_reported(alloc: Global, text: &mut String, tolds: &[Told]) -> Result<bool, AllocError> {
+pub fn put_reported(text: &mut String, tolds: &[Told]) -> Result<bool, AllocError> {
     let mut opens = Opens::none();
     for told in tolds {
         opens = opens.with(told.finding);
     }
     opens.put(text)?;
-    put_distances(alloc, text, tolds)?;
     Ok(opens.passed)
 }
 
@@ -100,9 +100,9 @@ pub fn put_opens(text: &mut String, measures: &Measures) -> Result<bool, AllocEr
 
 /// Appends what is said of the report of a workload.
 pub fn put_made(alloc: Global, text: &mut String, report: &Report) -> Result<(), AllocError> {
+    put_distance(alloc, text, 1, report.finding, report.lower, report.upper)?;
     let opens = Opens::none().with(report.finding);
     opens.put(text)?;
-    put_distance(alloc, text, 1, report.finding, report.lower, report.upper)?;
     if opens.pivots || opens.solves {
         text.push_str(MADE_OPEN)?;
     }

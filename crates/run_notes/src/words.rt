@@ -1,6 +1,7 @@
 //! What is said of words that aren't those of a command. Which words are a command's, `command_words` decides; the library for command
 //! lines is told of the commands by the same table, and says what is wrong with other words, and how a command is called.
 use crate::help::ABOUT;
+use crate::levels::level_fault;
 use clap::builder::ValueParser;
 use clap::error::ErrorKind;
 use clap::{Arg, Command, Error};
@@ -114,7 +115,7 @@ pub fn put_word_fault(
     words: &[String],
 ) -> Result<(), AllocError> {
     match taken(alloc, words) {
-        Ok(()) => text.push_str(TOO_LOOSE),
+        Ok(()) => text.push_str(level_fault(words).unwrap_or(TOO_LOOSE)),
         Err(error) => put_error(alloc, text, &error),
     }
 }
