@@ -299,6 +299,44 @@ def hard_core(seed):
     return program
 
 
+def unlike_core(seed):
+    """Entries of 10^-20, 10^-10, 10^10 and 10^20 beside whole numbers below 10."""
+    chance = random.Random(f"unlike {seed}")
+    program = Program()
+
+    def number():
+        if chance.random() < 0.6:
+            return str(chance.randint(1, 9))
+        return f"{chance.randint(1, 9)}e{chance.choice([-20, 20, -10, 10])}"
+    rows = chance.randint(2, 6)
+    for row in range(rows):
+        program.row(chance.choice("LGLE"), f"R{row}", chance.choice([number(), "0", "1"]))
+    for column in range(chance.randint(2, 8)):
+        entries = [(f"R{row}", chance.choice(["", "", "-"]) + number()) for row in range(rows) if chance.random() < 0.6]
+        program.column(f"X{column}", number(), entries, "0", number() if chance.random() < 0.3 else None)
+    return program
+
+
+def wild_core(seed):
+    """8 to 41 rows with entries of up to 10^-15 to 10^15, of which floats make what they can."""
+    chance = random.Random(f"wild {seed}")
+    program = Program()
+    rows = chance.choice([8, 12, 17, 17, 25, 41])
+    columns = int(rows * chance.choice([1, 1.3, 2]))
+    reach, density = chance.choice([6, 10, 15]), chance.choice([0.2, 0.4, 0.7])
+    is_positive = chance.random() < 0.7
+    kinds = chance.choice(["G", "LG", "LGE"])
+
+    def number():
+        return f"{chance.randint(1, 99)}e{chance.randint(-reach, reach)}"
+    for row in range(rows):
+        program.row(chance.choice(kinds), f"R{row}", number())
+    for column in range(columns):
+        entries = [(f"R{row}", ("" if is_positive else chance.choice(["", "-"])) + number()) for row in range(rows) if chance.random() < density]
+        program.column(f"X{column}", number(), entries, "0", number() if chance.random() < 0.3 else None)
+    return program
+
+
 # ---- programs on trees
 
 def nested(periods, cases, items, digits, seed):

@@ -2,7 +2,7 @@
 
 use crate::dual_choice::{Offer, PIVOT, entering, leaving};
 use crate::dual_steps::{Leaving, exceed, flip, reweigh, step};
-use crate::solver::End;
+use crate::solver::{End, most_steps};
 use bounded_basis::{Basis, FloatProgram, Vector, constant, narrow};
 use std::alloc::{AllocError, Global};
 
@@ -69,9 +69,9 @@ impl DualRun {
         self.refresh(program, basis)
     }
 
-    /// Steps until the method ends; each turn takes work.
+    /// Steps until the method ends, unless it goes round.
     fn turns(&mut self, program: &FloatProgram, basis: &mut Basis) -> Result<End, AllocError> {
-        for _turn in 0..basis.work_left {
+        for _turn in 0..most_steps(basis) {
             if let Some(end) = self.turn(program, basis)? {
                 return Ok(end);
             }

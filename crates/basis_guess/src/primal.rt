@@ -3,7 +3,7 @@
 use crate::dual::{RETRIES, agree};
 use crate::primal_choice::{Leave, entering, leaving};
 use crate::primal_steps::{flip, reprice, step};
-use crate::solver::End;
+use crate::solver::{End, most_steps};
 use bounded_basis::{Basis, FloatProgram, Vector, constant};
 use std::alloc::{AllocError, Global};
 
@@ -41,9 +41,9 @@ impl PrimalRun {
         })
     }
 
-    /// Steps until the method ends; each turn takes work.
+    /// Steps until the method ends, unless it goes round.
     fn turns(&mut self, program: &FloatProgram, basis: &mut Basis) -> Result<End, AllocError> {
-        for _turn in 0..basis.work_left {
+        for _turn in 0..most_steps(basis) {
             if let Some(end) = self.turn(program, basis)? {
                 return Ok(end);
             }

@@ -19,6 +19,12 @@ const FEW: usize = 500_000;
 /// So many steps for each line and each place are made beside a dense tableau.
 const TURNS: usize = 10;
 
+/// So many steps of a method for each row and each column are made with factors, and so many more: where they don't come to an end by then,
+/// rounding errors lead them round.
+const STEPS: u64 = 40;
+
+const MORE_STEPS: u64 = 1000;
+
 /// How a solve ends.
 #[derive(Clone, Copy, PartialEq)]
 pub enum End {
@@ -151,6 +157,13 @@ impl Ended {
         }
         Ok(())
     }
+}
+
+/// So many steps of a method are made at most with factors.
+pub(crate) fn most_steps(basis: &Basis) -> u64 {
+    let lines = basis.spots.len() as u64;
+    let steps = lines.saturating_mul(STEPS).saturating_add(MORE_STEPS);
+    steps.min(basis.work_left)
 }
 
 /// The tolerance of reduced costs.

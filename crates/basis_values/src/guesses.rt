@@ -6,8 +6,9 @@ use crate::ray::ray_of;
 use crate::refuted::is_refuted;
 use crate::solution::{Solution, solution_of};
 use crate::zoom::zoomed;
-use basis_guess::{End, Ended, Standing, solve, solve_with_factors};
+use basis_guess::{End, Ended, FloatProgram, Standing, solve, solve_with_factors};
 use frac128::{Frac, Memory};
+use scaled_guess::{are_unlike, solve_scaled};
 use std::alloc::Global;
 use std::mem::replace;
 
@@ -107,6 +108,28 @@ fn take(ended: Ended, standings: &mut Vec<Standing>, work: &mut u64) -> End {
     end
 }
 
+/// How a program is solved in floats.
+#[derive(Clone, Copy)]
+enum Manner {
+    /// As it is.
+    Plain,
+    /// Its columns too multiplied by powers of 2.
+    Scaled,
+}
+
+fn solved(
+    alloc: Global,
+    program: &FloatProgram,
+    standings: &[Standing],
+    work: u64,
+    manner: Manner,
+) -> Result<Ended, Memory> {
+    match manner {
+        Manner::Plain => Ok(solve(alloc, program, standings, work)?),
+        Manner::Scaled => Ok(solve_scaled(alloc, program, standings, work)?),
+    }
+}
+
 /// Solves the program around a refuted solution.
 fn repaired(
     alloc: Global,
@@ -114,9 +137,10 @@ fn repaired(
     solution: &Solution,
     standings: &mut Vec<Standing>,
     work: &mut u64,
+    manner: Manner,
 ) -> Result<End, Memory> {
     let near = zoomed(alloc, program, solution)?;
-    let ended = solve(alloc, &near, standings, *work)?;
+    let ended = solved(alloc, &near, standings, *work, manner)?;
     Ok(take(ended, standings, work))
 }
 
@@ -128,6 +152,7 @@ fn exact_end(
     ended: Ended,
     standings: &mut Vec<Standing>,
     work: &mut u64,
+    manner: Manner,
 ) -> Result<Guessed, Memory> {
     let mut end = take(ended, standings, work);
     if let End::Unbounded = &end {
@@ -143,16 +168,35 @@ fn exact_end(
                 if *work == 0 {
                     return Ok(Guessed::Nothing);
                 }
-                end = repaired(alloc, program, &solution, standings, work)?;
+                end = repaired(alloc, program, &solution, standings, work, manner)?;
             }
         }
     }
     Ok(Guessed::Nothing)
 }
 
+/// The same where the end has no exact answer: with factors, where it was one beside a dense tableau.
+fn exact_end_or_factors(
+    alloc: Global,
+    program: &ExactProgram,
+    ended: Ended,
+    start: &[Standing],
+    standings: &mut Vec<Standing>,
+    work: &mut u64,
+) -> Result<Guessed, Memory> {
+    let guessed = exact_end(alloc, program, ended, standings, work, Manner::Plain)?;
+    if let Guessed::Nothing = &guessed {
+        if let Some(again) = solve_with_factors(alloc, program.floats(), start, *work)? {
+            return exact_end(alloc, program, again, standings, work, Manner::Plain);
+        }
+    }
+    Ok(guessed)
+}
+
 /// From the end of a solve in floats, which began with `standings`, to exact numbers, repaired where they fail the exact test. Where an
-/// end beside a dense tableau gives none, the program is solved with factors from the same standings. `standings` become
-/// those of the last solve, and `work` what is left.
+/// end beside a dense tableau gives none, the program is solved with factors from the same standings; where that gives none either and
+/// entries are of unlike sizes, so is the program with its columns multiplied too. `standings` become those of the last solve, and `work`
+/// what is left.
 pub fn guess_from(
     alloc: Global,
     program: &ExactProgram,
@@ -161,10 +205,11 @@ pub fn guess_from(
     work: &mut u64,
 ) -> Result<Guessed, Memory> {
     let start = replace(standings, Vec::new(alloc));
-    let guessed = exact_end(alloc, program, ended, standings, work)?;
+    let guessed = exact_end_or_factors(alloc, program, ended, &start, standings, work)?;
     if let Guessed::Nothing = &guessed {
-        if let Some(again) = solve_with_factors(alloc, program.floats(), &start, *work)? {
-            return exact_end(alloc, program, again, standings, work);
+        if are_unlike(program.floats()) {
+            let again = solve_scaled(alloc, program.floats(), &start, *work)?;
+            return exact_end(alloc, program, again, standings, work, Manner::Scaled);
         }
     }
     Ok(guessed)

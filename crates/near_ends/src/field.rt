@@ -147,7 +147,7 @@ impl Field {
     /// The number of a column that has this float.
     pub(crate) fn number(&self, place: usize, value: f64) -> Frac {
         if self.is_enlarged {
-            add_fine(at(&self.from, place), value / ZOOM)
+            add_fine(at(&self.from, place), value / ZOOM, 1.0)
         } else {
             rounded(value)
         }

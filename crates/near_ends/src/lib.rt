@@ -4,7 +4,6 @@
 #![tactic(auto)]
 
 mod field;
-mod meet;
 mod multipliers;
 mod point;
 mod round;

@@ -1,7 +1,6 @@
 //! Multipliers near the optimal ones.
 
 use crate::field::{FINE_MARGIN, MARGIN, ZOOM, factor, solved};
-use crate::meet::{Equations, moved};
 use crate::round::{add_fine, at, float_at, rounded};
 use crate::standings::dual_standings;
 use crate::tests::{are_good, reduced_costs};
@@ -9,6 +8,7 @@ use basis_factors::Entry;
 use basis_guess::{End, FloatProgram, Standing, Turned};
 use basis_values::ExactProgram;
 use decimals::float;
+use exact_steps::{Equations, moved};
 use frac128::{Frac, Memory};
 use std::alloc::Global;
 
@@ -20,6 +20,9 @@ const FINE_TURNS: u32 = 4;
 
 /// A multiplier of a row with one end is moved only where it is so far from 0.
 const INSIDE: f64 = 0.000001;
+
+/// A row that is multiplied by less has large entries.
+const LARGE_ROW: f64 = 0.0001;
 
 /// The columns of the dual that stand for a row: the first and how many.
 #[derive(Clone, Copy)]
@@ -96,14 +99,25 @@ impl Seen {
         float(at(&self.multipliers, row)) * self.zoom()
     }
 
-    /// The multiplier of a row that has this float.
-    fn number(&self, row: usize, value: f64) -> Frac {
+    /// The multiplier of a row that has this float where the row is multiplied by a factor: that of a row with large entries is small, and
+    /// has more places where the dual is enlarged.
+    fn number(&self, row: usize, value: f64, factor: f64) -> Frac {
+        let value = value * factor;
         if self.is_enlarged {
-            add_fine(at(&self.multipliers, row), value / ZOOM)
+            add_fine(
+                at(&self.multipliers, row),
+                value / ZOOM,
+                1.0 / smallness(factor),
+            )
         } else {
             rounded(value)
         }
     }
+}
+
+/// How small the multiplier of a row is that is multiplied by a factor: 1 where its entries aren't large.
+fn smallness(factor: f64) -> f64 {
+    if factor < LARGE_ROW { factor } else { 1.0 }
 }
 
 /// The bound that a reduced cost can only use, where there is one bound; 0 without one.
@@ -403,9 +417,9 @@ fn on_side(low: Option<Frac>, high: Option<Frac>, value: Frac) -> Frac {
     if is_kept { value } else { Frac::zero() }
 }
 
-/// Whether a multiplier may be moved: its row has both ends, or it is far from 0.
-fn may_move(low: Option<Frac>, high: Option<Frac>, value: Frac) -> bool {
-    (low.is_some() && high.is_some()) || float(value).abs() > INSIDE
+/// Whether the multiplier of a row that is multiplied by a factor may be moved: the row has both ends, or it is far from 0.
+fn may_move(low: Option<Frac>, high: Option<Frac>, value: Frac, factor: f64) -> bool {
+    (low.is_some() && high.is_some()) || float(value).abs() > INSIDE * smallness(factor)
 }
 
 /// The reduced costs of columns without bounds and of those that are pinned, as equations over the multipliers that may be moved; none
@@ -437,8 +451,9 @@ fn equations(
         }
     }
     let mut number: u32 = 0;
-    for row in program.rows() {
-        if may_move(row.low, row.high, at(multipliers, number as usize)) {
+    for (row, scaled) in program.rows().iter().zip(program.floats().rows.iter()) {
+        let by = factor(&row.entries, scaled);
+        if may_move(row.low, row.high, at(multipliers, number as usize), by) {
             for entry in &row.entries {
                 let column = entry.at as usize;
                 if column < places.len() {
@@ -473,7 +488,7 @@ fn rounded_multipliers(
         for more in 0..part.count {
             sum += float_at(values, part.first.saturating_add(more) as usize);
         }
-        let value = seen.number(number, sum * factor(&row.entries, scaled));
+        let value = seen.number(number, sum, factor(&row.entries, scaled));
         all.push(on_side(row.low, row.high, value))?;
     }
     Ok(all)
@@ -506,7 +521,7 @@ fn multipliers_at(
     let Some(equations) = equations(alloc, program, &all, &pinned)? else {
         return Ok(None);
     };
-    let Some(moves) = equations.moves(alloc, program.row_count())? else {
+    let Some(moves) = equations.moves(alloc, program.row_count(), work)? else {
         return Ok(None);
     };
     if moved(&mut all, &moves) && are_good(alloc, program, &all)? {

@@ -1,13 +1,13 @@
 //! A policy near the optimal one.
 
 use crate::field::{Field, solved};
-use crate::meet::{Equations, moved};
 use crate::round::{at, float_at, narrow, within, zeros};
 use crate::tests::{activity, is_point};
 use basis_factors::Entry;
 use basis_guess::{End, FloatProgram, Standing};
 use basis_values::{ExactProgram, ExactRow};
 use decimals::float_difference;
+use exact_steps::{Equations, moved};
 use frac128::{Frac, Memory};
 use std::alloc::Global;
 
@@ -242,12 +242,13 @@ fn met(
     field: &Field,
     places: &[Place],
     values: &[f64],
+    work: &mut u64,
 ) -> Result<Option<Vec<Frac>>, Memory> {
     let mut point = rounded_point(alloc, program, field, values)?;
     let Some(equations) = equations(alloc, program, places, &point)? else {
         return Ok(None);
     };
-    let Some(moves) = equations.moves(alloc, program.column_count())? else {
+    let Some(moves) = equations.moves(alloc, program.column_count(), work)? else {
         return Ok(None);
     };
     if moved(&mut point, &moves) && is_point(program, &point) {
@@ -280,7 +281,7 @@ fn point_at(
     if ended.end != End::Optimal {
         return Ok(None);
     }
-    met(alloc, program, field, &put, &ended.point)
+    met(alloc, program, field, &put, &ended.point, work)
 }
 
 /// The point by one margin after the other, a few at most.

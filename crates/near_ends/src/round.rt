@@ -5,16 +5,22 @@ use std::alloc::Global;
 use std::num::saturating_f64_to_u64;
 
 /// So many parts a unit has.
-const PARTS: u64 = 1_000_000_000_000;
+const PARTS: u128 = 1_000_000_000_000;
 
 /// The same as a float.
 const PARTS_OF_UNIT: f64 = 1_000_000_000_000.0;
 
 /// So many parts a unit has where what is rounded is small.
-const FINE_PARTS: u64 = 1_000_000_000_000_000;
+const FINE_PARTS: u128 = 1_000_000_000_000_000;
 
 /// The same as a float.
 const FINE_PARTS_OF_UNIT: f64 = 1_000_000_000_000_000.0;
+
+/// Below this a float is a number of 64 bits.
+const MOST: f64 = 9_000_000_000_000_000_000.0;
+
+/// So many more places there are at most.
+const MORE_PLACES: u32 = 15;
 
 /// From this size on a number is whole.
 const LARGE: f64 = 10_000_000.0;
@@ -25,13 +31,6 @@ pub(crate) fn at(list: &[Frac], place: usize) -> Frac {
         list[place]
     } else {
         Frac::zero()
-    }
-}
-
-/// Writes a number at a place, if the list has it.
-pub(crate) fn put(list: &mut [Frac], place: usize, value: Frac) {
-    if place < list.len() {
-        list[place] = value;
     }
 }
 
@@ -60,14 +59,31 @@ pub(crate) fn zeros(alloc: Global, count: usize) -> Result<Vec<Frac>, Memory> {
 const FINE_LARGE: f64 = 10_000.0;
 
 /// A fraction; 0 where it doesn't fit.
-fn fraction(size: u64, parts: u64) -> Frac {
-    if parts == 0 {
+fn fraction(size: u64, parts: u128) -> Frac {
+    if parts == 0 || parts > i128::MAX as u128 {
         return Frac::zero();
     }
     match Frac::new(size as i128, parts as i128) {
         Some(number) => number,
         None => Frac::zero(),
     }
+}
+
+/// A number of parts of the unit, of which there are so many; more of them for what counts so many times as much, as far as they can be
+/// counted.
+fn in_parts(count: f64, parts: u128, times: f64) -> Frac {
+    let mut all = parts;
+    let mut count = count;
+    let mut left = times;
+    for _place in 0..MORE_PLACES {
+        if left < 10.0 || count * 10.0 >= MOST {
+            break;
+        }
+        all = all.saturating_mul(10);
+        count *= 10.0;
+        left /= 10.0;
+    }
+    fraction(saturating_f64_to_u64(count + 0.5), all)
 }
 
 /// A float with twelve places behind its point, a whole number where it is large.
@@ -81,12 +97,12 @@ pub(crate) fn rounded(value: f64) -> Frac {
     if value < 0.0 { number.neg() } else { number }
 }
 
-/// A number and a float, which is rounded to fifteen places behind the point; where it is large, to twelve.
-pub(crate) fn add_fine(number: Frac, value: f64) -> Frac {
+/// A number and a float, which is rounded to fifteen places behind the point, and one more for each ten times that it counts; where it is
+/// large, to twelve.
+pub(crate) fn add_fine(number: Frac, value: f64, times: f64) -> Frac {
     let size = value.abs();
     let more = if size < FINE_LARGE {
-        let parts = saturating_f64_to_u64(size * FINE_PARTS_OF_UNIT + 0.5);
-        let found = fraction(parts, FINE_PARTS);
+        let found = in_parts(size * FINE_PARTS_OF_UNIT, FINE_PARTS, times);
         if value < 0.0 { found.neg() } else { found }
     } else {
         rounded(value)

@@ -2,14 +2,12 @@
 //! without children, whose rows and costs stay the same from solve to solve.
 
 use crate::answers::lone_guess;
-use crate::draft::is_priced;
-use crate::hints::Hint;
-use crate::split::place_of;
 use basis_factors::Entry;
 use basis_guess::Standing;
 use cut_defs::ColumnBounds;
 use exact_systems::System;
 use frac128::{ArithmeticFault, Frac, Memory, Passed};
+use node_draft::{Hint, is_priced, place_of};
 use node_lp::{Guess, Task};
 use scen_defs::NodeRow;
 use std::alloc::Global;

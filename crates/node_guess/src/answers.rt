@@ -3,12 +3,9 @@ ghost use Rattle.std.specs.Prelude.{IsTrue};
 ghost use Rattle.rationals.specs.Sparse.{Ascending};
 ghost use Rattle.rationals.specs.Forms.{EndsBelow};
 
-use crate::draft::Draft;
-use crate::floats::{FloatCut, FloatCuts};
-use crate::groups::{factor, group_at};
-use crate::hints::HeldCut;
 use cut_defs::ColumnBounds;
 use frac128::{ArithmeticFault, Form, Frac, Memory, Passed, Term};
+use node_draft::{Draft, FloatCut, FloatCuts, HeldCut, group_at, group_factor};
 use node_lp::{Guess, Multipliers, Task};
 use scen_defs::NodeRow;
 use std::alloc::Global;
@@ -116,7 +113,7 @@ fn add_at(list: &mut [Frac], place: usize, by: Frac, value: Frac) -> Result<(), 
 fn factor_in(task: &Task, draft: &Draft, first: usize, count: usize, child: usize) -> Frac {
     match group_at(&draft.groups, first, count) {
         Some(number) if count != 1 && number < draft.groups.len() => {
-            factor(task, &draft.groups[number], child)
+            group_factor(task, &draft.groups[number], child)
         }
         _ => Frac::one(),
     }

@@ -1,16 +1,14 @@
 //! Which cuts become rows: those that a point breaks.
 
-use crate::cut_rows::end_bounds;
-use crate::draft::{Draft, cut_at};
-use crate::floats::{FloatCut, FloatCuts, Sum, at, distance, value_at};
-use crate::groups::{Group, factor};
-use crate::hints::HeldCuts;
-use crate::split::place_of;
 use basis_guess::Standing;
 use cut_defs::CutKind;
 use cut_proof::Cut;
 use decimals::float;
 use frac128::{ArithmeticFault, Frac, Memory, Passed};
+use node_draft::{
+    Draft, FloatCut, FloatCuts, Group, HeldCuts, Sum, cut_at, distance, end_bounds, float_at,
+    group_factor, place_of, value_at,
+};
 use node_lp::Task;
 use std::alloc::Global;
 
@@ -127,7 +125,7 @@ fn push_group(
         let by = if group.is_plain {
             1.0
         } else {
-            float(factor(task, group, place))
+            float(group_factor(task, group, place))
         };
         sum.value += by * best.sum.value;
         sum.size += by * best.sum.size;
@@ -153,7 +151,7 @@ pub(crate) fn broken(
 ) -> Result<HeldCuts, Memory> {
     let mut all = HeldCuts::new(alloc);
     for (number, group) in draft.groups.iter().enumerate() {
-        let limit = at(point, draft.own.saturating_add(number));
+        let limit = float_at(point, draft.own.saturating_add(number));
         if group.count != 1 {
             push_group(alloc, &mut all, task, draft, group, limit, point)?;
         } else if group.first < draft.children.len() {
@@ -343,7 +341,7 @@ fn test_group(
     {
         match exactly_greatest(task, place, cuts, near, point)? {
             Some(best) => {
-                sum = sum.add_product(factor(task, group, place), best.value)?;
+                sum = sum.add_product(group_factor(task, group, place), best.value)?;
                 tested.costs.push(best.value)?;
                 if let Ok(number) = u32::try_from(best.number) {
                     numbers.push(number)?;

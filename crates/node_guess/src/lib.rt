@@ -5,15 +5,10 @@
 mod again;
 mod answers;
 mod broken;
-mod cut_rows;
-mod draft;
-mod floats;
-mod groups;
 mod hints;
 mod rounds;
 mod sizes;
 mod solved;
-mod split;
 
 pub use hints::{Hints, LentHint};
 pub use sizes::effort;

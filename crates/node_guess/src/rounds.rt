@@ -2,13 +2,10 @@
 
 use crate::answers::{point_guess, ray_guess};
 use crate::broken::{Tested, broken, exactly_tested, open};
-use crate::cut_rows::{add_first, add_rows};
-use crate::draft::{Draft, first_draft};
-use crate::groups::size_of;
-use crate::hints::{HeldCuts, Hint};
 use basis_guess::{End, Ended, Standing, solve};
 use basis_values::{Guessed, Solution, guess_from};
 use frac128::{ArithmeticFault, Memory};
+use node_draft::{Draft, HeldCuts, Hint, add_first, add_rows, first_draft, size_of};
 use node_lp::{Guess, Task};
 use std::alloc::Global;
 use std::mem::replace;

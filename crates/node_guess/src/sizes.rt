@@ -1,9 +1,9 @@
 //! How large a node's program is, which decides whether it is guessed first and how long a guess may take.
 
-use crate::draft::{is_priced, is_taken};
 use cut_defs::ColumnBounds;
 use cut_proof::ChildCuts;
 use frac128::Frac;
+use node_draft::{is_priced, is_taken};
 use node_lp::Task;
 use scen_defs::NodeRow;
 

@@ -5,10 +5,11 @@ ghost use Rattle.node_lp.specs.Tested.{IsToldOf};
 ghost use Rattle.node_lp.specs.Answers.{IsAnswer};
 
 use crate::again::again;
-use crate::hints::{Hint, LentHint};
+use crate::hints::LentHint;
 use crate::rounds::try_guess;
 use crate::sizes::{is_small, work};
 use frac128::Memory;
+use node_draft::Hint;
 use node_lp::{Solved, Task, solve_node};
 use std::alloc::Global;
 

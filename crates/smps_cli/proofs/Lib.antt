@@ -14,3 +14,4 @@ pub mod RiskPrograms
 pub mod RiskLemmas
 pub mod TruthLemmas
 pub mod BasedLemmas
+pub mod HeadlineLemmas

@@ -42,8 +42,9 @@ use Rattle.smps_cli.specs.Answers.{Answers, Written, MayAnswerFor, MayAnswerTask
 use Rattle.smps_cli.specs.Ends.{MayEnd, RefusesTexts}
 use Rattle.smps_cli.specs.Solved.{PrintsReports, stated_of, told_text, any_open}
 use Rattle.smps_cli.specs.Risks.{PrintsRisk, IsRiskSolve, RefusesRiskSolve, RiskComes, RefusesRisk}
-use Rattle.smps_cli.specs.Truths.{Printed, printed_text, passing_reasons, IsTruth, AreTruths, is_one_open, TellsTruths}
-use Rattle.smps_cli.specs.Truths.{PrintsTruths, PrintsRiskTruth, WritesTruths, TruthsFor, RunTruths}
+use Rattle.headline.specs.Headline.{Printed, printed_text, is_one_open, WritesTruths}
+use Rattle.smps_cli.specs.Truths.{passing_reasons, IsTruth, AreTruths, TellsTruths}
+use Rattle.smps_cli.specs.Truths.{PrintsTruths, PrintsRiskTruth, TruthsFor, RunTruths}
 use Rattle.smps_cli.specs.Based.{PrintsShown, PrintsBasis, RefusesBasis}
 
 -- ---- one report
@@ -203,11 +204,11 @@ abbrev pub HasReports : Status → Type 0
 HasReports status = (status ≡ Done) ⊎ (status ≡ SomeOpen)
 
 -- a refusal isn't
-not_refused : (file : FileKind) (line : ℕ) (cause : Cause) (status : Status) → status ≡ Refused file line cause → HasReports status → ⊥
+pub not_refused : (file : FileKind) (line : ℕ) (cause : Cause) (status : Status) → status ≡ Refused file line cause → HasReports status → ⊥
 not_refused file line cause status e (inl d) = absurd (cc)
 not_refused file line cause status e (inr d) = absurd (cc)
 
-no_refusal : (f : TailFault) (status : Status) (output : List ℕ) → RefusesRisk f status output → HasReports status → ⊥
+pub no_refusal : (f : TailFault) (status : Status) (output : List ℕ) → RefusesRisk f status output → HasReports status → ⊥
 no_refusal fault.Name status output h done = not_refused _ _ _ status h.0 done
 no_refusal fault.Limit status output h done = not_refused _ _ _ status h.0 done
 no_refusal (fault.Passed o) status output h done = not_refused _ _ _ status h.0 done
@@ -231,7 +232,7 @@ risk_is_true m budget texts status output done h = go (tail_end h.read m.level m
 -- ---- a run
 
 -- such an end prints what is to be printed
-prints : (is : Status → List ℕ → Type 0) (refuses : FileKind → ℕ → Cause → List ℕ → Type 0) (status : Status) (output : List ℕ) → HasReports status
+pub prints : (is : Status → List ℕ → Type 0) (refuses : FileKind → ℕ → Cause → List ℕ → Type 0) (status : Status) (output : List ℕ) → HasReports status
     → MayEnd is refuses status output → is status output
 prints is refuses Done output done h = h
 prints is refuses SomeOpen output done h = h
@@ -254,7 +255,7 @@ not_unwritten : (status : Status) → status ≡ WriteFault → HasReports statu
 not_unwritten status e (inl d) = absurd (cc)
 not_unwritten status e (inr d) = absurd (cc)
 
-not_memory : (status : Status) → status ≡ Memory → HasReports status → ⊥
+pub not_memory : (status : Status) → status ≡ Memory → HasReports status → ⊥
 not_memory status e (inl d) = absurd (cc)
 not_memory status e (inr d) = absurd (cc)
 
@@ -268,7 +269,7 @@ failure_tells_nothing = not_unwritten WriteFault refl
 module _ (content : Option Files) (before after : Option (List ℕ)) (taken taken_after : ℕ) where
   module _ (words : List (List ℕ)) (status : Status) (w : Written content words before after taken taken_after status) (done : HasReports status) where
     -- what a task printed, by what it says
-    writes : (names : FileNames) (task : Task) (truths : Texts → Status → List ℕ → Type 0)
+    pub writes : (names : FileNames) (task : Task) (truths : Texts → Status → List ℕ → Type 0)
         → ((texts : Texts) (s : Status) → HasReports s → MayCome task texts s w.output → truths texts s w.output)
         → MayAnswerTask content names task w.meant w.output → WritesTruths truths content names before after taken taken_after status
     writes names task truths so may = go w.ends may

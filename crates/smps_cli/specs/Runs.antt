@@ -7,6 +7,7 @@ use Rattle.command_words.specs.Commands.{command_of}
 use Rattle.input_files.specs.declared.kind.FileKind.{FileKind}
 use Rattle.exit_status.specs.declared.status.Status.{Status}
 use Rattle.exit_status.specs.declared.status.Status.TheVariants.{Words, ReadFault, WriteFault}
+use Rattle.headline.specs.Headline.{Headline}
 use Rattle.smps_cli.specs.Answers.{Answers}
 use Rattle.smps_cli.specs.Completes.{AsksForReport, EndsOrWantsMemory, AsksOfProgram, EndsTask, AsksForWorkload, AnswersOrWantsMemory}
 use Rattle.smps_cli.specs.Sources.{HasFetched, LastSaysLong, fetch_order}
@@ -33,7 +34,9 @@ sink_state written faults taken = record { written = written; faults = faults; t
 -- A run of the words `call` came to this status.
 pub record IsRun (call : List (List ℕ)) (content : Option Files) (shelf shelf_after : ShelfState) (sink sink_after : SinkState)
     (status : Status) : Type 0 where
-  -- what `solve` printed, where it ends with status 0 or 1, is true of the program that the files mean
+  -- what `solve` and `check` wrote, where they end with status 0 or 1, is so of the program that the files mean
+  pub headline : Headline (command_of call) content sink.written sink_after.written sink.taken sink_after.taken status
+  -- the lists of what `solve` wrote show it
   pub truths : RunTruths (command_of call) content sink.written sink_after.written sink.taken sink_after.taken status
   -- the words are refused only where they aren't those of a command, and then no file is fetched
   pub words : status ≡ Words → command_of call ≡ None

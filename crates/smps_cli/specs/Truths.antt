@@ -1,42 +1,30 @@
 -- What is true of the reports that `solve` prints, whatever found them.
-use Rattle.std.specs.Prelude.{◌≡◌, ◌⊎◌, ⊤, ℕ, ◌+◌, Bool, true, false, ◌||◌, List, [], ◌∷◌, length, Option, Some}
+use Rattle.std.specs.Prelude.{◌≡◌, ◌⊎◌, ⊤, ℕ, ◌+◌, true, List, [], ◌∷◌, Option, Some}
 use Rattle.std.specs.List.{flat_map}
 use Rattle.rationals.specs.Passes.{passes}
 use Rattle.smps_io.specs.Files.{Files}
-use Rattle.smps_io.specs.Faults.{RoseBy}
-use Rattle.smps_io.specs.Puts.{Appends}
 use Rattle.scen_defs.specs.Program.{Program, content, view_of}
-use Rattle.scen_defs.specs.declared.program.Program.{Program as ProgramOf}
-use Rattle.scen_defs.specs.declared.report.Report.{Report}
 use Rattle.edit_defs.specs.declared.edit.Act.TheVariants.{Change, Solve}
 use Rattle.edit_defs.specs.declared.edit.Item.{Item}
 use Rattle.edit_defs.specs.After.{after}
 use Rattle.edit_script.specs.Script.{report_item}
 use Rattle.report_defs.specs.Truth.{IsTrue, HasCounts, Reasons}
-use Rattle.report_text.specs.Text.{report_text}
 use Rattle.smps_session.specs.Lists.{ListsAreOf}
 use Rattle.command_words.specs.declared.command.RiskMeasure.{RiskMeasure}
 use Rattle.command_words.specs.declared.command.Task.TheVariants as task
-use Rattle.command_words.specs.Commands.{FileNames, Asked}
+use Rattle.command_words.specs.Commands.{Asked}
 use Rattle.command_words.specs.Commands.Asked.{OnFiles}
-use Rattle.input_files.specs.Fetched.{Texts, AreGiven}
+use Rattle.input_files.specs.Fetched.{Texts}
 use Rattle.program_files.specs.Meant.{MeansProgram}
 use Rattle.program_files.specs.Edited.{MeansScript}
 use Rattle.tail_risk.specs.TailProgram.{tail_of}
 use Rattle.exit_status.specs.declared.status.Status.{Status}
 use Rattle.exit_status.specs.declared.status.Status.TheVariants.{Done, SomeOpen}
-use Rattle.exit_status.specs.Findings.{is_open_finding, open_status}
+use Rattle.exit_status.specs.Findings.{open_status}
+use Rattle.headline.specs.Headline.{Printed, printed_text, is_one_open, WritesTruths}
 use Rattle.smps_cli.specs.Risks.{CostsAreRisks}
 
 -- ---- one report
-
--- a report, and the program with whose names it is printed
-pub record Printed : Type 0 where
-  pub program : ProgramOf
-  pub report : Report
-
-abbrev pub printed_text : Printed → List ℕ
-printed_text one = report_text one.program one.report
 
 -- OPEN PASSED names an operation that passes 128 bits. Why else a report is open isn't said.
 abbrev pub passing_reasons : Reasons
@@ -67,11 +55,6 @@ AreTruths number p (item ∷ items) printed = elim item.act [
       × (printed ≡ one ∷ others) × IsTruth number p one × AreTruths (number + 1) p items others
 ]
 
--- one of them is open
-abbrev pub is_one_open : List Printed → Bool
-is_one_open [] = false
-is_one_open (one ∷ others) = is_open_finding one.report.finding || is_one_open others
-
 -- The output is their texts, from REPORT 1 on, and nothing else. The status is 1 where one is open, and 0 where none is.
 pub record TellsTruths (p : Program) (items : List Item) (status : Status) (output : List ℕ) : Type 0 where
   pub printed : List Printed
@@ -100,17 +83,6 @@ pub record PrintsRiskTruth (m : RiskMeasure) (texts : Texts) (status : Status) (
   pub tells : TellsTruths made (report_item ∷ []) status output
 
 -- ---- a run
-
--- Texts were given for the files that are named, those of the shelf where it tells what it holds, and an output was written, all of it, of
--- which this holds. A sink that doesn't tell what was written took as many bytes.
-pub record WritesTruths (prints : Texts → Status → List ℕ → Type 0) (files : Option Files) (names : FileNames)
-    (before after : Option (List ℕ)) (taken taken_after : ℕ) (status : Status) : Type 0 where
-  pub texts : Texts
-  pub given : AreGiven files names texts
-  pub output : List ℕ
-  pub tells : prints texts status output
-  pub written : Appends before output after
-  pub took : RoseBy taken (length output) taken_after
 
 -- by the words; of commands other than `solve` nothing is said here
 abbrev pub TruthsFor : Option Asked → Option Files → Option (List ℕ) → Option (List ℕ) → ℕ → ℕ → Status → Type 0

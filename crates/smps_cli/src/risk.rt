@@ -29,7 +29,7 @@ use report_reader::read_reports;
 use run_watch::Watch;
 use scen_defs::{Program, Report};
 use script_checks::{all_hold, check_script};
-use smps_session::{StatedLimits, scripted};
+use smps_session::{StatedLimits, WholeHint, scripted};
 use std::alloc::Global;
 use tail_risk::{TailFault, tail_program};
 
@@ -100,14 +100,15 @@ fn solved_read<W: Watch>(
         ComesWithin (λ kept. IsRiskSolve measure.now kept (texts_view texts.now)) budget answer.status (found_text answer.found)) }
 {
     if goes_together(program, budget) {
-        solved_together(alloc, texts, program, measure, budget, watch)
+        solved_anew(alloc, texts, program, measure, budget, watch)
     } else {
-        solved_by_method(alloc, texts, program, measure, budget, watch)
+        let mut hint = WholeHint::empty(alloc);
+        solved_by_method(alloc, texts, program, measure, budget, &mut hint, watch)
     }
 }
 
-/// The answer for the program of the texts, with all nodes together; by the method, if that leaves something open.
-fn solved_together<W: Watch>(
+/// The answer for the program of the texts, with all nodes together, of which nothing is known.
+fn solved_anew<W: Watch>(
     alloc: Global,
     texts: &Texts,
     program: &Program,
@@ -121,29 +122,52 @@ fn solved_together<W: Watch>(
     ensures { IfOk result (λ answer.
         ComesWithin (λ kept. IsRiskSolve measure.now kept (texts_view texts.now)) budget answer.status (found_text answer.found)) }
 {
+    let mut hint = WholeHint::empty(alloc);
+    solved_together(alloc, texts, program, measure, budget, &mut hint, watch)
+}
+
+/// The answer for the program of the texts, with all nodes together; by the method, if that leaves something open.
+fn solved_together<W: Watch>(
+    alloc: Global,
+    texts: &Texts,
+    program: &Program,
+    measure: &RiskMeasure,
+    budget: Budget,
+    hint: &mut WholeHint,
+    watch: &mut W,
+) -> Result<Answer, Memory>
+    requires means { MeansProgram (texts_view texts.now) (content program.now) }
+    requires range { IsRiskMeasure measure.now }
+    requires none { states_none budget ≡ true }
+    ensures { IfOk result (λ answer.
+        ComesWithin (λ kept. IsRiskSolve measure.now kept (texts_view texts.now)) budget answer.status (found_text answer.found)) }
+{
     let none = without_solves(budget);
-    let answer = solved_program(alloc, texts, program, measure, none, Way::Together, watch)?;
+    let way = Way::Together;
+    let answer = solved_program(alloc, texts, program, measure, none, way, hint, watch)?;
     if answer.is_closed() {
         Ok(answer)
     } else {
-        solved_by_method(alloc, texts, program, measure, budget, watch)
+        solved_by_method(alloc, texts, program, measure, budget, hint, watch)
     }
 }
 
-/// The answer for the program of the texts, by the method.
+/// The answer for the program of the texts, by the method; a solve of all nodes together begins with the hint.
 fn solved_by_method<W: Watch>(
     alloc: Global,
     texts: &Texts,
     program: &Program,
     measure: &RiskMeasure,
     budget: Budget,
+    hint: &mut WholeHint,
     watch: &mut W,
 ) -> Result<Answer, Memory>
     requires means { MeansProgram (texts_view texts.now) (content program.now) }
     requires range { IsRiskMeasure measure.now }
     ensures { IfOk result (λ answer. IsRiskSolve measure.now budget (texts_view texts.now) answer.status (found_text answer.found)) }
 {
-    solved_program(alloc, texts, program, measure, budget, Way::Method, watch)
+    let way = Way::Method;
+    solved_program(alloc, texts, program, measure, budget, way, hint, watch)
 }
 
 /// The answer for the program of the texts, within a budget.
@@ -154,6 +178,7 @@ fn solved_program<W: Watch>(
     measure: &RiskMeasure,
     budget: Budget,
     way: Way,
+    hint: &mut WholeHint,
     watch: &mut W,
 ) -> Result<Answer, Memory>
     requires means { MeansProgram (texts_view texts.now) (content program.now) }
@@ -162,7 +187,7 @@ fn solved_program<W: Watch>(
 {
     let _core = texts.core.len();
     match tail_program(alloc, program, measure.level, measure.weight) {
-        Ok(made) => solved_made(alloc, made, program, measure, budget, way, watch),
+        Ok(made) => solved_made(alloc, made, program, measure, budget, way, hint, watch),
         Err(fault) => unmade(alloc, fault),
     }
 }
@@ -175,6 +200,7 @@ fn solved_made<W: Watch>(
     measure: &RiskMeasure,
     budget: Budget,
     way: Way,
+    hint: &mut WholeHint,
     watch: &mut W,
 ) -> Result<Answer, Memory>
     requires { IsRiskProgram measure.now (content read.now) (content made) }
@@ -196,6 +222,7 @@ fn solved_made<W: Watch>(
         budget.solves,
         budget.pivots,
         stated,
+        hint,
         watch,
     )?;
     Ok(told(tolds, way))

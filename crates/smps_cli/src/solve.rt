@@ -19,7 +19,7 @@ use exit_status::{is_open, open_status};
 use frac128::Memory;
 use input_files::Texts;
 use run_watch::Watch;
-use smps_session::{StatedLimits, Told, scripted};
+use smps_session::{StatedLimits, Told, WholeHint, scripted};
 use std::alloc::Global;
 
 /// The answer for the texts of the files: the reports of the program that they mean, or their first fault. All nodes are solved together
@@ -54,14 +54,15 @@ fn solved_some<W: Watch>(
         ComesWithin (λ kept. MayBeSolved kept (texts_view texts.now)) budget answer.status (found_text answer.found)) }
 {
     if script_goes_together(&input.program, &input.script, budget) {
-        solved_together(alloc, texts, input, budget, watch)
+        solved_anew(alloc, texts, input, budget, watch)
     } else {
-        solved_input(alloc, texts, input, budget, Way::Method, watch)
+        let mut hint = WholeHint::empty(alloc);
+        solved_input(alloc, texts, input, budget, Way::Method, &mut hint, watch)
     }
 }
 
-/// The answer for the input of the texts, with all nodes together; by the method, if that leaves something open.
-fn solved_together<W: Watch>(
+/// The answer for the input of the texts, with all nodes together, of which nothing is known.
+fn solved_anew<W: Watch>(
     alloc: Global,
     texts: &Texts,
     input: &mut Input,
@@ -74,27 +75,47 @@ fn solved_together<W: Watch>(
     ensures { IfOk result (λ answer.
         ComesWithin (λ kept. MayBeSolved kept (texts_view texts.now)) budget answer.status (found_text answer.found)) }
 {
+    let mut hint = WholeHint::empty(alloc);
+    solved_together(alloc, texts, input, budget, &mut hint, watch)
+}
+
+/// The answer for the input of the texts, with all nodes together; by the method, if that leaves something open.
+fn solved_together<W: Watch>(
+    alloc: Global,
+    texts: &Texts,
+    input: &mut Input,
+    budget: Budget,
+    hint: &mut WholeHint,
+    watch: &mut W,
+) -> Result<Answer, Memory>
+    requires within { AreWithin (texts_view texts.now) }
+    requires input { IsInput (texts_view texts.now) input.old }
+    requires none { states_none budget ≡ true }
+    ensures { IfOk result (λ answer.
+        ComesWithin (λ kept. MayBeSolved kept (texts_view texts.now)) budget answer.status (found_text answer.found)) }
+{
     let none = without_solves(budget);
-    let answer = solved_input(alloc, texts, input, none, Way::Together, watch)?;
+    let answer = solved_input(alloc, texts, input, none, Way::Together, hint, watch)?;
     if answer.is_closed() {
         Ok(answer)
     } else {
-        solved_by_method(alloc, texts, budget, watch)
+        solved_by_method(alloc, texts, budget, hint, watch)
     }
 }
 
-/// The answer for the texts of the files, by the method.
+/// The answer for the texts of the files, by the method; a solve of all nodes together begins with the hint.
 fn solved_by_method<W: Watch>(
     alloc: Global,
     texts: &Texts,
     budget: Budget,
+    hint: &mut WholeHint,
     watch: &mut W,
 ) -> Result<Answer, Memory>
     requires { AreWithin (texts_view texts.now) }
     ensures { IfOk result (λ answer. MayBeSolved budget (texts_view texts.now) answer.status (found_text answer.found)) }
 {
     match read_input(alloc, texts) {
-        Ok(mut input) => solved_input(alloc, texts, &mut input, budget, Way::Method, watch),
+        Ok(mut input) => solved_input(alloc, texts, &mut input, budget, Way::Method, hint, watch),
         Err(unread) => stopped(alloc, unread),
     }
 }
@@ -106,6 +127,7 @@ fn solved_input<W: Watch>(
     input: &mut Input,
     budget: Budget,
     way: Way,
+    hint: &mut WholeHint,
     watch: &mut W,
 ) -> Result<Answer, Memory>
     requires { IsInput (texts_view texts.now) input.old }
@@ -123,6 +145,7 @@ fn solved_input<W: Watch>(
         budget.solves,
         budget.pivots,
         stated,
+        hint,
         watch,
     )?;
     Ok(told(tolds, way))

@@ -48,6 +48,7 @@ use Rattle.smps_session.specs.Comes.{tells_solves, is_unfinished, ShowsClosing, 
 use Rattle.smps_session.specs.Shorter.{IsPrinted}
 use Rattle.smps_session.specs.declared.whole.StatedLimits.{StatedLimits}
 use Rattle.smps_session.specs.declared.whole.Answered.{Answered}
+use Rattle.smps_session.proofs.OneRun.{one_run}
 use Rattle.smps_session.proofs.WayLemmas.{counted_within}
 
 -- ---- what is found and tested
@@ -68,7 +69,7 @@ shows_one budget start came program (AtWork old) (AtWork new) found number repor
   solves = f.solves.solves;
   once = λ widths few. f.solves.never;
   first = λ small begins uncounted. f.solves.never;
-  run = λ widths few m tabled. steps m program.keeps stands.frame tabled;
+  run = λ widths few. one_run (content program) old.state new.state (λ m tabled. steps m program.keeps stands.frame tabled);
   ends = ends;
   claimed = told_so program number budget.solves found.place _ found.why _ found.claim _ report f.place f.why f.claim c;
   truth = subst (λ (why : Open). IsTrue (view_of (content program)) (given why budget.solves) report) f.why t;

@@ -4,5 +4,6 @@ pub mod ReasonLemmas
 pub mod ListLemmas
 pub mod WholeLemmas
 pub mod ShorterLemmas
+pub mod OneRun
 pub mod ComeLemmas
 pub mod WayLemmas

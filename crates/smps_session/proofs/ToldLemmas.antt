@@ -29,6 +29,7 @@ use Rattle.nested_method.specs.Stands.{HasFewNodes, Begins, WorksBySolves, Works
 use Rattle.nested_method.proofs.Numbers.{edits_cleared}
 use Rattle.smps_session.specs.Comes.{ComesOf, IsOnTree, TakesEdit, IsUnderWay}
 use Rattle.smps_session.specs.Courses.{Course, course_at, TellsOne, IsBehind}
+use Rattle.smps_session.proofs.OneRun.{works_in_one_run}
 
 pub on_ok : {X E : Type 0} (r : Result X E) (A : Type 0) → A → OnOk r A
 on_ok (Ok x) A a = a
@@ -104,7 +105,7 @@ pub takes_edit : {A E : Type 0} (result : Result A E) (p : Program) (work : ℕ)
     → (HasFewNodes p → WorksBySolves p old worked) → (HasFewNodes p → WorksAsAsked p work old worked) → WorksBySteps p old worked
     → OnOk result (GoesOn p e worked new) → HasFewNodes (after p e) → (IsOnTree p → IsOnTree (after p e)) → OnOk result (TakesEdit p work e old new)
 takes_edit (Ok x) p work e old worked new w a s g few tree =
-    record { worked = worked; works = w; amount = a; steps = s; goes = g; few = few; tree = tree }
+    record { worked = worked; works = w; amount = a; run = works_in_one_run p old worked s; goes = g; few = few; tree = tree }
 takes_edit (Err x) p work e old worked new w a s g few tree = tt
 
 -- and that its reasons are cleared behind it

@@ -1,6 +1,7 @@
 -- How a report comes of the method: of its solves, of what it claims behind them, and of the test of that.
 use Rattle.std.specs.Prelude.{◌≡◌, ◌⊎◌, ◌&&◌, ◌<◌, ◌^◌, ℕ, Bool, true, false, not, Ok}
 use Rattle.scen_defs.specs.Program.{Program, content, view_of}
+use Rattle.scen_defs.specs.Valid.{IsProgram}
 use Rattle.scen_defs.specs.declared.program.Program.{Program as ProgramOf}
 use Rattle.scen_defs.specs.declared.report.Finding.{Finding}
 use Rattle.scen_defs.specs.declared.report.Finding.TheVariants.{Optimal, Infeasible, Unbounded, OpenSolves, OpenPivots, OpenPassed}
@@ -18,7 +19,9 @@ use Rattle.claim_laws.specs.Tells.{TellsClaim}
 use Rattle.found_ends.specs.Claims.{EndsAssembly}
 use Rattle.scen_tree.specs.Trees.{Tree, tree_walk}
 use Rattle.edit_defs.specs.declared.edit.Edit.{Edit}
+use Rattle.node_data.specs.Frames.{frame_of}
 use Rattle.pass_table.specs.Machine.{Machine}
+use Rattle.crew_turns.specs.Crew.{StandsForTurns}
 use Rattle.edit_defs.specs.After.{after}
 use Rattle.edit_defs.specs.Shifts.{HasWidths}
 use Rattle.pass_core.specs.declared.budget.Budget.{Budget}
@@ -30,7 +33,7 @@ use Rattle.pass_core.specs.Tabled.{IsTabledBy, GoesBySteps}
 use Rattle.nested_method.specs.declared.method.Method.{Method}
 use Rattle.nested_method.specs.declared.method.Method.TheVariants.{Working as AtWork, Idle}
 use Rattle.nested_method.specs.declared.method.Working.{Working}
-use Rattle.nested_method.specs.Stands.{HasFewNodes, IsAtEnd, SolvesNodes, NeverAnew, HasSolve, WorksBySolves, WorksBySteps}
+use Rattle.nested_method.specs.Stands.{HasFewNodes, IsAtEnd, SolvesNodes, NeverAnew, HasSolve, WorksBySolves}
 use Rattle.nested_method.specs.Stands.{WorksAsAsked, GoesOn, CutPasses, CostPasses, OpeningPasses, Begins, closing}
 use Rattle.nested_method.specs.Stands.{is_spent, after_telling}
 use Rattle.progress_laws.specs.Ways.{AreFew, KeepsWay}
@@ -53,8 +56,11 @@ is_unfinished finding method = tells_solves finding && not (is_spent method)
 
 -- What was done is one run of the machine of the cut pools: from the one that the table of versions fits, in which no solve is in
 -- flight, by whole steps of one worker, and by what several workers do from no solve in flight to none, to one that the table fits again.
-abbrev pub IsOneRun : Program → State → State → Type 0
-IsOneRun p old new = (m : Machine) → IsTabledBy p old m → GoesBySteps p m new
+pub record IsOneRun (p : Program) (old new : State) : Type 0 where
+  pub steps : (m : Machine) → IsTabledBy p old m → GoesBySteps p m new
+  -- And it is one run of whole turns, one after the other, in which each solve that was committed stands once: they leave the same last
+  -- solves and the same pools.
+  pub turns : (m : Machine) (tabled : IsTabledBy p old m) → StandsForTurns m (steps m tabled).machine
 
 -- Behind solves of the program's nodes, where the method can't go on, the report tells what is claimed, and is true for the reason that is
 -- claimed with it. The program is the one behind so many items of a script that starts with another one.
@@ -130,6 +136,12 @@ pub record ComesOfAll (budget : Budget) (stated : StatedLimits) (program : Progr
 abbrev pub IsOnTree : Program → Type 0
 IsOnTree p = (tree : Tree) × (tree_walk p ≡ Ok tree)
 
+-- so is what a method at work does; one that can't go on stays as it is
+abbrev pub WorksInOneRun : Program → Method → Method → Type 0
+WorksInOneRun p (AtWork old) (AtWork new) = IsProgram p → old.state.frame ≡ frame_of p → IsOneRun p old.state new.state
+WorksInOneRun p (AtWork old) (Idle why own) = ⊥
+WorksInOneRun p (Idle why own) new = new ≡ Idle why own
+
 -- A method solves nodes of the program before an edit, so many as are asked for where it can go on, and goes on behind the edit. The
 -- program behind it has no more nodes than have numbers, and is on a tree where the one before it is.
 pub record TakesEdit (p : Program) (work : ℕ) (e : Edit) (old new : Method) : Type 0 where
@@ -137,7 +149,7 @@ pub record TakesEdit (p : Program) (work : ℕ) (e : Edit) (old new : Method) : 
   pub works : HasFewNodes p → WorksBySolves p old worked
   pub amount : HasFewNodes p → WorksAsAsked p work old worked
   -- so it is one run of a method at work, and no solve is in flight where the program is edited
-  pub steps : WorksBySteps p old worked
+  pub run : WorksInOneRun p old worked
   pub goes : GoesOn p e worked new
   pub few : HasFewNodes (after p e)
   pub tree : IsOnTree p → IsOnTree (after p e)

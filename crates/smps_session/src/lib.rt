@@ -15,3 +15,4 @@ pub use running::session;
 pub use scripts::scripted;
 pub use told::Told;
 pub use whole::{Answered, StatedLimits};
+pub use whole_guess::WholeHint;

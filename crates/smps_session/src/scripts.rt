@@ -18,11 +18,17 @@ use pass_core::Budget;
 use run_watch::Watch;
 use scen_defs::Program;
 use std::alloc::Global;
+use std::mem::replace;
 use whole_guess::WholeHint;
 
 impl Progress {
     /// Before the first item: nothing was done of the program.
-    fn begin(alloc: Global, program: &Program, budget: Budget) -> Result<Progress, Memory>
+    fn begin(
+        alloc: Global,
+        program: &Program,
+        budget: Budget,
+        hint: WholeHint,
+    ) -> Result<Progress, Memory>
         ensures counted { IfOk result (λ progress. progress.counted ≡ counts (content program.now).nodes) }
         ensures number { IfOk result (λ progress. progress.number ≡ 1) }
         ensures stands { IfOk result (λ progress. StandsOn (content program.now) budget progress.method) }
@@ -35,7 +41,7 @@ impl Progress {
             counted,
             method,
             number: 1,
-            hint: WholeHint::empty(alloc),
+            hint,
         })
     }
 
@@ -68,7 +74,8 @@ impl Progress {
 
 /// Solves a program on a tree by the nested method after edits, once for each SOLVE of a script. A report may take so many solves of
 /// nodes at most, and so many pivots in each. The cuts that an edit leaves true are kept over it. What was found is tested before it is
-/// told, and the whole program is tried where the method had stopped, as by `session`; the program is then as the edits left it.
+/// told, and the whole program is tried where the method had stopped, as by `session`, from the hint, which may be that of an earlier
+/// script; the program is then as the edits left it.
 pub fn scripted<W: Watch>(
     alloc: Global,
     program: &mut Program,
@@ -76,6 +83,7 @@ pub fn scripted<W: Watch>(
     solves: u64,
     pivots: u64,
     stated: StatedLimits,
+    hint: &mut WholeHint,
     watch: &mut W,
 ) -> Result<Vec<Told>, Memory>
     requires { AreAllowed (content program.old) script.now.items.items }
@@ -83,12 +91,9 @@ pub fn scripted<W: Watch>(
         IfOk result (λ tolds. IsScripted budget stated (content program.old) script.now.items.items tolds.items) }
 {
     let budget = Budget { solves, pivots };
-    Progress::begin(alloc, program, budget)?.reports(
-        alloc,
-        program,
-        &script.items,
-        budget,
-        stated,
-        watch,
-    )
+    let start = replace(hint, WholeHint::empty(alloc));
+    let mut progress = Progress::begin(alloc, program, budget, start)?;
+    let tolds = progress.reports(alloc, program, &script.items, budget, stated, watch)?;
+    *hint = replace(&mut progress.hint, WholeHint::empty(alloc));
+    Ok(tolds)
 }

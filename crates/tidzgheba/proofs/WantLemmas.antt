@@ -38,6 +38,7 @@ ends_so (SolveBasis budget) = inl (inr (inr refl))
 module _ (content : Option Files) (shelf : ShelfState) (sink : SinkState) where
   nothing_ran : (words : List (List ℕ)) → IsRun words content shelf shelf sink sink Memory
   nothing_ran words = record {
+    headline = λ told. absurd (memory_tells_nothing told);
     truths = λ told. absurd (memory_tells_nothing told);
     words = λ e. absurd (cc);
     none_fetched = λ e. refl;

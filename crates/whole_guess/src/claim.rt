@@ -1,5 +1,6 @@
 //! The claim.
 
+use crate::digest::{digest_of, size_of};
 use crate::flat::{flat_program, is_tried};
 use crate::hint::WholeHint;
 use crate::layout::Layout;
@@ -13,8 +14,14 @@ use scen_defs::{Kind, Program, Values};
 use scen_tree::Tree;
 use std::alloc::Global;
 
-/// So much work a guess may take: an entry that is looked at is a unit, and a second has some hundred million.
+/// So much work a guess may take at most: an entry that is looked at is a unit, and a second has some hundred million.
 const WORK: u64 = 1_000_000_000;
+
+/// The same of a policy and of multipliers near the optimal ones.
+const NEAR_WORK: u64 = 600_000_000;
+
+/// So many times a guess may look at each column, row and entry: where that doesn't do, rounding errors lead it round.
+const LOOKS: u64 = 30_000;
 
 /// No program of more nodes is tried; each has a row or a column, or is empty.
 const MOST_NODES: usize = 1_000_000;
@@ -48,6 +55,11 @@ pub(crate) fn prepared<'a>(
         Err(ArithmeticFault::Passed(_)) => Ok(None),
         Err(ArithmeticFault::Memory) => Err(Memory),
     }
+}
+
+/// The work that a guess of a program may take, where so much is the most.
+fn work_of(exact: &ExactProgram, most: u64) -> u64 {
+    size_of(exact).saturating_mul(LOOKS).min(most)
 }
 
 /// The program in a run of a kind.
@@ -130,7 +142,7 @@ fn near(alloc: Global, whole: &Whole<'_>) -> Result<Option<Claim>, Memory> {
     let Some(exact) = in_run(alloc, whole, Kind::Cost)? else {
         return Ok(None);
     };
-    let mut work = WORK;
+    let mut work = work_of(&exact, NEAR_WORK);
     let mut standings: Vec<Standing> = Vec::new(alloc);
     let policy = match near_point(alloc, &exact, &mut standings, &mut work)? {
         Some(point) => Some(point_list(alloc, whole.program, &whole.layout, &point)?),
@@ -152,17 +164,25 @@ fn guessed_whole(
     let Some(exact) = in_run(alloc, whole, Kind::Cost)? else {
         return Ok(None);
     };
+    let digest = digest_of(&exact);
+    if hint.has_failed(digest) {
+        return Ok(None);
+    }
     let mut standings = hint.standings(alloc, whole.program, &whole.layout, exact.floats())?;
-    let mut work = WORK;
+    let mut work = work_of(&exact, WORK);
     let guessed = guess(alloc, &exact, &mut standings, &mut work)?;
     let columns = exact.column_count();
     hint.keep(alloc, whole.program, &whole.layout, &standings, columns)?;
-    claimed(alloc, whole, guessed, &mut standings, &mut work)
+    let claim = claimed(alloc, whole, guessed, &mut standings, &mut work)?;
+    if claim.is_none() {
+        hint.note_failure(digest)?;
+    }
+    Ok(claim)
 }
 
 /// What may be claimed of a program, by a solve of all its nodes together: a policy with multipliers, multipliers of a ray, or a policy
-/// with a direction. None where nothing is found, within a budget of work that takes some ten seconds at most, or where the program is
-/// too large to be tried.
+/// with a direction. None where nothing is found, within a budget of work that takes some ten seconds at most, where the program is
+/// too large to be tried, or where the hint knows that nothing was found of one with the same numbers.
 pub fn guessed_claim(
     alloc: Global,
     program: &Program,

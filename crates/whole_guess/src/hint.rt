@@ -7,6 +7,9 @@ use scen_defs::{Node, Program};
 use std::alloc::Global;
 use std::marker::Model;
 
+/// So many programs of which nothing was found are known at most.
+const MOST_FAILED: usize = 1000;
+
 /// How the columns and rows of a node stood.
 #[derive(Drop)]
 struct NodeStandings {
@@ -15,10 +18,13 @@ struct NodeStandings {
 }
 
 /// How the columns and rows of the whole program stood where it was last solved, which is where the next solve begins, also behind an
-/// edit: a node that has come since has none, and those of a node that is gone aren't used. To a contract all hints are the same.
+/// edit: a node that has come since has none, and those of a node that is gone aren't used. A program of which nothing was found isn't
+/// tried again. To a contract all hints are the same.
 #[derive(Drop)]
 pub struct WholeHint {
     nodes: Vec<NodeStandings>,
+    /// Of programs of which nothing was found, what their numbers come to.
+    failed: Vec<u64>,
 }
 
 impl Model for WholeHint {
@@ -55,7 +61,26 @@ impl WholeHint {
     pub fn empty(alloc: Global) -> WholeHint {
         WholeHint {
             nodes: Vec::new(alloc),
+            failed: Vec::new(alloc),
         }
+    }
+
+    /// Whether nothing was found of a program whose numbers come to this.
+    pub(crate) fn has_failed(&self, digest: u64) -> bool {
+        for failed in &self.failed {
+            if *failed == digest {
+                return true;
+            }
+        }
+        false
+    }
+
+    /// Nothing was found of a program whose numbers come to this.
+    pub(crate) fn note_failure(&mut self, digest: u64) -> Result<(), Memory> {
+        if self.failed.len() < MOST_FAILED {
+            self.failed.push(digest)?;
+        }
+        Ok(())
     }
 
     /// How a column of a node stood, by its place among those of its period.

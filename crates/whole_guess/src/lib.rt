@@ -3,6 +3,7 @@
 #![tactic(auto)]
 
 mod claim;
+mod digest;
 mod flat;
 mod given;
 mod hint;

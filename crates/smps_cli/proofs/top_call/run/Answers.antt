@@ -3,12 +3,15 @@ use Rattle.smps_cli.specs.Found.{found_text}
 use Rattle.command_words.specs.Commands.{command_of}
 use Rattle.smps_cli.proofs.AnswerLemmas.{memory_says_nothing, failure_says_nothing}
 use Rattle.smps_cli.proofs.TruthLemmas.{runs_are_true, memory_tells_nothing, failure_tells_nothing}
+use Rattle.smps_cli.proofs.HeadlineLemmas.{runs_are_so}
 use Rattle.smps_cli.proofs.CompleteLemmas.{comes_to_a_report}
 use Rattle.smps_cli.proofs.MeantLemmas.{comes_to_an_answer, comes_to_a_workload, memory_ends}
 use Rattle.smps_cli.proofs.top_call.run.Goals as goal
 
 pub returns-in-Ok-write_found : goal.returns-in-Ok-write_found
 returns-in-Ok-write_found g c = record {
+  headline = runs_are_so (g.H.Shelf.content c.args.shelf.now) (g.K.Sink.written c.args.sink.now) (g.K.Sink.written c.write_found.new.sink)
+      (g.K.Sink.taken c.args.sink.now) (g.K.Sink.taken c.write_found.new.sink) (map string_bytes c.args.words.now) c.in-Ok.ran.status (search rules);
   truths = runs_are_true (g.H.Shelf.content c.args.shelf.now) (g.K.Sink.written c.args.sink.now) (g.K.Sink.written c.write_found.new.sink)
       (g.K.Sink.taken c.args.sink.now) (g.K.Sink.taken c.write_found.new.sink) (map string_bytes c.args.words.now) c.in-Ok.ran.status (search rules);
   words = c.in-Ok.ensures.words;
@@ -32,6 +35,7 @@ returns-in-Ok-write_found g c = record {
 
 pub returns-in-Err : goal.returns-in-Err
 returns-in-Err g c = record {
+  headline = λ told. absurd (memory_tells_nothing told);
   truths = λ told. absurd (memory_tells_nothing told);
   words = search rules;
   none_fetched = search rules;
@@ -48,6 +52,7 @@ returns-in-Err g c = record {
 
 pub returns-in-Err-Failed : goal.returns-in-Err-Failed
 returns-in-Err-Failed g c = record {
+  headline = λ told. absurd (failure_tells_nothing told);
   truths = λ told. absurd (failure_tells_nothing told);
   words = search rules;
   none_fetched = search rules;
@@ -64,6 +69,7 @@ returns-in-Err-Failed g c = record {
 
 pub returns-in-Err-Memory : goal.returns-in-Err-Memory
 returns-in-Err-Memory g c = record {
+  headline = λ told. absurd (memory_tells_nothing told);
   truths = λ told. absurd (memory_tells_nothing told);
   words = search rules;
   none_fetched = search rules;

@@ -1,8 +1,8 @@
 //! Cuts that become rows.
 
 use crate::draft::{Draft, cut_at};
-use crate::groups::{Group, factor, group_at};
-use crate::hints::{HeldCuts, Hint};
+use crate::groups::{Group, group_at, group_factor};
+use crate::hint::{HeldCuts, Hint};
 use crate::split::{place_of, split_form};
 use basis_factors::Entry;
 use basis_guess::Standing;
@@ -120,7 +120,7 @@ fn push_sum(
     for (place, cut) in cuts.iter().enumerate() {
         let child = group.first.saturating_add(place);
         if let Some(cut) = cut_at(&task.children, child, *cut as usize) {
-            sum.add(task, cut, factor(task, group, child))?;
+            sum.add(task, cut, group_factor(task, group, child))?;
         }
     }
     let entries = sum.entries(alloc, draft.own.saturating_add(number))?;
@@ -257,7 +257,7 @@ pub(crate) fn add_row(
 }
 
 /// Makes cuts rows.
-pub(crate) fn add_rows(
+pub fn add_rows(
     alloc: Global,
     task: &Task,
     draft: &mut Draft,
@@ -288,7 +288,7 @@ fn end_bound(draft: &Draft, child: usize, is_first: bool) -> Option<u32> {
 }
 
 /// The last cuts that bound the costs of a group's children, or the first ones; none where a child has none.
-pub(crate) fn end_bounds(
+pub fn end_bounds(
     alloc: Global,
     draft: &Draft,
     group: &Group,
@@ -334,7 +334,7 @@ fn add_last(
 
 /// Makes those cuts rows that a guess begins with: those of the hint and, of each group of which it has none that bounds the
 /// cost, the last such cuts.
-pub(crate) fn add_first(
+pub fn add_first(
     alloc: Global,
     task: &Task,
     draft: &mut Draft,

@@ -12,21 +12,21 @@ const GROUPS: usize = 20;
 
 /// Some children, one behind the other.
 #[derive(Clone, Copy)]
-pub(crate) struct Group {
+pub struct Group {
     /// The place of the first child.
-    pub(crate) first: usize,
+    pub first: usize,
     /// How many children it has.
-    pub(crate) count: usize,
+    pub count: usize,
     /// What its column counts.
-    pub(crate) price: Frac,
+    pub price: Frac,
     /// Whether its column is the sum of the children's costs, and not the sum by their shares.
-    pub(crate) is_plain: bool,
+    pub is_plain: bool,
     /// Whether it has a row.
-    pub(crate) has_row: bool,
+    pub has_row: bool,
 }
 
 /// How many children a group has.
-pub(crate) fn size_of(children: usize) -> usize {
+pub fn size_of(children: usize) -> usize {
     if children <= FEW {
         1
     } else {
@@ -79,7 +79,7 @@ pub(crate) fn groups_of(alloc: Global, task: &Task, size: usize) -> Result<Vec<G
 }
 
 /// By what the cut about the child at a place counts in its group's row.
-pub(crate) fn factor(task: &Task, group: &Group, place: usize) -> Frac {
+pub fn group_factor(task: &Task, group: &Group, place: usize) -> Frac {
     if group.is_plain {
         Frac::one()
     } else {
@@ -88,7 +88,7 @@ pub(crate) fn factor(task: &Task, group: &Group, place: usize) -> Frac {
 }
 
 /// The number of the group that begins at a child and has so many; all groups but the last one have as many children.
-pub(crate) fn group_at(groups: &[Group], first: usize, count: usize) -> Option<usize> {
+pub fn group_at(groups: &[Group], first: usize, count: usize) -> Option<usize> {
     if groups.is_empty() {
         return None;
     }

@@ -2,7 +2,7 @@
 
 use crate::floats::{FloatCut, FloatCuts, distance};
 use crate::groups::{Group, groups_of};
-use crate::hints::{HeldCuts, Hint};
+use crate::hint::{HeldCuts, Hint};
 use crate::split::{place_of, split_form};
 use basis_factors::Entry;
 use basis_guess::Standing;
@@ -23,24 +23,24 @@ const MANY: usize = 40;
 /// A node's program: its own columns and, where the children are priced, the costs of their groups; its own rows, and behind them
 /// those of cuts.
 #[derive(Drop)]
-pub(crate) struct Draft {
-    pub(crate) program: ExactProgram,
+pub struct Draft {
+    pub program: ExactProgram,
     /// Of the columns and then of the rows.
-    pub(crate) standings: Vec<Standing>,
+    pub standings: Vec<Standing>,
     /// How many own columns there are.
-    pub(crate) own: usize,
+    pub own: usize,
     /// The groups of children that are priced.
-    pub(crate) groups: Vec<Group>,
+    pub groups: Vec<Group>,
     /// How many own rows there are.
-    pub(crate) rows: usize,
+    pub rows: usize,
     /// The cuts that are rows, in the order of their rows.
-    pub(crate) held: HeldCuts,
+    pub held: HeldCuts,
     /// All cuts, by child.
-    pub(crate) children: Vec<FloatCuts>,
+    pub children: Vec<FloatCuts>,
 }
 
 /// Whether the children have costs of their own: not in a Feasible run.
-pub(crate) fn is_priced(task: &Task) -> bool {
+pub fn is_priced(task: &Task) -> bool {
     match task.kind {
         Kind::Feasible => false,
         Kind::Recession | Kind::Cost => true,
@@ -48,7 +48,7 @@ pub(crate) fn is_priced(task: &Task) -> bool {
 }
 
 /// Whether a program takes a cut.
-pub(crate) fn is_taken(priced: bool, kind: CutKind) -> bool {
+pub fn is_taken(priced: bool, kind: CutKind) -> bool {
     match kind {
         CutKind::Bound => priced,
         CutKind::Ray => true,
@@ -208,7 +208,7 @@ fn priced_groups(alloc: Global, task: &Task, size: usize) -> Result<Vec<Group>, 
 }
 
 /// The program without cuts, where groups have so many children.
-pub(crate) fn first_draft(
+pub fn first_draft(
     alloc: Global,
     task: &Task,
     hint: &Hint,
@@ -236,13 +236,13 @@ pub(crate) fn first_draft(
 
 impl Draft {
     /// Whether there are many more rows than a basis needs.
-    pub(crate) fn is_long(&self) -> bool {
+    pub fn is_long(&self) -> bool {
         let least = self.program.column_count().saturating_add(self.rows);
         self.program.row_count() > least.saturating_mul(LONG).saturating_add(MANY)
     }
 
     /// No cut is a row.
-    pub(crate) fn clear_cuts(
+    pub fn clear_cuts(
         &mut self,
         alloc: Global,
         task: &Task,
@@ -272,7 +272,7 @@ fn unmark(cuts: &mut [FloatCut]) {
 }
 
 /// The cut with this number about the child at a place.
-pub(crate) fn cut_at(children: &[ChildCuts], child: usize, number: usize) -> Option<&Cut> {
+pub fn cut_at(children: &[ChildCuts], child: usize, number: usize) -> Option<&Cut> {
     if child >= children.len() {
         return None;
     }

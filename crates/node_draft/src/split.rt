@@ -32,7 +32,7 @@ fn stands_at(bounds: &[ColumnBounds], place: usize, column: u64) -> bool {
 }
 
 /// The place of an own column: at once where the columns have no gap, else by halving.
-pub(crate) fn place_of(bounds: &[ColumnBounds], column: u64) -> Option<u32> {
+pub fn place_of(bounds: &[ColumnBounds], column: u64) -> Option<u32> {
     if bounds.is_empty() || column < bounds[0].column as u64 {
         return None;
     }

@@ -1,111 +1,49 @@
 //! Equations that are met exactly: a few numbers are moved a little.
+//!
+//! Each equation gets a number of its own that meets it. As long as a number stands in one equation alone, that equation takes it, and
+//! nothing has to be eliminated; so equations are peeled off in one walk over their entries. Only what is left then is eliminated, the
+//! number first that fills in least (H. M. Markowitz, The elimination form of the inverse, 1957).
 
-use crate::round::{at, put, zeros};
+use crate::lists::{at, put, zeros};
+use crate::lone::Left;
 use basis_factors::Entry;
 use frac128::{Frac, Memory};
 use std::alloc::Global;
 
+/// An entry that is looked at in an elimination counts as so much work.
+const EXACT: u64 = 10;
+
 /// Equations: the entries of the numbers that may be moved, and what is left to be met.
 #[derive(Drop)]
-pub(crate) struct Equations {
-    pub(crate) rows: Vec<Vec<Entry<Frac>>>,
-    pub(crate) rests: Vec<Frac>,
+pub struct Equations {
+    pub rows: Vec<Vec<Entry<Frac>>>,
+    pub rests: Vec<Frac>,
 }
 
 /// A number of an equation that meets it.
 #[derive(Clone, Copy)]
-struct Choice {
-    row: usize,
-    at: u32,
-    value: Frac,
-}
-
-/// The equations that are left, and how many of them have each number.
-#[derive(Drop)]
-struct Left {
-    open: Vec<bool>,
-    counts: Vec<usize>,
-}
-
-impl Left {
-    fn is_open(&self, row: usize) -> bool {
-        row < self.open.len() && self.open[row]
-    }
-
-    fn count(&self, place: u32) -> usize {
-        let place = place as usize;
-        if place < self.counts.len() {
-            self.counts[place]
-        } else {
-            0
-        }
-    }
-
-    fn close(&mut self, row: usize) {
-        if row < self.open.len() {
-            self.open[row] = false;
-        }
-    }
-
-    fn count_all(&mut self, rows: &[Vec<Entry<Frac>>]) {
-        for count in self.counts.iter_mut() {
-            *count = 0;
-        }
-        for (number, row) in rows.iter().enumerate() {
-            if self.is_open(number) {
-                for entry in row {
-                    let place = entry.at as usize;
-                    if place < self.counts.len() {
-                        self.counts[place] = self.counts[place].saturating_add(1);
-                    }
-                }
-            }
-        }
-    }
-}
-
-/// How long a number's parts are.
-fn length(value: Frac) -> usize {
-    let num = value.num().unsigned_abs().leading_zeros() as usize;
-    let den = value.den().unsigned_abs().leading_zeros() as usize;
-    256usize.saturating_sub(num).saturating_sub(den)
-}
-
-/// The choice that fills in least; none where no equation that is left has a number.
-fn choose(rows: &[Vec<Entry<Frac>>], left: &Left) -> Option<Choice> {
-    let mut found: Option<Choice> = None;
-    let mut least = usize::MAX;
-    for (number, row) in rows.iter().enumerate() {
-        if left.is_open(number) {
-            for entry in row {
-                let others = left.count(entry.at).saturating_sub(1);
-                let fill = others.saturating_mul(row.len().saturating_sub(1));
-                let weight = fill
-                    .saturating_mul(1000)
-                    .saturating_add(others.saturating_mul(300))
-                    .saturating_add(length(entry.value));
-                if weight < least {
-                    least = weight;
-                    found = Some(Choice {
-                        row: number,
-                        at: entry.at,
-                        value: entry.value,
-                    });
-                }
-            }
-        }
-    }
-    found
+pub(crate) struct Choice {
+    pub(crate) row: usize,
+    pub(crate) at: u32,
+    pub(crate) value: Frac,
 }
 
 /// The value of a number in an equation.
-fn value_in(row: &[Entry<Frac>], place: u32) -> Option<Frac> {
+pub(crate) fn value_in(row: &[Entry<Frac>], place: u32) -> Option<Frac> {
     for entry in row {
         if entry.at == place {
             return Some(entry.value);
         }
     }
     None
+}
+
+pub(crate) fn row_at(rows: &[Vec<Entry<Frac>>], number: usize) -> &[Entry<Frac>] {
+    if number < rows.len() {
+        rows[number].as_slice()
+    } else {
+        &[]
+    }
 }
 
 /// The row less a multiple of another; none where that passes.
@@ -148,14 +86,6 @@ fn less(
     Ok(Some(all))
 }
 
-fn row_at(rows: &[Vec<Entry<Frac>>], number: usize) -> &[Entry<Frac>] {
-    if number < rows.len() {
-        rows[number].as_slice()
-    } else {
-        &[]
-    }
-}
-
 /// An equation without a number, and what is then left of it.
 #[derive(Drop)]
 struct Without {
@@ -185,6 +115,12 @@ fn taken_out(
     Ok(Some(Without { row, rest }))
 }
 
+/// Takes what is looked at in an elimination from the work that is left.
+pub(crate) fn spend(work: &mut u64, size: usize) {
+    let size = (size as u64).saturating_add(1);
+    *work = work.saturating_sub(size.saturating_mul(EXACT));
+}
+
 impl Equations {
     /// Takes the chosen number out of an equation, if it is left and has it. False where a number passes.
     fn take_out_of(
@@ -193,17 +129,19 @@ impl Equations {
         number: usize,
         choice: Choice,
         chosen: &[Entry<Frac>],
-        chosen_rest: Frac,
+        left: &mut Left,
     ) -> Result<bool, Memory> {
         let Some(value) = value_in(row_at(&self.rows, number), choice.at) else {
             return Ok(true);
         };
         let rest = at(&self.rests, number);
+        let chosen_rest = at(&self.rests, choice.row);
         let row = row_at(&self.rows, number);
         match taken_out(alloc, row, rest, value, choice, chosen, chosen_rest)? {
             Some(found) => {
                 let Without { row, rest } = found;
                 put(&mut self.rests, number, rest);
+                left.change(row_at(&self.rows, number), &row, number)?;
                 if number < self.rows.len() {
                     self.rows[number] = row;
                 }
@@ -213,39 +151,50 @@ impl Equations {
         }
     }
 
-    /// Takes the chosen number out of all other equations that are left. False where a number passes.
-    fn take_out(&mut self, alloc: Global, choice: Choice, left: &Left) -> Result<bool, Memory> {
+    /// Takes the chosen number out of all other equations that are left. False where a number passes, or where the work is spent.
+    fn take_out(
+        &mut self,
+        alloc: Global,
+        choice: Choice,
+        left: &mut Left,
+        work: &mut u64,
+    ) -> Result<bool, Memory> {
         let chosen = Vec::from_slice(alloc, row_at(&self.rows, choice.row))?;
-        let rest = at(&self.rests, choice.row);
-        for number in 0..self.rows.len() {
-            if left.is_open(number) && !self.take_out_of(alloc, number, choice, &chosen, rest)? {
+        for number in &left.rows_of(alloc, choice.at)? {
+            let number = *number as usize;
+            spend(
+                work,
+                row_at(&self.rows, number)
+                    .len()
+                    .saturating_add(chosen.len()),
+            );
+            if *work == 0 {
+                return Ok(false);
+            }
+            if left.is_open(number) && !self.take_out_of(alloc, number, choice, &chosen, left)? {
                 return Ok(false);
             }
         }
+        left.find_lone(&chosen)?;
         Ok(true)
     }
 
-    /// By how much each number is moved, so that all equations are met; none where that isn't found.
-    pub(crate) fn moves(
+    /// By how much each number is moved, so that all equations are met; none where that isn't found within the work.
+    pub fn moves(
         mut self,
         alloc: Global,
         count: usize,
+        work: &mut u64,
     ) -> Result<Option<Vec<Frac>>, Memory> {
-        let mut left = Left {
-            open: Vec::new(alloc),
-            counts: Vec::new(alloc),
-        };
-        left.open.resize(self.rows.len(), true)?;
-        left.counts.resize(count, 0)?;
+        let mut left = Left::of(alloc, &self.rows, count)?;
         let mut choices = Vec::new(alloc);
         for _turn in 0..self.rows.len() {
-            left.count_all(&self.rows);
-            let Some(choice) = choose(&self.rows, &left) else {
+            let Some(choice) = left.next(&self.rows, work)? else {
                 break;
             };
-            left.close(choice.row);
+            left.close(&self.rows, choice.row)?;
             choices.push(choice)?;
-            if !self.take_out(alloc, choice, &left)? {
+            if left.count(choice.at) > 0 && !self.take_out(alloc, choice, &mut left, work)? {
                 return Ok(None);
             }
         }
@@ -299,7 +248,7 @@ fn divided(value: Frac, by: Frac) -> Result<Frac, ()> {
 }
 
 /// The numbers, moved; none where one passes.
-pub(crate) fn moved(numbers: &mut [Frac], moves: &[Frac]) -> bool {
+pub fn moved(numbers: &mut [Frac], moves: &[Frac]) -> bool {
     for place in 0..numbers.len() {
         match numbers[place].add(at(moves, place)) {
             Ok(sum) => numbers[place] = sum,

@@ -1,0 +1,2 @@
+pub mod SoLemmas
+pub mod RunLemmas
