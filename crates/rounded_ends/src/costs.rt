@@ -10,7 +10,7 @@ ghost use Rattle.scen_model.specs.Gathered.{AreTotals};
 ghost use Rattle.rounded_sums.specs.Sides.{Beside};
 
 use frac128::{Frac, Memory, Term, Unfinished};
-use rounded_sums::{Side, add_product, shown_end, side_of_factor};
+use rounded_sums::{Side, SplitSum, add_product, side_of_factor};
 use scen_defs::{Program, Values};
 use scen_model::{all_totals, number_at};
 use std::alloc::Global;
@@ -44,22 +44,22 @@ fn add_node(
     values: &Values,
     node: u64,
     near: &mut usize,
-    sum: Frac,
-) -> Option<Frac>
+    sum: SplitSum,
+) -> Option<SplitSum>
     ensures { IfSome result (Beside side (sum +ℚ total *ℚ product costs.now (at values.now node))) }
 {
     match node_cost(side_of_factor(side, total), costs, values, node, near) {
-        Some(cost) => add_product(side, sum, total, cost),
+        Some(cost) => sum.add_product(side, total, cost),
         None => None,
     }
 }
 
 /// The totals times the nodes' costs, added up by node.
-fn add_nodes(side: Side, program: &Program, totals: &[Frac], values: &Values) -> Option<Frac>
+fn add_nodes(side: Side, program: &Program, totals: &[Frac], values: &Values) -> Option<SplitSum>
     ensures { let v = view_of (content program.now) in
         IfSome result (Beside side (sum_ℚ (λ n. slice_index_or totals.now n zero_ℚ *ℚ node_cost v (at values.now) n) v.live)) }
 {
-    let mut sum = Frac::zero();
+    let mut sum = SplitSum::zero();
     let mut near = 0;
     for (place, slot) in program.nodes.iter().enumerate() {
         if let Some(node) = slot {
@@ -81,7 +81,7 @@ fn cost_with(side: Side, program: &Program, totals: &[Frac], values: &Values) ->
     ensures { IfSome result (Beside side (cost (view_of (content program.now)) (at values.now))) }
 {
     match add_nodes(side, program, totals, values) {
-        Some(cost) => Some(shown_end(side, cost)),
+        Some(cost) => cost.told(side),
         None => None,
     }
 }

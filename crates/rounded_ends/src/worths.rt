@@ -11,7 +11,7 @@ ghost use Rattle.rounded_ends.specs.Runs.{column_good, column_worth, columns_goo
 ghost use Rattle.rounded_ends.specs.Worths.{IsWorthAll};
 
 use frac128::{Frac, Memory, Unfinished};
-use rounded_sums::{Side, add_product, shown_end};
+use rounded_sums::{Side, SplitSum};
 use scen_defs::{NodeRow, Program, Values};
 use scen_model::{Costs, all_totals, number_at, reduced_costs, seat_at, seated};
 use scen_nodes::stage;
@@ -43,12 +43,12 @@ fn add_worth(
     low: Option<Frac>,
     high: Option<Frac>,
     multiplier: Frac,
-    sum: Frac,
-) -> Option<Frac>
+    sum: SplitSum,
+) -> Option<SplitSum>
     ensures { IfSome result (IsWorth side low high multiplier sum) }
 {
     match used_end(low, high, multiplier) {
-        Some(end) => add_product(side, sum, multiplier, end),
+        Some(end) => sum.add_product(side, multiplier, end),
         None => None,
     }
 }
@@ -60,8 +60,8 @@ fn add_rows(
     values: &Values,
     node: u64,
     near: &mut usize,
-    start: Frac,
-) -> Option<Frac>
+    start: SplitSum,
+) -> Option<SplitSum>
     ensures { let y = at values.now node in IfSome result (Ran side (row_good y) (row_worth y) start rows.now) }
 {
     let mut sum = start;
@@ -76,11 +76,11 @@ fn add_rows(
 }
 
 /// The rows of all nodes.
-fn add_all_rows(side: Side, program: &Program, values: &Values) -> Option<Frac>
+fn add_all_rows(side: Side, program: &Program, values: &Values) -> Option<SplitSum>
     ensures { let v = view_of (content program.now) in
         IfSome result (Ran side (rows_good v (at values.now)) (rows_worth v (at values.now)) zero_ℚ v.live) }
 {
-    let mut sum = Frac::zero();
+    let mut sum = SplitSum::zero();
     let mut near = 0;
     for (place, slot) in program.nodes.iter().enumerate() {
         if let Some(node) = slot {
@@ -111,8 +111,8 @@ fn add_columns(
     seats: &[usize],
     numbers: &[Vec<Frac>],
     node: u64,
-    start: Frac,
-) -> Option<Frac>
+    start: SplitSum,
+) -> Option<SplitSum>
     ensures { let v = view_of (content program.now) in
         let d = column_number (lists_in numbers.now) seats.now node in
         IfSome result (Ran side (column_good v d) (column_worth v d) start (v.columns (v.stage node))) }
@@ -138,8 +138,8 @@ fn add_all_columns(
     program: &Program,
     seats: &[usize],
     numbers: &[Vec<Frac>],
-    start: Frac,
-) -> Option<Frac>
+    start: SplitSum,
+) -> Option<SplitSum>
     ensures { let v = view_of (content program.now) in
         let d = column_number (lists_in numbers.now) seats.now in
         IfSome result (Ran side (columns_good v d) (columns_worth v d) start v.live) }
@@ -174,7 +174,7 @@ fn worth_with(
     let seats = seating.seats.as_slice();
     match add_all_rows(side, program, values) {
         Some(sum) => match add_all_columns(side, program, seats, numbers.as_slice(), sum) {
-            Some(worth) => Ok(Some(shown_end(side, worth))),
+            Some(worth) => Ok(worth.told(side)),
             None => Ok(None),
         },
         None => Ok(None),

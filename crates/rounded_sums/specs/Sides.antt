@@ -1,5 +1,4 @@
 -- Numbers that are rounded to one side.
-use Rattle.std.specs.Prelude.{Option, Some, None}
 use Rattle.rationals.specs.Rational.{ℚ, zero_ℚ, ◌≤ℚ◌, at_most}
 use Rattle.rationals.specs.Choices.{pick}
 use Rattle.rounded_sums.specs.declared.side.Side.{Side}

@@ -2,8 +2,11 @@
 #![tactic(auto)]
 
 mod grid;
+mod shares;
 mod side;
+mod split;
 mod steps;
 
 pub use side::Side;
-pub use steps::{add_product, shown_end, side_of_factor};
+pub use split::SplitSum;
+pub use steps::{add_product, side_of_factor};

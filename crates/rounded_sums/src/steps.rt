@@ -44,7 +44,7 @@ fn shortened(side: Side, exact: Frac) -> Option<Frac>
 }
 
 /// The product, where it fits.
-fn exact_product(a: Frac, b: Frac) -> Option<Frac>
+pub(crate) fn exact_product(a: Frac, b: Frac) -> Option<Frac>
     ensures { IfSome result (λ product. product ≡ a *ℚ b) }
 {
     match a.mul(b) {
@@ -54,7 +54,7 @@ fn exact_product(a: Frac, b: Frac) -> Option<Frac>
 }
 
 /// The sum, where it fits.
-fn exact_sum(a: Frac, b: Frac) -> Option<Frac>
+pub(crate) fn exact_sum(a: Frac, b: Frac) -> Option<Frac>
     ensures { IfSome result (λ sum. sum ≡ a +ℚ b) }
 {
     match a.add(b) {
@@ -107,7 +107,7 @@ fn product(side: Side, a: Frac, b: Frac) -> Option<Frac>
 
 /// The sum of two numbers that are rounded.
 #[tactic(auto, using(crate::proofs::SideLemmas::sum_beside))]
-fn rounded_sum(side: Side, a: Frac, b: Frac) -> Option<Frac>
+pub(crate) fn rounded_sum(side: Side, a: Frac, b: Frac) -> Option<Frac>
     ensures { IfSome result (Beside side (a +ℚ b)) }
 {
     let places = places_within(a, MOST, MOST).min(places_within(b, MOST, MOST));
@@ -153,7 +153,7 @@ pub fn add_product(side: Side, from: Frac, factor: Frac, times: Frac) -> Option<
 }
 
 /// An end as it is told: with fifteen places behind its point, where its denominator is longer and that fits.
-pub fn shown_end(side: Side, end: Frac) -> Frac
+pub(crate) fn shown_end(side: Side, end: Frac) -> Frac
     ensures { Beside side end result }
 {
     if den_of(end) <= TOLD {
