@@ -1,5 +1,5 @@
 -- What runs over a program come to.
-use Rattle.std.proofs.Common.{◌≡◌, ℕ, suc, ◌+◌, ◌<◌, Bool, true, false, eqb, List, [], ◌∷◌, Ok, length, get_or, refl, sym, ap, ap₂, subst, ◌∙◌, arith}
+use Rattle.std.proofs.Common.{◌≡◌, ℕ, suc, ◌+◌, ◌<◌, Bool, true, false, eqb, List, [], ◌∷◌, Option, Some, None, IfSome, length, get_or, refl, sym, ap, subst, ◌∙◌, arith}
 use Rattle.rationals.specs.Rational.{ℚ, zero_ℚ, ◌+ℚ◌, ◌*ℚ◌, zero_add_ℚ}
 use Rattle.rationals.specs.Sums.{sum_ℚ}
 use Rattle.scen_defs.specs.declared.program.Column.{Column}
@@ -7,7 +7,7 @@ use Rattle.scen_defs.specs.declared.program.Program.{Program as ProgramOf}
 use Rattle.scen_defs.specs.Lists.{Each, places, passes_at}
 use Rattle.scen_defs.specs.Ends.{IsGoodAt, worth}
 use Rattle.scen_defs.specs.Program.{View, content, nodes_content, is_live, view_of, total}
-use Rattle.scen_defs.specs.Flat.{cost, node_cost, reduced, GoodAt, IsGood, value}
+use Rattle.scen_defs.specs.Flat.{cost, node_cost, reduced, IsGood, value}
 use Rattle.scen_defs.proofs.SumLaws.{each-both, each-map, sum-same}
 use Rattle.scen_defs.proofs.Costs.{cost-by_nodes}
 use Rattle.scen_defs.proofs.Valid.{programs_are_trees}
@@ -49,6 +49,10 @@ cost_is p totals long are x =
     let below : n < length totals = omega (arith, e, l, long, content_long p.nodes.items) in
     ap (λ (z : ℚ). z *ℚ node_cost v x n) (total_from-ends n zero_ℚ v.scenarios (get_or totals n zero_ℚ) (are n zero_ℚ below) ∙ zero_add_ℚ (total v n))))
     ∙ sym (cost-by_nodes v (programs_are_trees (content p) p.keeps).0 x)
+
+pub cost_told : (side : Side) (exact sum : ℚ) (told : Option ℚ) → Beside side exact sum → IfSome told (Beside side sum) → IfSome told (Beside side exact)
+cost_told side exact sum None h k = tt
+cost_told side exact sum (Some q) h k = beside_trans side exact sum q h k
 
 -- ---- what multipliers are worth
 module _ (p : ProgramOf) (y : ℕ → ℕ → ℚ) (seats : List ℕ) (numbers : List (List ℚ)) (are : AreAll (content p) seats (reduced_walk (view_of (content p)).cost (view_of (content p)) y) numbers) where
@@ -94,3 +98,8 @@ module _ (p : ProgramOf) (y : ℕ → ℕ → ℚ) (seats : List ℕ) (numbers :
         (beside_add side (sum_ℚ (rows_worth v y) v.live) sum (sum_ℚ (columns_worth v d) v.live) (sum_ℚ (columns_worth v d) v.live)
         (subst (λ (z : ℚ). Beside side z sum) (zero_add_ℚ (sum_ℚ (rows_worth v y) v.live)) rows.beside) (beside_refl side (sum_ℚ (columns_worth v d) v.live))) columns.beside) h);
   }
+
+  pub worth_told : (side : Side) (sum all : ℚ) (told : Option ℚ) → Ran side (rows_good v y) (rows_worth v y) zero_ℚ v.live sum
+      → Ran side (columns_good v d) (columns_worth v d) sum v.live all → IfSome told (Beside side all) → IfSome told (IsWorthAll side v y)
+  worth_told side sum all None rows columns h = tt
+  worth_told side sum all (Some q) rows columns h = worth_is side sum all q rows columns h

@@ -1,5 +1,5 @@
 -- Sums that run over lists and are rounded.
-use Rattle.std.proofs.Common.{◌≡◌, ◌<◌, length, get_or, ap₂, IsTrue, Bool, true, false, ℕ, List, [], ◌∷◌, Option, Some, None, IfSome, refl, sym, ap, subst, ◌∙◌}
+use Rattle.std.proofs.Common.{◌≡◌, ◌<◌, length, get_or, ap₂, IsTrue, Bool, true, ℕ, List, [], ◌∷◌, Option, Some, None, IfSome, refl, sym, ap, subst, ◌∙◌}
 use Rattle.rationals.specs.Rational.{ℚ, zero_ℚ, ◌+ℚ◌, ◌*ℚ◌, ◌≤ℚ◌, by_ring, terms, add_zero_ℚ, zero_add_ℚ, at_most, at_most_true, le_trans_ℚ}
 use Rattle.rationals.specs.Sums.{sum_ℚ}
 use Rattle.rationals.specs.Sparse.{Entry, product}

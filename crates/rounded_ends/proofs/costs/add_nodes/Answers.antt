@@ -1,4 +1,4 @@
-use Rattle.std.proofs.Common.{ℕ, ◌≡◌, sym, ap, subst, ◌∙◌, slice_index_or, List}
+use Rattle.std.proofs.Common.{ℕ, sym, subst, slice_index_or}
 use Rattle.rationals.specs.Rational.{ℚ, zero_ℚ, ◌+ℚ◌, ◌*ℚ◌}
 use Rattle.scen_defs.specs.Program.{content, view_of}
 use Rattle.scen_defs.specs.Values.{at}

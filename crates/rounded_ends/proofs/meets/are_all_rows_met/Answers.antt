@@ -1,8 +1,6 @@
-use Rattle.std.proofs.Common.{ℕ, ◌≡◌, sym, ap, subst, ◌∙◌, slice_index_or, List}
-use Rattle.rationals.specs.Rational.{ℚ, zero_ℚ, ◌+ℚ◌, ◌*ℚ◌}
+use Rattle.std.proofs.Common.{ℕ, subst, ◌∙◌}
 use Rattle.scen_defs.specs.Program.{content, view_of}
 use Rattle.scen_defs.specs.Values.{at}
-use Rattle.scen_defs.specs.declared.program.NodeRow.{NodeRow}
 use Rattle.scen_defs.specs.Flat.{along}
 use Rattle.scen_defs.specs.Lists.{Each}
 use Rattle.scen_model.proofs.NodeSteps.{live_there, dead_there, rows_read}

@@ -1,5 +1,5 @@
-use Rattle.std.proofs.Common.{ℕ, ◌≡◌, sym, ap, ap₂, subst, ◌∙◌, eqb, get_or, List}
-use Rattle.rationals.specs.Rational.{ℚ, zero_ℚ}
+use Rattle.std.proofs.Common.{ℕ, ◌≡◌, sym, ap, subst, ◌∙◌, eqb, List}
+use Rattle.rationals.specs.Rational.{ℚ}
 use Rattle.scen_defs.specs.Program.{content, view_of}
 use Rattle.scen_defs.specs.Values.{at}
 use Rattle.std.proofs.lemmas.Bool.{eq-eqb, ne_eqb}

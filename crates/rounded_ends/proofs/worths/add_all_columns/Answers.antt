@@ -1,7 +1,6 @@
-use Rattle.std.proofs.Common.{ℕ, ◌≡◌, sym, ap, ap₂, subst, ◌∙◌, eqb, get_or, List}
-use Rattle.rationals.specs.Rational.{ℚ, zero_ℚ}
+use Rattle.std.proofs.Common.{sym, subst, ◌∙◌}
+use Rattle.rationals.specs.Rational.{ℚ}
 use Rattle.scen_defs.specs.Program.{content, view_of}
-use Rattle.scen_defs.specs.Values.{at}
 use Rattle.scen_model.specs.Gathered.{lists_in, column_number}
 use Rattle.rounded_ends.specs.Runs.{Ran, column_good, column_worth, columns_good, columns_worth}
 use Rattle.rounded_ends.proofs.PlaceLemmas.{some_there, none_there, live_done}

@@ -1,5 +1,5 @@
-use Rattle.std.proofs.Common.{ℕ, ◌≡◌, sym, ap, subst, ◌∙◌, slice_index_or, List}
-use Rattle.rationals.specs.Rational.{ℚ, zero_ℚ, ◌+ℚ◌, ◌*ℚ◌}
+use Rattle.std.proofs.Common.{sym, subst, ◌∙◌, List}
+use Rattle.rationals.specs.Rational.{ℚ, zero_ℚ}
 use Rattle.scen_defs.specs.Program.{content, view_of}
 use Rattle.scen_defs.specs.Values.{at}
 use Rattle.scen_defs.specs.declared.program.NodeRow.{NodeRow}

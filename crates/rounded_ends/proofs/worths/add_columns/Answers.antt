@@ -1,7 +1,6 @@
 use Rattle.std.proofs.Common.{ℕ, ◌≡◌, sym, ap, ap₂, subst, ◌∙◌, eqb, get_or, List}
 use Rattle.rationals.specs.Rational.{ℚ, zero_ℚ}
 use Rattle.scen_defs.specs.Program.{content, view_of}
-use Rattle.scen_defs.specs.Values.{at}
 use Rattle.std.proofs.lemmas.Bool.{eq-eqb, ne_eqb}
 use Rattle.scen_defs.specs.declared.program.Column.{Column}
 use Rattle.scen_defs.specs.Program.{column_at}
