@@ -50,10 +50,6 @@ cost_is p totals long are x =
     ap (λ (z : ℚ). z *ℚ node_cost v x n) (total_from-ends n zero_ℚ v.scenarios (get_or totals n zero_ℚ) (are n zero_ℚ below) ∙ zero_add_ℚ (total v n))))
     ∙ sym (cost-by_nodes v (programs_are_trees (content p) p.keeps).0 x)
 
-pub cost_told : (side : Side) (exact sum : ℚ) (told : Option ℚ) → Beside side exact sum → IfSome told (Beside side sum) → IfSome told (Beside side exact)
-cost_told side exact sum None h k = tt
-cost_told side exact sum (Some q) h k = beside_trans side exact sum q h k
-
 -- ---- what multipliers are worth
 module _ (p : ProgramOf) (y : ℕ → ℕ → ℚ) (seats : List ℕ) (numbers : List (List ℚ)) (are : AreAll (content p) seats (reduced_walk (view_of (content p)).cost (view_of (content p)) y) numbers) where
   abbrev v : View

@@ -64,6 +64,10 @@ product_sum f x = zero_add_ℚ _ ∙ go f
 pub product_ran : (side : Side) (f : List Entry) (x : ℕ → ℚ) (s : ℚ) → Ran side Free (part x) zero_ℚ f s → Beside side (product f x) s
 product_ran side f x s r = subst (λ (z : ℚ). Beside side z s) (product_sum f x) r.beside
 
+pub sum_told : (side : Side) (exact sum : ℚ) (told : Option ℚ) → Beside side exact sum → IfSome told (Beside side sum) → IfSome told (Beside side exact)
+sum_told side exact sum None h k = tt
+sum_told side exact sum (Some q) h k = beside_trans side exact sum q h k
+
 -- ---- a multiplier and the end that it uses
 pub worth_step : (side : Side) (low high : Option ℚ) (y s u : ℚ) (end : Option ℚ) (r : Option ℚ) → end ≡ used_end low high y → end ≡ Some u
     → IfSome r (Beside side (s +ℚ y *ℚ u)) → IfSome r (IsWorth side low high y s)

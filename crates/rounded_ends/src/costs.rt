@@ -10,7 +10,7 @@ ghost use Rattle.scen_model.specs.Gathered.{AreTotals};
 ghost use Rattle.rounded_sums.specs.Sides.{Beside};
 
 use frac128::{Frac, Memory, Term, Unfinished};
-use rounded_sums::{Side, SplitSum, add_product, side_of_factor};
+use rounded_sums::{Side, SplitSum, side_of_factor};
 use scen_defs::{Program, Values};
 use scen_model::{all_totals, number_at};
 use std::alloc::Global;
@@ -25,15 +25,15 @@ fn node_cost(
 ) -> Option<Frac>
     ensures { IfSome result (Beside side (product costs.now (at values.now node))) }
 {
-    let mut sum = Frac::zero();
+    let mut sum = SplitSum::zero();
     for term in costs {
         let value = values.get_near(node, term.column, near);
-        match add_product(side, sum, term.value, value) {
+        match sum.add_product(side, term.value, value) {
             Some(next) => sum = next,
             None => return None,
         }
     }
-    Some(sum)
+    sum.total(side)
 }
 
 /// The sum, and a total times the cost of a node's values.

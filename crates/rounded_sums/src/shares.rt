@@ -123,6 +123,9 @@ pub(crate) fn share_of(part: Frac, number: Frac) -> Frac {
         return number;
     }
     let all = den_of(number);
+    if den_of(part) % all == 0 {
+        return number;
+    }
     let other = without_primes(all, den_of(part)).max(1);
     let factor = all / other;
     if other == 1 {

@@ -231,6 +231,16 @@ impl SplitSum {
         }
     }
 
+    /// The sum: as it is where it is exact and fits, else rounded to a side.
+    pub fn total(self, side: Side) -> Option<Frac>
+        ensures { IfSome result (Beside side self) }
+    {
+        match self.exact_total(side) {
+            Some(total) => Some(total),
+            None => self.together(side, true),
+        }
+    }
+
     /// The sum as it is told: as it is where it is exact and fits, else rounded to a side, with fifteen places behind its point where
     /// its denominator is longer.
     pub fn told(self, side: Side) -> Option<Frac>
