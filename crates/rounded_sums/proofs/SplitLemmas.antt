@@ -37,9 +37,9 @@ zeros (suc n) part e = ap₂ ◌+ℚ◌ e (zeros n part e) ∙ zero_add_ℚ zero
 pub alone : (whole parts : ℚ) → parts ≡ zero_ℚ → whole +ℚ parts ≡ whole
 alone whole parts e = ap (λ (z : ℚ). whole +ℚ z) e ∙ add_zero_ℚ whole
 
--- nothing is left to put
-pub all_put : (sum left all : ℚ) → sum +ℚ left ≡ all → left ≡ zero_ℚ → sum ≡ all
-all_put sum left all e z = sym (alone sum left z) ∙ e
+-- put in two turns, so that nothing is left
+pub all_put : (sum left shared rest all : ℚ) → sum +ℚ left ≡ shared +ℚ rest → shared +ℚ rest ≡ all → left ≡ zero_ℚ → sum ≡ all
+all_put sum left shared rest all e f z = sym (alone sum left z) ∙ e ∙ f
 
 -- ---- the parts together
 pub read_next : (parts : List ℚ) (i : ℕ) (part : ℚ) → i < length parts → part ≡ get_or parts i part → drop i parts ≡ part ∷ drop (i + 1) parts

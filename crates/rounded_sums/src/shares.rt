@@ -96,10 +96,12 @@ fn fraction(num: u128, den: u128) -> Frac {
 /// The greatest whole number that isn't above a number.
 pub(crate) fn floor_of(number: Frac) -> Frac {
     let whole = size_of(number) / den_of(number);
-    if number.sign() < 0 {
-        fraction(whole.saturating_add(1), 1).neg()
-    } else {
+    if number.sign() >= 0 {
         fraction(whole, 1)
+    } else if den_of(number) == 1 {
+        number
+    } else {
+        fraction(whole.saturating_add(1), 1).neg()
     }
 }
 
@@ -111,28 +113,35 @@ fn partial_fraction(number: Frac, factor: u128, other: u128) -> Frac {
     } else {
         size
     };
+    if other == 1 {
+        return number;
+    }
     match inverse_modulo(other, factor) {
         Some(inverse) => fraction(product_modulo(rest, inverse, factor), factor),
         None => Frac::zero(),
     }
 }
 
-/// What a part takes of a number: all where it is 0 yet; else the partial fraction with the primes that its denominator has.
-pub(crate) fn share_of(part: Frac, number: Frac) -> Frac {
-    if part.is_zero() {
-        return number;
-    }
+/// The partial fraction of a number with the primes that a part's denominator has.
+fn share_beside(part: Frac, number: Frac) -> Frac {
     let all = den_of(number);
     if den_of(part) % all == 0 {
         return number;
     }
     let other = without_primes(all, den_of(part)).max(1);
     let factor = all / other;
-    if other == 1 {
-        number
-    } else if factor == 1 {
+    if factor == 1 {
         Frac::zero()
     } else {
         partial_fraction(number, factor, other)
+    }
+}
+
+/// What a part takes of a number: its partial fraction; of one that no part has the primes of, the first part that is 0 takes all.
+pub(crate) fn share_of(part: Frac, number: Frac, fills: bool) -> Frac {
+    match (part.is_zero(), fills) {
+        (true, true) => number,
+        (false, false) => share_beside(part, number),
+        _ => Frac::zero(),
     }
 }

@@ -11,7 +11,7 @@ use frac128::Frac;
 use std::marker::Model;
 
 /// So many parts a sum has, beside the whole one.
-const PARTS: usize = 64;
+const PARTS: usize = 32;
 
 /// So many parts are looked at, all in all, before a sum is rounded.
 const LOOKS: u32 = 100_000;
@@ -24,7 +24,7 @@ pub struct SplitSum {
     is_exact: bool,
     looks: u32,
     whole: Frac,
-    parts: [Frac; 64],
+    parts: [Frac; 32],
 }
 
 impl Model for SplitSum {
@@ -70,14 +70,14 @@ fn settled(whole: Frac, part: Frac) -> (Frac, Frac)
 }
 
 /// Parts that are all 0.
-fn no_parts() -> [Frac; 64]
+fn no_parts() -> [Frac; 32]
     ensures { sum_of result ≡ zero_ℚ }
 {
-    [Frac::zero(); 64]
+    [Frac::zero(); 32]
 }
 
 /// The parts with another one at a place.
-fn with_part(parts: [Frac; 64], place: usize, part: Frac) -> [Frac; 64]
+fn with_part(parts: [Frac; 32], place: usize, part: Frac) -> [Frac; 32]
     requires { place < length parts }
     ensures { result ≡ slice_set parts place part }
 {
@@ -148,12 +148,12 @@ impl SplitSum {
     }
 
     /// The sum where the part at a place has taken its share of a number, and what is left of that.
-    fn put(&self, place: usize, number: Frac) -> (SplitSum, Frac)
-        requires { place < 64 }
+    fn put(&self, place: usize, number: Frac, fills: bool) -> (SplitSum, Frac)
+        requires { place < 32 }
         ensures { result.0 +ℚ result.1 ≡ self.now +ℚ number }
     {
         let part = self.parts[place];
-        match moved(number, part, share_of(part, number)) {
+        match moved(number, part, share_of(part, number, fills)) {
             Some((left, more)) => {
                 let (whole, part) = settled(self.whole, more);
                 let looks = self.looks.saturating_add(1);
@@ -173,18 +173,26 @@ impl SplitSum {
         }
     }
 
-    /// The sum and a number, where the parts can take it.
-    fn add(&self, number: Frac) -> Option<SplitSum>
-        ensures { IfSome result (λ sum. sum ≡ self.now +ℚ number) }
+    /// The sum where each part has taken its share of a number, or where the first that is free takes all, and what is left of the number.
+    fn spread(&self, number: Frac, fills: bool) -> (SplitSum, Frac)
+        ensures { result.0 +ℚ result.1 ≡ self.now +ℚ number }
     {
         let mut sum = self.copy();
         let mut left = number;
         for place in 0..PARTS {
-            if left.is_zero() {
-                return Some(sum);
+            if !left.is_zero() {
+                (sum, left) = sum.put(place, left, fills);
             }
-            (sum, left) = sum.put(place, left);
         }
+        (sum, left)
+    }
+
+    /// The sum and a number, where the parts can take it.
+    fn add(&self, number: Frac) -> Option<SplitSum>
+        ensures { IfSome result (λ sum. sum ≡ self.now +ℚ number) }
+    {
+        let (shared, rest) = self.spread(number, false);
+        let (sum, left) = shared.spread(rest, true);
         if left.is_zero() { Some(sum) } else { None }
     }
 
