@@ -22,7 +22,7 @@ fn node_cost(
     values: &Values,
     node: u64,
     near: &mut usize,
-) -> Option<Frac>
+) -> Option<SplitSum>
     ensures { IfSome result (Beside side (product costs.now (at values.now node))) }
 {
     let mut sum = SplitSum::zero();
@@ -33,7 +33,7 @@ fn node_cost(
             None => return None,
         }
     }
-    sum.total(side)
+    Some(sum)
 }
 
 /// The sum, and a total times the cost of a node's values.
@@ -49,7 +49,7 @@ fn add_node(
     ensures { IfSome result (Beside side (sum +ℚ total *ℚ product costs.now (at values.now node))) }
 {
     match node_cost(side_of_factor(side, total), costs, values, node, near) {
-        Some(cost) => sum.add_product(side, total, cost),
+        Some(cost) => sum.add_times(side, total, cost),
         None => None,
     }
 }

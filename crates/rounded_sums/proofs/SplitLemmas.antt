@@ -1,11 +1,11 @@
 -- Sums in parts.
-use Rattle.std.proofs.Common.{◌≡◌, ℕ, zero, suc, ◌+◌, ◌<◌, List, [], ◌∷◌, length, drop, get_or, slice_set, replicate, refl, sym, ap, ap₂, subst, ◌∙◌, arith, add-one, drop-cons}
-use Rattle.rationals.specs.Rational.{ℚ, zero_ℚ, one_ℚ, ◌+ℚ◌, ◌-ℚ◌, by_ring, by_eqs, terms, add_zero_ℚ, zero_add_ℚ}
+use Rattle.std.proofs.Common.{◌≡◌, ℕ, zero, suc, ◌+◌, ◌<◌, List, [], ◌∷◌, Option, Some, None, IfSome, length, drop, get_or, slice_set, replicate, refl, sym, ap, ap₂, subst, ◌∙◌, arith, add-one, drop-cons}
+use Rattle.rationals.specs.Rational.{ℚ, zero_ℚ, one_ℚ, ◌+ℚ◌, ◌-ℚ◌, ◌*ℚ◌, by_ring, by_eqs, terms, add_zero_ℚ, zero_add_ℚ}
 use Rattle.rationals.specs.Ring.Eqs.{done, by_eq}
 use Rattle.rounded_sums.specs.declared.side.Side.{Side}
-use Rattle.rounded_sums.specs.Sides.{Beside}
+use Rattle.rounded_sums.specs.Sides.{Beside, factor_side}
 use Rattle.rounded_sums.specs.Parts.{sum_of}
-use Rattle.rounded_sums.proofs.SideLemmas.{beside_refl, beside_trans, beside_add}
+use Rattle.rounded_sums.proofs.SideLemmas.{beside_refl, beside_trans, beside_add, beside_right}
 
 -- one gives to the other
 pub moved_is : (from to share rest more : ℚ) → rest ≡ from -ℚ share → more ≡ to +ℚ share → rest +ℚ more ≡ from +ℚ to
@@ -60,3 +60,11 @@ together_done side all sum parts e h = subst (Beside side all) (ap (λ (l : List
 pub then_step : (side : Side) (all sum product next : ℚ) → Beside side all sum → Beside side (sum +ℚ product) next → Beside side (all +ℚ product) next
 then_step side all sum product next h k =
     beside_trans side (all +ℚ product) (sum +ℚ product) next (beside_add side all sum product product h (beside_refl side product)) k
+
+-- the second factor is rounded first
+pub then_times : (side : Side) (all factor times number : ℚ) (next : Option ℚ) → Beside (factor_side side factor) times number
+    → IfSome next (Beside side (all +ℚ factor *ℚ number)) → IfSome next (Beside side (all +ℚ factor *ℚ times))
+then_times side all factor times number None h k = tt
+then_times side all factor times number (Some q) h k =
+    beside_trans side (all +ℚ factor *ℚ times) (all +ℚ factor *ℚ number) q
+    (beside_add side all all (factor *ℚ times) (factor *ℚ number) (beside_refl side all) (beside_right side factor times number h)) k

@@ -5,7 +5,7 @@ ghost use Rattle.rounded_sums.specs.Sides.{Beside};
 ghost use Rattle.rounded_sums.specs.Parts.{sum_of};
 
 use crate::shares::{floor_of, share_of};
-use crate::side::Side;
+use crate::side::{Side, factor_side};
 use crate::steps::{add_product, exact_product, exact_sum, rounded_sum, shown_end};
 use frac128::Frac;
 use std::marker::Model;
@@ -239,13 +239,17 @@ impl SplitSum {
         }
     }
 
-    /// The sum: as it is where it is exact and fits, else rounded to a side.
-    pub fn total(self, side: Side) -> Option<Frac>
-        ensures { IfSome result (Beside side self) }
+    /// The sum and the product of a number and another sum: exactly where that and the whole of the other one fit, else rounded to a side.
+    pub fn add_times(self, side: Side, factor: Frac, times: SplitSum) -> Option<SplitSum>
+        ensures { IfSome result (Beside side (self +ℚ factor *ℚ times)) }
     {
-        match self.exact_total(side) {
-            Some(total) => Some(total),
-            None => self.together(side, true),
+        let own = factor_side(side, factor);
+        match times.exact_total(own) {
+            Some(number) => self.add_product(side, factor, number),
+            None => match times.together(own, true) {
+                Some(number) => self.add_rounded(side, factor, number),
+                None => None,
+            },
         }
     }
 

@@ -1,11 +1,11 @@
 use Rattle.std.proofs.Common.{subst}
 use Rattle.std.proofs.Math.ListN.{drop_of_length-le}
 use Rattle.rationals.specs.Rational.{ℚ, zero_ℚ, ◌+ℚ◌, ◌*ℚ◌}
-use Rattle.rationals.specs.Sparse.{Entry, product}
+use Rattle.rationals.specs.Sparse.{Entry}
 use Rattle.scen_defs.specs.Values.{at}
 use Rattle.scen_defs.proofs.NodeReads.{drop_read}
 use Rattle.rounded_sums.specs.Sides.{Beside}
-use Rattle.rounded_ends.proofs.RunLemmas.{Free, part, runs_next, runs_done, product_ran, sum_told}
+use Rattle.rounded_ends.proofs.RunLemmas.{Free, part, runs_next, runs_done, product_ran}
 use Rattle.rounded_ends.proofs.costs.node_cost.Goals as goal
 
 pub loop-term-preserved : goal.loop-term-preserved
@@ -17,9 +17,6 @@ loop-term-preserved c =
     (subst (λ (z : ℚ). Beside c.args.side (c.loop-term.sum +ℚ c.term.inside.value *ℚ z) c.in-Some.next) c.get_near-value.ensures c.in-Some.ensures))
 
 pub returns : goal.returns
-returns c =
-    let x = at c.args.values.now c.args.node in
-    sum_told c.args.side (product c.args.costs.now x) c.loop-term.sum c.total.result
-    (product_ran c.args.side c.args.costs.now x c.loop-term.sum
-    (runs_done c.args.side Free (part x) zero_ℚ c.args.costs.now c.loop-term.sum _
-    (drop_of_length-le c.args.costs.now c.loop-term-test.false) c.loop-term.invariant)) c.total.ensures
+returns c = product_ran c.args.side c.args.costs.now (at c.args.values.now c.args.node) c.loop-term.sum
+    (runs_done c.args.side Free (part (at c.args.values.now c.args.node)) zero_ℚ c.args.costs.now c.loop-term.sum _
+    (drop_of_length-le c.args.costs.now c.loop-term-test.false) c.loop-term.invariant)
