@@ -229,7 +229,8 @@ impl SplitSum {
         }
     }
 
-    /// The sum and the product of two numbers: exactly while the parts can take it, then rounded to a side. None where even that doesn't fit.
+    /// The sum and the product of two numbers: exactly while the parts can take it, then rounded to a side. None where even that doesn't
+    /// fit.
     pub fn add_product(self, side: Side, factor: Frac, times: Frac) -> Option<SplitSum>
         ensures { IfSome result (Beside side (self +ℚ factor *ℚ times)) }
     {
